@@ -1,0 +1,20 @@
+//! The words that every part of the relay speaks: numbers, octets, events, outputs, and the traits of the outside.
+#![tactic(auto)]
+
+mod digits;
+mod errors;
+mod lists;
+mod numbers;
+mod outside;
+mod stream;
+#[cfg(test)]
+mod tests;
+mod words;
+
+pub use digits::Digits;
+pub use errors::{Failed, Memory, ReadAllFault};
+pub use lists::{Octets, Outs, PcList, PlainList, SsnList, StampedList};
+pub use numbers::{Below, Digit, Pc, Ref24, Sls, Ssn};
+pub use outside::{MemSink, MemSource, NoPace, Pace, Sink, Source, StdSink, StdSource};
+pub use stream::{read_all, write_all};
+pub use words::{Event, Lost, Output, ReadFault, Reason, Request, Stamp, Tell};

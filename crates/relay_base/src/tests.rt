@@ -1,0 +1,126 @@
+//! Whole streams over devices that give little at a time, and that fail.
+ghost use Rattle.std.specs.Prelude.{◌≡◌, ◌<◌, ◌≤◌};
+
+use crate::{
+    Digit, Digits, Failed, MemSink, MemSource, ReadAllFault, Sink, Source, StdSink, StdSource,
+    read_all, write_all,
+};
+use std::alloc::{AllocError, Global};
+use std::io::{self, ErrorKind, Read, Write};
+use std::test::Fail;
+
+fn source_of(alloc: Global, fails: &[u64]) -> Result<MemSource, AllocError> {
+    Ok(MemSource {
+        bytes: Vec::from_slice(alloc, b"abcde")?,
+        at: 0,
+        most: 2,
+        fails: Vec::from_slice(alloc, fails)?,
+        calls: 0,
+        faults: 0,
+    })
+}
+
+fn sink_of(alloc: Global, fails: &[u64]) -> Result<MemSink, AllocError> {
+    Ok(MemSink {
+        held: Vec::new(alloc),
+        most: 2,
+        fails: Vec::from_slice(alloc, fails)?,
+        calls: 0,
+        faults: 0,
+    })
+}
+
+#[test]
+fn reads_whole_streams(rt: HostRuntime) -> Result<(), Fail> {
+    let alloc = rt.alloc();
+    let all = read_all(alloc, &mut source_of(alloc, &[])?, 5)?;
+    assert_eq!(rt; all.as_slice(), b"abcde".as_slice());
+    let few = read_all(alloc, &mut source_of(alloc, &[])?, 4);
+    assert_eq!(rt; few, Err(ReadAllFault::TooLong));
+    for call in 1..=4 {
+        let mut source = source_of(alloc, &[call])?;
+        assert_eq!(rt; read_all(alloc, &mut source, 9), Err(ReadAllFault::Fault));
+        assert_eq!(rt; source.faults, 1, "at call {call}");
+    }
+    Ok(())
+}
+
+#[test]
+fn writes_whole_pieces(rt: HostRuntime) -> Result<(), Fail> {
+    let alloc = rt.alloc();
+    let mut sink = sink_of(alloc, &[])?;
+    assert_eq!(rt; write_all(&mut sink, b"abcde"), Ok(()));
+    assert_eq!(rt; sink.held.as_slice(), b"abcde".as_slice());
+    let mut sink = sink_of(alloc, &[3])?;
+    assert_eq!(rt; write_all(&mut sink, b"abcde"), Err(Failed));
+    assert_eq!(rt; sink.held.as_slice(), b"abcd".as_slice());
+    Ok(())
+}
+
+/// A device that takes nothing, and fails at each reading.
+#[derive(Drop)]
+struct Broken;
+
+impl Read for Broken {
+    fn read(&mut self, _buf: &mut [u8]) -> io::Result<usize> {
+        Err(io::Error::from(ErrorKind::Other))
+    }
+}
+
+impl Write for Broken {
+    fn write(&mut self, _buf: &[u8]) -> io::Result<usize> {
+        Ok(0)
+    }
+
+    fn flush(&mut self) -> io::Result<()> {
+        Ok(())
+    }
+}
+
+#[test]
+fn std_devices(rt: HostRuntime) -> Result<(), Fail> {
+    let mut buf = [0u8; 4];
+    let mut source = StdSource {
+        inner: b"xy".as_slice(),
+        faults: 0,
+    };
+    assert_eq!(rt; source.read(&mut buf), Ok(2));
+    assert_eq!(rt; source.read(&mut buf), Ok(0));
+    assert_eq!(rt; source.faults, 0);
+    let mut sink = StdSink {
+        inner: Vec::new(rt.alloc()),
+        faults: 0,
+    };
+    assert_eq!(rt; sink.write(b"xy"), Ok(2));
+    assert_eq!(rt; sink.inner.as_slice(), b"xy".as_slice());
+    let mut source = StdSource {
+        inner: Broken,
+        faults: 0,
+    };
+    assert_eq!(rt; source.read(&mut buf), Err(Failed));
+    assert_eq!(rt; source.faults, 1);
+    let mut sink = StdSink {
+        inner: Broken,
+        faults: 0,
+    };
+    assert_eq!(rt; sink.write(b"xy"), Err(Failed));
+    assert_eq!(rt; sink.write(b""), Ok(0));
+    assert_eq!(rt; sink.faults, 1);
+    Ok(())
+}
+
+#[test]
+fn digits_in_place(rt: HostRuntime) -> Result<(), Fail> {
+    let mut digits = Digits::new();
+    let mut prefix = Digits::new();
+    for number in [4, 9, 15] {
+        assert!(rt; digits.len() < 24);
+        assert!(rt; digits.starts_with(&prefix));
+        prefix = digits;
+        digits.push(Digit::new(number).ok_or("a digit")?);
+    }
+    assert_eq!(rt; digits.as_slice(), [4, 9, 15].as_slice());
+    assert!(rt; !prefix.starts_with(&digits));
+    assert_eq!(rt; Digit::new(16), None);
+    Ok(())
+}
