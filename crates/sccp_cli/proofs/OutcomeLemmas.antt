@@ -1,0 +1,57 @@
+-- Lemmas on what a run did.
+use Rattle.std.proofs.Common.{◌≡◌, ℕ, ◌+◌, ◌<◌, ◌++◌, List, length, take, Option, Some, None, Result, Ok, Err, OnOk, OnErr, IfSome, sym, ap, ◌∙◌, refl, inl, inr, subst, arith, length-append, lt-ltb}
+use Rattle.std.proofs.lemmas.List.{take_all}
+use Rattle.std.proofs.KnownBytes.{Consumes-whole}
+use Rattle.std.specs.Io.KnownBytes.{Consumes, Appends}
+use Rattle.relay_base.specs.Causes.{Rose, HasCause}
+use Rattle.relay_base.specs.Streams.{TookMore, AppendedPart}
+use Rattle.relay_base.specs.declared.errors.Failed.{Failed}
+use Rattle.capture_form.specs.declared.book.Book.{Book}
+use Rattle.capture_form.specs.Capture.{capture_of}
+use Rattle.capture_form.specs.declared.fault.CaptureFault.TheVariants as refused
+use Rattle.capture_form.specs.declared.fault.Limit.TheVariants as limit
+use Rattle.sccp_cli.specs.declared.relay.Stop.{Stop}
+use Rattle.sccp_cli.specs.declared.relay.Stop.TheVariants as stop
+use Rattle.sccp_cli.specs.Outcome.{Bytes, Says, Stopped, Done, IsDue, status_of, due_status}
+
+-- what writing a whole text told a sink
+pub Says-written : {T : Type 0} (r : Result T Failed) (held now : Bytes) (before after : ℕ) (text : List ℕ)
+    → OnOk r (Appends held now text) → OnErr r (AppendedPart held now text) → HasCause before after r → Says held now before after text
+Says-written (Ok u) held now before after text ok err cause = record {
+  part = (length text, subst (Appends held now) (sym (take_all (length text) text (omega arith))) ok);
+  whole = λ calm. ok;
+}
+Says-written (Err e) held now before after text ok err cause = record { part = err; whole = λ calm. absurd (calm cause.failed) }
+
+-- bytes that pass the limit of an input are no capture
+long-refused : (bytes : List ℕ) → 67108864 < length bytes → capture_of bytes ≡ Err (refused.TooLong limit.Bytes)
+unfolding capture_of
+long-refused bytes h = rw (lt-ltb 67108864 (length bytes) h) refl
+
+more-due : (left rest : Bytes) → TookMore left rest 67108864 → IfSome left (IsDue 4)
+more-due None rest h = tt
+more-due (Some xs) None h = absurd h.1
+more-due (Some xs) (Some ys) h =
+    let size : length xs ≡ length h.0 + length ys = ap length h.1 ∙ length-append h.0 ys in
+    let taken : length h.0 ≡ 67108864 + 1 = h.2 in
+    inl (sym (ap due_status (long-refused xs (omega (arith, size, taken)))))
+
+memory-due : (left : Bytes) → IfSome left (IsDue 7)
+memory-due None = tt
+memory-due (Some xs) = inr refl
+
+-- the status of a run that ended is that of the bytes
+pub done-due : (left rest held now : Bytes) (book : Book) → Done left rest held now book → IfSome left (IsDue 0)
+done-due left rest held now book (bytes, came, ended, (capture, e, filled)) = Consumes-whole left rest bytes (IsDue 0) came ended (inl (ap due_status (sym e)))
+
+-- and so is that of a run that stopped without a fault of a device
+pub stop-due : (left rest held now : Bytes) (book : Book) (why : Stop) → Stopped left rest held now book why
+    → (why ≡ stop.Usage → ⊥) → (why ≡ stop.ReadFault → ⊥) → (why ≡ stop.WriteFault → ⊥) → IfSome left (IsDue (status_of why))
+stop-due left rest held now book stop.Usage s u r w = absurd (u refl)
+stop-due left rest held now book (stop.Head f note) (((bytes, came, ended, e), said), untouched) u r w = Consumes-whole left rest bytes (IsDue 2) came ended (inl (ap due_status (sym e)))
+stop-due left rest held now book (stop.Line f note) (((bytes, came, ended, e), said), untouched) u r w = Consumes-whole left rest bytes (IsDue 3) came ended (inl (ap due_status (sym e)))
+stop-due left rest held now book (stop.Limit l note) (((bytes, came, ended, e), said), untouched) u r w = Consumes-whole left rest bytes (IsDue 4) came ended (inl (ap due_status (sym e)))
+stop-due left rest held now book stop.Bytes (more, untouched) u r w = more-due left rest more
+stop-due left rest held now book stop.ReadFault s u r w = absurd (r refl)
+stop-due left rest held now book stop.WriteFault s u r w = absurd (w refl)
+stop-due left rest held now book stop.Memory s u r w = memory-due left

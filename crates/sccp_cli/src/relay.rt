@@ -1,0 +1,237 @@
+//! The top call.
+ghost use Rattle.std.specs.Prelude.{◌≡◌, ◌≢◌, ◌<◌, ◌≤◌, ◌⊎◌, ◌↔◌, IfOk, IfErr, IfSome, OnOk, OnErr, Ok, Err, map, string_bytes, true, false, length};
+ghost use Rattle.std.specs.Io.KnownBytes.{Appends, Keeps};
+ghost use Rattle.relay_base.specs.Causes.{Rose};
+ghost use Rattle.capture_form.specs.Book.{IsEmpty};
+ghost use Rattle.capture_form.specs.Capture.{capture_of};
+ghost use Rattle.capture_form.specs.Print.{book_text};
+ghost use Rattle.sccp_cli.specs.Right.{IsStamped};
+ghost use Rattle.sccp_cli.specs.Outcome.{ReadAs, Refused, Untouched, Partly, Filled, Done, DonePartly, PassesLimit, Stands, Stopped, IsHeadFault, IsLineFault, Says, note_of, status_of, plain_note, IsDue, is_run};
+
+use crate::run::run_capture;
+use capture_form::{
+    Book, Capture, CaptureFault, Limit, LineFault, MOST_BYTES, fault_note, print_book, read_capture,
+};
+use node_head::HeadFault;
+use relay_base::{Octets, Pace, ReadAllFault, Sink, Source, read_all, write_all};
+use std::alloc::Global;
+use std::sync::Wait;
+use std::thread::Threads;
+
+/// Why a run stops. A refusal of the input has its note.
+#[derive(Debug, Drop)]
+enum Stop {
+    Usage,
+    Head(HeadFault, Octets),
+    Line(LineFault, Octets),
+    Limit(Limit, Octets),
+    Bytes,
+    ReadFault,
+    WriteFault,
+    Memory,
+}
+
+/// The stop for a capture that is refused.
+fn refusal(alloc: Global, fault: CaptureFault) -> Stop
+    ensures { Stands fault result }
+{
+    let Ok(note) = fault_note(alloc, &fault) else {
+        return Stop::Memory;
+    };
+    match fault {
+        CaptureFault::Head(fault) => Stop::Head(fault, note),
+        CaptureFault::Line(fault) => Stop::Line(fault, note),
+        CaptureFault::TooLong(limit) => Stop::Limit(limit, note),
+        CaptureFault::Memory => Stop::Memory,
+    }
+}
+
+/// The capture that the source gives.
+fn take_capture<S: Source>(alloc: Global, source: &mut S) -> Result<Capture, Stop>
+    ensures ok { IfOk result (λ capture. ReadAs (S.left source.old) (S.left source.new) (λ parts. parts ≡ Ok capture)) }
+    ensures stamped { IfOk result (λ capture. IsStamped capture.phases) }
+    ensures refused { IfErr result (Refused (S.left source.old) (S.left source.new)) }
+    ensures fault { result ≡ Err Stop.ReadFault → Rose (S.faults source.old) (S.faults source.new) }
+    ensures kept { result ≢ Err Stop.ReadFault → S.faults source.new ≡ S.faults source.old }
+{
+    let bytes = match read_all(alloc, source, MOST_BYTES) {
+        Ok(bytes) => bytes,
+        Err(ReadAllFault::TooLong) => return Err(Stop::Bytes),
+        Err(ReadAllFault::Fault) => return Err(Stop::ReadFault),
+        Err(ReadAllFault::Memory) => return Err(Stop::Memory),
+    };
+    match read_capture(alloc, bytes.as_slice()) {
+        Ok(capture) => Ok(capture),
+        Err(fault) => Err(refusal(alloc, fault)),
+    }
+}
+
+/// Runs a capture, and writes its print.
+fn run_and_print<R: Threads + Wait + Sync, K: Sink, P: Pace>(
+    rt: &R,
+    alloc: Global,
+    capture: &Capture,
+    out: &mut K,
+    pace: &P,
+    book: &mut Book,
+) -> Result<(), Stop>
+    requires stamped { IsStamped capture.now.phases }
+    requires empty { IsEmpty book.old }
+    ensures ok { OnOk result (Filled (K.held out.old) (K.held out.new) capture.now book.new) }
+    ensures stopped { IfErr result (Partly (K.held out.old) (K.held out.new) capture.now book.new) }
+    ensures fault { result ≡ Err Stop.WriteFault → Rose (K.faults out.old) (K.faults out.new) }
+    ensures kept { result ≢ Err Stop.WriteFault → K.faults out.new ≡ K.faults out.old }
+{
+    if run_capture(rt, alloc, capture, pace, book).is_err() {
+        return Err(Stop::Memory);
+    }
+    let Ok(text) = print_book(alloc, book) else {
+        return Err(Stop::Memory);
+    };
+    match write_all(out, text.as_slice()) {
+        Ok(()) => Ok(()),
+        Err(_) => Err(Stop::WriteFault),
+    }
+}
+
+/// Whether the words are the one word `run`.
+fn is_run(words: &[String]) -> bool
+    ensures { result ≡ is_run (map string_bytes words.now) }
+{
+    match words {
+        [word] => word.as_str() == "run",
+        _ => false,
+    }
+}
+
+/// Does what the words ask.
+fn serve<R: Threads + Wait + Sync, S: Source, K: Sink, P: Pace>(
+    rt: &R,
+    alloc: Global,
+    words: &[String],
+    source: &mut S,
+    out: &mut K,
+    pace: &P,
+    book: &mut Book,
+) -> Result<(), Stop>
+    requires { IsEmpty book.old }
+    ensures words { IfErr result (λ stop. (stop ≡ Stop.Usage) ↔ (is_run (map string_bytes words.now) ≡ false)) }
+    ensures run { OnOk result (is_run (map string_bytes words.now) ≡ true) }
+    ensures ok { OnOk result (Done (S.left source.old) (S.left source.new) (K.held out.old) (K.held out.new) book.new) }
+    ensures stopped { IfErr result (Stopped (S.left source.old) (S.left source.new) (K.held out.old) (K.held out.new) book.new) }
+    ensures read_fault { result ≡ Err Stop.ReadFault → Rose (S.faults source.old) (S.faults source.new) }
+    ensures write_fault { result ≡ Err Stop.WriteFault → Rose (K.faults out.old) (K.faults out.new) }
+    ensures source_kept { result ≢ Err Stop.ReadFault → S.faults source.new ≡ S.faults source.old }
+    ensures out_kept { result ≢ Err Stop.WriteFault → K.faults out.new ≡ K.faults out.old }
+{
+    if !is_run(words) {
+        return Err(Stop::Usage);
+    }
+    let capture = take_capture(alloc, source)?;
+    run_and_print(rt, alloc, &capture, out, pace, book)
+}
+
+/// What `notes` is told of a stop.
+fn note_of(stop: &Stop) -> &[u8]
+    ensures { result.now ≡ note_of stop.now }
+{
+    match stop {
+        Stop::Usage => b"usage\n",
+        Stop::Head(_, note) | Stop::Line(_, note) | Stop::Limit(_, note) => note.as_slice(),
+        Stop::Bytes => b"too long bytes\n",
+        Stop::ReadFault => b"read fault\n",
+        Stop::WriteFault => b"write fault\n",
+        Stop::Memory => b"memory\n",
+    }
+}
+
+/// Writes a text to `notes`, whose fault is passed over.
+fn say<N: Sink>(notes: &mut N, text: &[u8])
+    ensures { Says (N.held notes.old) (N.held notes.new) (N.faults notes.old) (N.faults notes.new) text.now }
+{
+    let _ = write_all(notes, text);
+}
+
+fn status_of(stop: &Stop) -> u8
+    ensures { result ≡ status_of stop.now }
+{
+    match stop {
+        Stop::Usage => 1,
+        Stop::Head(..) => 2,
+        Stop::Line(..) => 3,
+        Stop::Limit(..) | Stop::Bytes => 4,
+        Stop::ReadFault => 5,
+        Stop::WriteFault => 6,
+        Stop::Memory => 7,
+    }
+}
+
+/// Does what the words ask, and answers the status. `notes` gets the line that tells why a run stopped.
+///
+/// The word `run` reads a capture from `source`, runs it, fills `book` and writes its print to `out`.
+///
+/// | Status | Comes |
+/// |---|---|
+/// | 0 | the input was read to its end, and all output was written |
+/// | 1 | exactly where the words are no stated command |
+/// | 2 | exactly where the first fault of the input is of its head |
+/// | 3 | exactly where the first fault is of a line |
+/// | 4 | exactly where a limit is passed before any other fault |
+/// | 5 | only where the source failed in this call |
+/// | 6 | only where `out` failed in this call |
+/// | 7 | memory ran out |
+pub fn relay<R: Threads + Wait + Sync, S: Source, K: Sink, N: Sink, P: Pace>(
+    rt: &R,
+    alloc: Global,
+    words: &[String],
+    source: &mut S,
+    out: &mut K,
+    notes: &mut N,
+    pace: &P,
+    book: &mut Book,
+) -> u8
+    requires { IsEmpty book.old }
+
+    // The input was read to its end, the book is right for it, and its print was written.
+    ensures done { result ≡ 0 → Done (S.left source.old) (S.left source.new) (K.held out.old) (K.held out.new) book.new }
+
+    // Other words than `run`.
+    ensures usage { (result ≡ 1) ↔ (is_run (map string_bytes words.now) ≡ false) }
+
+    // The first fault of the input, and what `notes` is told of it.
+    ensures head { let says = Says (N.held notes.old) (N.held notes.new) (N.faults notes.old) (N.faults notes.new) in
+        result ≡ 2 → ReadAs (S.left source.old) (S.left source.new) (IsHeadFault says) }
+    ensures line { let says = Says (N.held notes.old) (N.held notes.new) (N.faults notes.old) (N.faults notes.new) in
+        result ≡ 3 → ReadAs (S.left source.old) (S.left source.new) (IsLineFault says) }
+    ensures too_long { let says = Says (N.held notes.old) (N.held notes.new) (N.faults notes.old) (N.faults notes.new) in
+        result ≡ 4 → PassesLimit (S.left source.old) (S.left source.new) says }
+
+    // What `notes` is told otherwise.
+    ensures said { let says = Says (N.held notes.old) (N.held notes.new) (N.faults notes.old) (N.faults notes.new) in
+        IfSome (plain_note result) says }
+
+    // A device failed in this call.
+    ensures read_fault { result ≡ 5 → Rose (S.faults source.old) (S.faults source.new) }
+    ensures write_fault { result ≡ 6 → Rose (K.faults out.old) (K.faults out.new) }
+    ensures source_kept { result ≢ 5 → S.faults source.new ≡ S.faults source.old }
+    ensures out_kept { result ≢ 6 → K.faults out.new ≡ K.faults out.old }
+
+    // What stands after a refusal, a write fault, and want of memory.
+    ensures refused { 1 ≤ result → result ≤ 5 → Untouched (K.held out.old) (K.held out.new) book.new }
+    ensures written { result ≡ 6 → DonePartly (S.left source.old) (S.left source.new) (K.held out.old) (K.held out.new) book.new }
+    ensures memory { result ≡ 7 → Untouched (K.held out.old) (K.held out.new) book.new ⊎ DonePartly (S.left source.old) (S.left source.new) (K.held out.old) (K.held out.new) book.new }
+    ensures known { result ≤ 7 }
+
+    // Where no device fails, the status is that of the bytes, or memory ran out.
+    ensures complete { is_run (map string_bytes words.now) ≡ true
+        → (Rose (S.faults source.old) (S.faults source.new) → ⊥) → (Rose (K.faults out.old) (K.faults out.new) → ⊥)
+        → IfSome (S.left source.old) (IsDue result) }
+{
+    match serve(rt, alloc, words, source, out, pace, book) {
+        Ok(()) => 0,
+        Err(stop) => {
+            say(notes, note_of(&stop));
+            status_of(&stop)
+        }
+    }
+}
