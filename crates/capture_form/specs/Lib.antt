@@ -1,6 +1,6 @@
-pub mod Text
-pub mod Line
+pub mod Built
 pub mod Capture
-pub mod Print
-pub mod Book
-pub mod Note
+pub mod Line
+pub mod Refused
+pub mod Text
+pub mod Words

@@ -8,13 +8,29 @@ use std::alloc::{AllocError, AllocFailed};
 /// What is wrong with a line.
 #[derive(Clone, Copy, Debug, PartialEq, Eq)]
 pub enum LineKind {
+    /// No form has these words, or not so many.
     Words,
+    /// A word is no number of 1 to 10 digits, or one out of range.
     Number,
+    /// A word is not an even number of hex digits.
     Hex,
+    /// The octets are no address.
+    Address,
+    /// There are too many octets, or too few.
+    Size,
+    /// A word is no list of at most 24 digits.
+    Digits,
+    /// A word is no entity.
+    Entity,
+    /// The subsystem is no user.
+    User,
+    /// The point is the own one.
+    Point,
+    /// The line is of a kind that this node does not run yet.
     NotBuilt,
 }
 
-/// What is wrong with which line.
+/// What is wrong with which line, counted from 1 over the whole input.
 #[derive(Clone, Copy, Debug, PartialEq, Eq)]
 pub struct LineFault {
     pub line: u32,
@@ -24,9 +40,13 @@ pub struct LineFault {
 /// What there is too much of.
 #[derive(Clone, Copy, Debug, PartialEq, Eq)]
 pub enum Limit {
+    /// More than 67,108,864 bytes.
     Bytes,
+    /// More than 200,000 event lines.
     Lines,
+    /// More than 20,000 ticks.
     Ticks,
+    /// More than 1,000 barriers.
     Barriers,
 }
 

@@ -6,4 +6,5 @@ use relay_base::{Pc, SsnList};
 pub struct Head {
     pub point: Pc,
     pub users: SsnList,
+    pub links: u8,
 }

@@ -1,0 +1,86 @@
+//! What one line adds to what was read.
+ghost use Rattle.std.specs.Prelude.{◌≡◌, ◌<◌, ◌≤◌, ◌+◌, ◌^◌, ◌++◌, [], ◌∷◌, length, map, replicate, slice_set, slice_index_or, IfOk, OnOk, OnErr, Ok};
+ghost use Rattle.capture_form.specs.Refused.{FaultAt};
+ghost use Rattle.capture_form.specs.Capture.{Reads, Fails, Stamped, is_barrier, is_skipped, empty_phase, phase_ended, event_added, barrier_taken, event_taken, words_taken, line_taken, at_line};
+ghost use Rattle.capture_form.specs.Line.{event_of};
+ghost use Rattle.capture_form.specs.Text.{words};
+
+use crate::fault::{CaptureFault, Limit, LineFault, LineKind};
+use crate::line::event_of;
+use crate::reading::{Phase, Reading};
+use crate::refused::LineRefused;
+use crate::text::split_words;
+use node_head::Head;
+use relay_base::{Event, Memory, Stamp, StampedList};
+use std::alloc::Global;
+use std::mem;
+
+/// The most event lines, barriers not counted.
+const MOST_LINES: u32 = 200_000;
+
+/// The most barriers.
+const MOST_BARRIERS: u32 = 1_000;
+
+/// The empty lists of a phase.
+pub fn empty_phase(alloc: Global, links: u8) -> Result<Phase, Memory>
+    ensures { IfOk result (λ phase. phase ≡ empty_phase links) }
+{
+    let mut phase = Phase::new(alloc);
+    phase.push(StampedList::new(alloc))?;
+    for _link in 0..links {
+        phase.push(StampedList::new(alloc))?;
+    }
+    Ok(phase)
+}
+
+/// Puts an event at the end of its link's list.
+fn put(alloc: Global, phase: &mut Phase, link: usize, event: (Stamp, Event)) -> Result<(), Memory>
+    requires { link < length phase.old }
+    ensures { OnOk result (phase.new ≡ slice_set phase.old link (slice_index_or phase.old link [] ++ event ∷ [])) }
+{
+    let mut lists = mem::replace(phase, Phase::new(alloc)).into_vec();
+    lists[link].push(event)?;
+    *phase = Phase::from(lists);
+    Ok(())
+}
+
+fn is_barrier(words: &[&[u8]]) -> bool
+    ensures { result ≡ is_barrier (map (λ w. w.now) words.now) }
+{
+    match words {
+        [] => false,
+        [first, ..] => *first == b"w".as_slice(),
+    }
+}
+
+/// An empty line, or a comment.
+fn is_skipped(line: &[u8]) -> bool
+    ensures { result ≡ is_skipped line.now }
+{
+    line.is_empty() || line[0] == b'#'
+}
+
+/// The fault of a line, or want of memory.
+fn fault_at(line: u32, refused: LineRefused) -> CaptureFault
+    ensures { FaultAt line refused result }
+{
+    match refused {
+        LineRefused::Kind(kind) => CaptureFault::Line(LineFault { line, kind }),
+        LineRefused::Memory => CaptureFault::Memory,
+    }
+}
+
+/// The event of a line that is no barrier.
+fn event_at(
+    alloc: Global,
+    head: &Head,
+    line: u32,
+    words: &[&[u8]],
+) -> Result<(u8, Event), CaptureFault>
+    ensures { Reads result (at_line line (event_of head.now (map (λ w. w.now) words.now))) }
+{
+    match event_of(alloc, head, words) {
+        Ok(event) => Ok(event),
+        Err(refused) => Err(fault_at(line, refused)),
+    }
+}

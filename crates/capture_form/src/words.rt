@@ -1,0 +1,110 @@
+//! What the words of a line state.
+ghost use Rattle.std.specs.Prelude.{◌≡◌, codes, false, is_ok};
+ghost use Rattle.capture_form.specs.Text.{is_dash, number_of};
+ghost use Rattle.capture_form.specs.Words.{below, link_of, user_of, octets_of, address_in, called_of, calling_of, body_of, return_of};
+ghost use Rattle.capture_form.specs.Refused.{States};
+ghost use Rattle.sccp_address.specs.Parsing.{address_of};
+
+use crate::fault::LineKind;
+use crate::refused::LineRefused;
+use crate::text::{is_dash, number, octets};
+use relay_base::{Below, Octets, Ssn};
+use sccp_address::parse;
+use std::alloc::Global;
+
+/// A number below a limit.
+pub fn below<const LIMIT: u32>(word: &[u8]) -> Result<Below<LIMIT>, LineKind>
+    ensures { result ≡ below LIMIT word.now }
+{
+    match number(word) {
+        Some(n) if n < u64::from(LIMIT) => Below::new(n as u32).ok_or(LineKind::Number),
+        _ => Err(LineKind::Number),
+    }
+}
+
+/// A link, from 1.
+pub fn link(links: u8, word: &[u8]) -> Result<u8, LineKind>
+    ensures { result ≡ link_of links word.now }
+{
+    match number(word) {
+        Some(n) if 1 <= n && n <= u64::from(links) => Ok(n as u8),
+        _ => Err(LineKind::Number),
+    }
+}
+
+/// The subsystem number of a user.
+pub fn user(users: &[Ssn], word: &[u8]) -> Result<Ssn, LineKind>
+    ensures { result ≡ user_of users.now word.now }
+{
+    let ssn = below::<256>(word)?;
+    if users.contains(&ssn) {
+        Ok(ssn)
+    } else {
+        Err(LineKind::User)
+    }
+}
+
+/// The octets that a word writes in hex.
+pub fn hex_octets(alloc: Global, word: &[u8]) -> Result<Octets, LineRefused>
+    ensures { States result (octets_of word.now) }
+{
+    match octets(alloc, word)? {
+        Some(octets) => Ok(octets),
+        None => Err(LineRefused::Kind(LineKind::Hex)),
+    }
+}
+
+fn is_address(octets: &[u8]) -> bool
+    ensures { result ≡ is_ok (address_of octets.now) }
+{
+    parse(octets).is_ok()
+}
+
+/// An address of at most 40 octets.
+pub fn called(alloc: Global, word: &[u8]) -> Result<Octets, LineRefused>
+    ensures { States result (called_of word.now) }
+{
+    let octets = hex_octets(alloc, word)?;
+    if !is_address(octets.as_slice()) {
+        return Err(LineRefused::Kind(LineKind::Address));
+    }
+    if octets.len() > 40 {
+        return Err(LineRefused::Kind(LineKind::Size));
+    }
+    Ok(octets)
+}
+
+/// An address, or none.
+pub fn calling(alloc: Global, word: &[u8]) -> Result<Option<Octets>, LineRefused>
+    ensures { States result (calling_of word.now) }
+{
+    if is_dash(word) {
+        Ok(None)
+    } else {
+        Ok(Some(called(alloc, word)?))
+    }
+}
+
+/// At most so many octets.
+pub fn body(alloc: Global, most: usize, word: &[u8]) -> Result<Octets, LineRefused>
+    ensures { States result (body_of most word.now) }
+{
+    let octets = hex_octets(alloc, word)?;
+    if octets.len() > most {
+        return Err(LineRefused::Kind(LineKind::Size));
+    }
+    Ok(octets)
+}
+
+/// Whether return on error is asked.
+pub fn return_asked(word: &[u8]) -> Result<bool, LineKind>
+    ensures { result ≡ return_of word.now }
+{
+    if word == b"r".as_slice() {
+        Ok(true)
+    } else if is_dash(word) {
+        Ok(false)
+    } else {
+        Err(LineKind::Words)
+    }
+}
