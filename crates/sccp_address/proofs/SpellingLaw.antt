@@ -1,15 +1,13 @@
 -- Every address in form reads back as itself.
-use Rattle.std.proofs.Common.{◌≡◌, ℕ, zero, suc, ◌+◌, ◌-◌, ◌*◌, ◌/◌, ◌%◌, ◌<◌, ◌≤◌, List, [], ◌∷◌, ◌++◌, length, drop, Bool, true, false, not, nat_eq, nat_lt, if◌then◌else◌, IsTrue, Option, Some, None, Ok, Err, refl, sym, ap, append_assoc, ◌∙◌, arith, subst, ◌⊎◌, inl, inr}
-use Rattle.std.specs.Prelude.{◌==◌, ◌&&◌, ◌||◌, nat_le, is_some, All, IfSome}
-use Rattle.std.proofs.lemmas.Bool.{ne_eqb, lt-ltb, le-ltb, le-leb, eqb-true, ltb-true}
+use Rattle.std.proofs.Common.{◌≡◌, ℕ, suc, ◌+◌, ◌-◌, ◌*◌, ◌/◌, ◌%◌, ◌<◌, List, [], ◌∷◌, ◌++◌, length, drop, Bool, true, false, not, nat_eq, nat_lt, if◌then◌else◌, IsTrue, Option, Some, None, Ok, refl, sym, ap, append_assoc, ◌∙◌, arith, subst, inl, inr}
+use Rattle.std.specs.Prelude.{◌==◌, ◌&&◌, ◌||◌, is_some, IfSome}
+use Rattle.std.proofs.lemmas.Bool.{ne_eqb, le-ltb, le-leb, eqb-true, ltb-true}
 use Rattle.std.proofs.lemmas.Bool.Decides.{eqb_tells}
 use Rattle.sccp_address.specs.declared.address.Selector.{Selector}
-use Rattle.sccp_address.specs.declared.address.AddressFault.{AddressFault}
-use Rattle.sccp_address.specs.declared.address.AddressFault.TheVariants.{TitleShort}
 use Rattle.sccp_address.specs.declared.titles.Parity.TheVariants.{Odd, Even}
 use Rattle.sccp_address.specs.Form.{Form, TitleForm, no_title, bcd, other}
 use Rattle.sccp_address.specs.Digits.{digits_in, digit_octets}
-use Rattle.sccp_address.specs.Titles.{has_digits, lead_of, encoding_of, parity_of, selector_of, is_title_short, is_bcd, title_at, is_carried, is_in_form}
+use Rattle.sccp_address.specs.Titles.{has_digits, lead_of, encoding_of, selector_of, is_title_short, is_bcd, title_at, is_carried, is_in_form}
 use Rattle.sccp_address.specs.Parsing.{point_at, ssn_at, address_of, IsInForm}
 use Rattle.sccp_address.specs.Ranges.{IsInRange, HasFewDigits}
 use Rattle.sccp_address.specs.Spelling.{point_octets, ssn_octets, is_odd, bit, encoding, lead_octets, title_octets, gti_of, indicator_of, address_spelling}

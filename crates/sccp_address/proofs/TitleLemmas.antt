@@ -1,5 +1,5 @@
 -- Lemmas on titles that are read as neither short nor digits.
-use Rattle.std.proofs.Common.{◌≡◌, ℕ, ◌<◌, List, drop, if◌then◌else◌, Bool, true, false, not, nat_eq, nat_lt, Ok, Err, refl, arith}
+use Rattle.std.proofs.Common.{◌≡◌, ℕ, List, drop, if◌then◌else◌, Bool, true, false, not, nat_eq, nat_lt, Ok, Err, refl}
 use Rattle.std.specs.declared.result.Result.{Result}
 use Rattle.sccp_address.specs.declared.address.AddressFault.{AddressFault}
 use Rattle.sccp_address.specs.Form.{TitleForm, no_title, bcd, other}

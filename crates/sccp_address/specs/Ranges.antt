@@ -1,5 +1,5 @@
 -- The numbers of an address as its parts hold them: 14 bits of a point code, and at most 24 digits of 4 bits.
-use Rattle.std.specs.Prelude.{ℕ, ◌<◌, length, All, IfSome}
+use Rattle.std.specs.Prelude.{◌<◌, length, All, IfSome}
 use Rattle.sccp_address.specs.Form.{Form, TitleForm, no_title, bcd, other}
 
 abbrev pub HasFewDigits : TitleForm → Type 0

@@ -1,4 +1,4 @@
-use Rattle.std.proofs.Common.{arith, ◌∙◌, ap, sym, ◌≡◌, ◌<◌, nat_eq, nat_lt, true, false, Ok}
+use Rattle.std.proofs.Common.{arith, ◌∙◌, ap, sym, Ok}
 use Rattle.std.proofs.lemmas.Bool.{ne_eqb, lt-ltb}
 use Rattle.sccp_address.specs.Form.{seen_title}
 use Rattle.sccp_address.proofs.TitleLemmas.{is_kept-title_at, is_kept}
