@@ -30,8 +30,8 @@ fn digit_count(is_odd: bool, octets: &[u8]) -> usize
     }
 }
 
-#[tactic(auto, using(crate::proofs::DigitLemmas::octets_of_digits), unfolding(crate::specs::Digits::digits_in))]
 /// The digits in these octets. Where their number is odd, the high half of the last octet is passed over.
+#[tactic(auto, using(crate::proofs::DigitLemmas::octets_of_digits), unfolding(crate::specs::Digits::digits_in))]
 pub fn read_digits(is_odd: bool, octets: &[u8]) -> Digits
     requires { length octets.now < 13 }
     ensures { result ≡ digits_in is_odd octets.now }
@@ -43,8 +43,8 @@ pub fn read_digits(is_odd: bool, octets: &[u8]) -> Digits
     digits
 }
 
-#[tactic(auto, using(crate::proofs::DigitLemmas::octets_of_digits))]
 /// Writes digits. Where their number is odd, the high half of the last octet is 0.
+#[tactic(auto, using(crate::proofs::DigitLemmas::octets_of_digits))]
 pub fn put_digits(octets: &mut Octets, digits: &Digits) -> Result<(), Memory>
     ensures value { OnOk result (octets.new ≡ octets.old ++ digit_octets digits.now) }
     ensures few { length digits.now < 25 }
