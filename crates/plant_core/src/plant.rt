@@ -1,0 +1,167 @@
+//! The routing data, and its changes.
+ghost use Rattle.std.specs.Prelude.{◌≡◌, ◌+◌, ◌^◌, ◌<◌, ◌++◌, ◌∷◌, [], filter, not, vec_len, IsTrue, IsOk, IfOk, OnOk, OnErr};
+ghost use Rattle.std.specs.Vec.{vec_capacity};
+ghost use Rattle.gtt_table.specs.Adding.{add_refusal, Refuses, HasMemory};
+ghost use Rattle.gtt_table.specs.Translation.{seen_look, translation_of};
+ghost use Rattle.sccp_address.specs.Form.{seen};
+
+use crate::answer::{Answer, Ask, Origin, Rewrite, RouteCause};
+use crate::change::{Change, Verdict};
+use gtt_table::{AddFault, Entity, Look, Row, Table};
+use relay_base::{Digits, Memory, Pc, Ssn};
+use sccp_address::Selector;
+use std::alloc::Global;
+use std::marker::Model;
+
+/// A subsystem of another point.
+#[derive(Clone, Copy, Debug, PartialEq, Eq)]
+pub struct RemoteSubsystem {
+    pub point: Pc,
+    pub ssn: Ssn,
+}
+
+/// The routing data of a node: its point and users, the rows of the translation, and which points, subsystems of other points
+/// and users are out of service; with the number of the edition.
+#[derive(Debug, Drop)]
+pub struct Plant {
+    own: Pc,
+    users: Vec<Ssn>,
+    rows: Table,
+    barred_points: Vec<Pc>,
+    barred_subsystems: Vec<RemoteSubsystem>,
+    out_of_service: Vec<Ssn>,
+    edition: u64,
+}
+
+impl Model for Plant {
+    ghost use Rattle.std.specs.Prelude.{◌&&◌, nat_lt, vec_len};
+    ghost use Rattle.std.specs.Vec.{vec_capacity};
+    ghost use Rattle.plant_core.specs.Plant.{PlantState};
+
+    ghost Value = { PlantState };
+
+    ghost view = { λ p. record {
+      routing = record {
+        own = p.own;
+        users = p.users.items;
+        rows = p.rows.rows;
+        barred_points = p.barred_points.items;
+        barred_subsystems = p.barred_subsystems.items;
+        out_of_service = p.out_of_service.items;
+      };
+      edition = p.edition;
+      has_room = p.rows.has_room
+        && nat_lt (vec_len p.barred_points) (vec_capacity p.barred_points)
+        && nat_lt (vec_len p.barred_subsystems) (vec_capacity p.barred_subsystems)
+        && nat_lt (vec_len p.out_of_service) (vec_capacity p.out_of_service);
+    } };
+}
+
+/// Puts an item at the end.
+fn put<T: Copy>(list: &mut Vec<T>, item: &T) -> Result<(), Memory>
+    ensures ok { OnOk result (list.new.items ≡ list.old.items ++ item.now ∷ []) }
+    ensures err { OnErr result (list.new.items ≡ list.old.items) }
+    ensures memory { vec_len list.old < vec_capacity list.old → IsOk result }
+{
+    list.reserve(1)?;
+    list.push_reserved(*item);
+    Ok(())
+}
+
+impl Plant {
+    ghost use Rattle.plant_core.specs.Plant.{start_of, is_among, is_barred_subsystem, is_in_service};
+    ghost use Rattle.plant_core.specs.Changes.{verdict_on, changed, plant_after};
+    ghost use Rattle.plant_core.specs.Routing.{local_answer, is_barred_at, availability_of, route_of};
+    ghost use Rattle.plant_core.specs.declared.change.Verdict.TheVariants as verdict;
+
+    /// The routing data at edition 0: no rows, all users in service, and nothing barred.
+    pub fn start(alloc: Global, point: Pc, users: &[Ssn]) -> Result<Plant, Memory>
+        ensures routing { IfOk result (λ p. p.routing ≡ start_of point users.now) }
+        ensures edition { IfOk result (λ p. p.edition ≡ 0) }
+    {
+        Ok(Plant {
+            own: point,
+            users: Vec::from_slice(alloc, users)?,
+            rows: Table::new(alloc),
+            barred_points: Vec::new(alloc),
+            barred_subsystems: Vec::new(alloc),
+            out_of_service: Vec::new(alloc),
+            edition: 0,
+        })
+    }
+
+    /// Adds a row before any change, and leaves the edition. `Duplicate`: a row with its selector and prefix is there;
+    /// else `RowsFull`: 4,096 rows are there. The routing data is as before after each refusal.
+    pub fn add(&mut self, row: Row) -> Result<(), AddFault>
+        requires { self.old.edition ≡ 0 }
+        ensures ok { OnOk result (self.new.routing ≡ record self.old.routing { rows = self.old.routing.rows ++ row ∷ [] }) }
+        ensures err { OnErr result (self.new.routing ≡ self.old.routing) }
+        ensures refusal { Refuses result (add_refusal self.old.routing.rows row) }
+        ensures edition { self.new.edition ≡ 0 }
+    {
+        self.rows.add(row)
+    }
+
+    /// The number of the edition.
+    pub fn edition(&self) -> u64
+        ensures { result ≡ self.now.edition }
+    {
+        self.edition
+    }
+
+    /// An equal plant.
+    pub fn copy(&self) -> Result<Plant, Memory>
+        ensures routing { IfOk result (λ p. p.routing ≡ self.now.routing) }
+        ensures edition { IfOk result (λ p. p.edition ≡ self.now.edition) }
+    {
+        Ok(Plant {
+            own: self.own,
+            users: self.users.clone()?,
+            rows: self.rows.copy()?,
+            barred_points: self.barred_points.clone()?,
+            barred_subsystems: self.barred_subsystems.clone()?,
+            out_of_service: self.out_of_service.clone()?,
+            edition: self.edition,
+        })
+    }
+
+    /// The row that translates these digits.
+    pub fn look(&self, selector: &Selector, digits: &Digits) -> Look<'_>
+        ensures { seen_look result ≡ translation_of self.now.routing.rows selector.now digits.now }
+    {
+        self.rows.look(selector, digits)
+    }
+
+    fn is_user(&self, ssn: Ssn) -> bool
+        ensures { result ≡ is_among ssn self.now.routing.users }
+    {
+        self.users.contains(&ssn)
+    }
+
+    fn is_out(&self, ssn: Ssn) -> bool
+        ensures { result ≡ is_among ssn self.now.routing.out_of_service }
+    {
+        self.out_of_service.contains(&ssn)
+    }
+
+    fn is_barred_point(&self, point: Pc) -> bool
+        ensures { result ≡ is_among point self.now.routing.barred_points }
+    {
+        self.barred_points.contains(&point)
+    }
+
+    fn is_barred_subsystem(&self, point: Pc, ssn: Ssn) -> bool
+        ensures { result ≡ is_barred_subsystem self.now.routing point ssn }
+    {
+        self.barred_subsystems.iter().any(|remote| remote.point == point && remote.ssn == ssn)
+    }
+
+    fn is_barred_at(&self, point: Pc, ssn: Option<Ssn>) -> bool
+        ensures { result ≡ is_barred_at self.now.routing point ssn }
+    {
+        match ssn {
+            Some(ssn) => self.is_barred_subsystem(point, ssn),
+            None => false,
+        }
+    }
+}
