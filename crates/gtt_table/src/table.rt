@@ -79,7 +79,8 @@ impl Table {
         Ok(())
     }
 
-    fn has_row(&self, selector: &Selector, prefix: &Digits) -> bool
+    /// Whether a row has this selector and this prefix.
+    pub fn has_row(&self, selector: &Selector, prefix: &Digits) -> bool
         ensures { result ≡ has_row selector.now prefix.now self.now.rows }
     {
         self.rows.iter().any(|row| row.has_key(selector, prefix))

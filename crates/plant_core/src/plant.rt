@@ -1,6 +1,7 @@
 //! The routing data, and its changes.
 ghost use Rattle.std.specs.Prelude.{◌≡◌, ◌+◌, ◌^◌, ◌<◌, ◌++◌, ◌∷◌, [], filter, not, vec_len, IsTrue, IsOk, IfOk, OnOk, OnErr};
 ghost use Rattle.std.specs.Vec.{vec_capacity};
+ghost use Rattle.plant_core.specs.Changes.{alters_if};
 ghost use Rattle.gtt_table.specs.Adding.{add_refusal, Refuses, HasMemory};
 ghost use Rattle.gtt_table.specs.Translation.{seen_look, translation_of};
 ghost use Rattle.sccp_address.specs.Form.{seen};
@@ -51,9 +52,9 @@ impl Model for Plant {
       };
       edition = p.edition;
       has_room = p.rows.has_room
-        && nat_lt (vec_len p.barred_points) (vec_capacity p.barred_points)
-        && nat_lt (vec_len p.barred_subsystems) (vec_capacity p.barred_subsystems)
-        && nat_lt (vec_len p.out_of_service) (vec_capacity p.out_of_service);
+          && nat_lt (vec_len p.barred_points) (vec_capacity p.barred_points)
+          && nat_lt (vec_len p.barred_subsystems) (vec_capacity p.barred_subsystems)
+          && nat_lt (vec_len p.out_of_service) (vec_capacity p.out_of_service);
     } };
 }
 
@@ -71,8 +72,8 @@ fn put<T: Copy>(list: &mut Vec<T>, item: &T) -> Result<(), Memory>
 impl Plant {
     ghost use Rattle.plant_core.specs.Plant.{start_of, is_among, is_barred_subsystem, is_in_service};
     ghost use Rattle.plant_core.specs.Changes.{verdict_on, changed, plant_after};
-    ghost use Rattle.plant_core.specs.Routing.{local_answer, is_barred_at, availability_of, route_of};
-    ghost use Rattle.plant_core.specs.declared.change.Verdict.TheVariants as verdict;
+    ghost use Rattle.plant_core.specs.Routing.{local_answer, is_barred_at, remote_answer, availability_of, route_of};
+    ghost use Rattle.plant_core.specs.declared.change.Change.TheVariants.{AddRow};
 
     /// The routing data at edition 0: no rows, all users in service, and nothing barred.
     pub fn start(alloc: Global, point: Pc, users: &[Ssn]) -> Result<Plant, Memory>
@@ -153,7 +154,9 @@ impl Plant {
     fn is_barred_subsystem(&self, point: Pc, ssn: Ssn) -> bool
         ensures { result ≡ is_barred_subsystem self.now.routing point ssn }
     {
-        self.barred_subsystems.iter().any(|remote| remote.point == point && remote.ssn == ssn)
+        self.barred_subsystems
+            .iter()
+            .any(|remote| remote.point == point && remote.ssn == ssn)
     }
 
     fn is_barred_at(&self, point: Pc, ssn: Option<Ssn>) -> bool
@@ -163,5 +166,126 @@ impl Plant {
             Some(ssn) => self.is_barred_subsystem(point, ssn),
             None => false,
         }
+    }
+
+    #[tactic(auto, unfolding(crate::specs::Changes::verdict_on, gtt_table::specs::Adding::add_refusal))]
+    fn row_verdict(&self, row: &Row) -> Verdict
+        ensures { result ≡ verdict_on self.now.routing (AddRow row.now) }
+    {
+        match self.rows.refusal(row) {
+            Some(AddFault::Duplicate) => Verdict::Duplicate,
+            Some(_) => Verdict::RowsFull,
+            None => Verdict::Alters,
+        }
+    }
+
+    /// What this change would do.
+    #[tactic(auto, unfolding(crate::specs::Changes::verdict_on))]
+    pub fn verdict(&self, change: &Change) -> Verdict
+        ensures { result ≡ verdict_on self.now.routing change.now }
+    {
+        match change {
+            Change::AddRow(row) => self.row_verdict(row),
+            Change::DelRow(selector, prefix) => {
+                if self.rows.has_row(selector, prefix) {
+                    Verdict::Alters
+                } else {
+                    Verdict::NoRow
+                }
+            }
+            Change::BarPoint(point) => alters_if(!self.is_barred_point(*point)),
+            Change::FreePoint(point) => alters_if(self.is_barred_point(*point)),
+            Change::BarSub(point, ssn) => alters_if(!self.is_barred_subsystem(*point, *ssn)),
+            Change::FreeSub(point, ssn) => alters_if(self.is_barred_subsystem(*point, *ssn)),
+            Change::LocalUp(ssn) => alters_if(self.is_user(*ssn) && self.is_out(*ssn)),
+            Change::LocalDown(ssn) => alters_if(self.is_user(*ssn) && !self.is_out(*ssn)),
+        }
+    }
+
+    /// Whether this entity is available, and else why not.
+    #[tactic(auto, unfolding(crate::specs::Routing::availability_of))]
+    pub fn stands(&self, entity: &Entity) -> Result<(), RouteCause>
+        ensures { result ≡ availability_of self.now.routing entity.now }
+    {
+        if entity.point == self.own {
+            return match entity.ssn {
+                Some(ssn) if !self.is_user(ssn) => Err(RouteCause::Unequipped),
+                Some(ssn) if self.is_out(ssn) => Err(RouteCause::SubsystemBarred),
+                Some(_) => Ok(()),
+                None => Err(RouteCause::Unequipped),
+            };
+        }
+        if self.is_barred_point(entity.point) {
+            Err(RouteCause::PointBarred)
+        } else if entity.on_ssn && self.is_barred_at(entity.point, entity.ssn) {
+            Err(RouteCause::SubsystemBarred)
+        } else {
+            Ok(())
+        }
+    }
+
+    #[tactic(auto, unfolding(crate::specs::Routing::local_answer))]
+    fn local(&self, ssn: Ssn) -> Answer
+        ensures { result ≡ local_answer self.now.routing ssn }
+    {
+        if !self.is_user(ssn) {
+            Answer::Refused {
+                cause: RouteCause::Unequipped,
+                local: None,
+            }
+        } else if self.is_out(ssn) {
+            Answer::Refused {
+                cause: RouteCause::SubsystemBarred,
+                local: Some(ssn),
+            }
+        } else {
+            Answer::Local(ssn)
+        }
+    }
+
+    fn remote(&self, point: Pc, ssn: Option<Ssn>, hop: Option<u8>) -> Answer
+        ensures { result ≡ remote_answer self.now.routing point ssn hop }
+    {
+        if self.is_barred_point(point) {
+            return Answer::Refused {
+                cause: RouteCause::PointBarred,
+                local: None,
+            };
+        }
+        if self.is_barred_at(point, ssn) {
+            return Answer::Refused {
+                cause: RouteCause::SubsystemBarred,
+                local: None,
+            };
+        }
+        Answer::Forward {
+            dpc: point,
+            rewrite: Rewrite::Keep,
+            hop,
+        }
+    }
+
+    /// The answer for an address that routes on its subsystem number.
+    #[tactic(auto, unfolding(crate::specs::Routing::route_of, crate::specs::Routing::ssn_answer))]
+    pub fn answer(&self, ask: &Ask<'_>) -> Answer
+        requires { IsTrue ask.now.called.on_ssn }
+        ensures { result ≡ route_of self.now.routing (seen ask.now.called) ask.now.hop ask.now.origin }
+    {
+        match (ask.origin, ask.called.point) {
+            (Origin::User, Some(point)) if point != self.own => {
+                self.remote(point, ask.called.ssn, ask.hop)
+            }
+            _ => self.local(ask.called.ssn.unwrap_or(Ssn::from(0))),
+        }
+    }
+}
+
+fn alters_if(alters: bool) -> Verdict
+    ensures { result ≡ alters_if alters }
+{
+    if alters {
+        Verdict::Alters
+    } else {
+        Verdict::Same
     }
 }

@@ -22,7 +22,7 @@ pub fn rewritten(alloc: Global, called: &Address<'_>, rewrite: &Rewrite) -> Resu
             let leaving = Address {
                 point: None,
                 ssn: ssn.or(called.ssn),
-                title: called.title,
+                title: called.title.copied(),
                 on_ssn: *on_ssn,
             };
             spell(alloc, &leaving)
