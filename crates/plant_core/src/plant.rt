@@ -1,25 +1,19 @@
 //! The routing data, and its changes.
-ghost use Rattle.std.specs.Prelude.{◌≡◌, ◌+◌, ◌^◌, ◌<◌, ◌++◌, ◌∷◌, [], filter, not, vec_len, IsTrue, IsOk, IfOk, OnOk, OnErr};
+ghost use Rattle.std.specs.Prelude.{◌≡◌, ◌+◌, ◌^◌, ◌<◌, ◌++◌, ◌∷◌, [], filter, not, vec_len, IsTrue, IsOk, None, IfOk, OnOk, OnErr};
 ghost use Rattle.std.specs.Vec.{vec_capacity};
-ghost use Rattle.plant_core.specs.Changes.{alters_if};
+ghost use Rattle.plant_core.specs.Changes.{alters_if, but_for};
 ghost use Rattle.gtt_table.specs.Adding.{add_refusal, Refuses, HasMemory};
 ghost use Rattle.gtt_table.specs.Translation.{seen_look, translation_of};
 ghost use Rattle.sccp_address.specs.Form.{seen};
 
 use crate::answer::{Answer, Ask, Origin, Rewrite, RouteCause};
 use crate::change::{Change, Verdict};
+use crate::statuses::{RemoteSubsystem, put, take_point_out, take_subsystem_out, take_user_out};
 use gtt_table::{AddFault, Entity, Look, Row, Table};
 use relay_base::{Digits, Memory, Pc, Ssn};
 use sccp_address::Selector;
 use std::alloc::Global;
 use std::marker::Model;
-
-/// A subsystem of another point.
-#[derive(Clone, Copy, Debug, PartialEq, Eq)]
-pub struct RemoteSubsystem {
-    pub point: Pc,
-    pub ssn: Ssn,
-}
 
 /// The routing data of a node: its point and users, the rows of the translation, and which points, subsystems of other points
 /// and users are out of service; with the number of the edition.
@@ -58,22 +52,12 @@ impl Model for Plant {
     } };
 }
 
-/// Puts an item at the end.
-fn put<T: Copy>(list: &mut Vec<T>, item: &T) -> Result<(), Memory>
-    ensures ok { OnOk result (list.new.items ≡ list.old.items ++ item.now ∷ []) }
-    ensures err { OnErr result (list.new.items ≡ list.old.items) }
-    ensures memory { vec_len list.old < vec_capacity list.old → IsOk result }
-{
-    list.reserve(1)?;
-    list.push_reserved(*item);
-    Ok(())
-}
-
 impl Plant {
     ghost use Rattle.plant_core.specs.Plant.{start_of, is_among, is_barred_subsystem, is_in_service};
     ghost use Rattle.plant_core.specs.Changes.{verdict_on, changed, plant_after};
     ghost use Rattle.plant_core.specs.Routing.{local_answer, is_barred_at, remote_answer, availability_of, route_of};
-    ghost use Rattle.plant_core.specs.declared.change.Change.TheVariants.{AddRow};
+    ghost use Rattle.plant_core.specs.declared.change.Change.TheVariants as change;
+    ghost use Rattle.plant_core.specs.declared.change.Verdict.TheVariants as verdict;
 
     /// The routing data at edition 0: no rows, all users in service, and nothing barred.
     pub fn start(alloc: Global, point: Pc, users: &[Ssn]) -> Result<Plant, Memory>
@@ -170,7 +154,7 @@ impl Plant {
 
     #[tactic(auto, unfolding(crate::specs::Changes::verdict_on, gtt_table::specs::Adding::add_refusal))]
     fn row_verdict(&self, row: &Row) -> Verdict
-        ensures { result ≡ verdict_on self.now.routing (AddRow row.now) }
+        ensures { result ≡ verdict_on self.now.routing (change.AddRow row.now) }
     {
         match self.rows.refusal(row) {
             Some(AddFault::Duplicate) => Verdict::Duplicate,
@@ -200,6 +184,87 @@ impl Plant {
             Change::LocalUp(ssn) => alters_if(self.is_user(*ssn) && self.is_out(*ssn)),
             Change::LocalDown(ssn) => alters_if(self.is_user(*ssn) && !self.is_out(*ssn)),
         }
+    }
+
+    /// Takes memory for one change: the next one that is absorbed isn't refused.
+    pub fn make_room(&mut self) -> Result<(), Memory>
+        ensures routing { self.new.routing ≡ self.old.routing }
+        ensures edition { self.new.edition ≡ self.old.edition }
+        ensures room { OnOk result (IsTrue self.new.has_room) }
+    {
+        self.rows.make_room()?;
+        self.barred_points.reserve(1)?;
+        self.barred_subsystems.reserve(1)?;
+        self.out_of_service.reserve(1)?;
+        Ok(())
+    }
+
+    #[tactic(auto, unfolding(crate::specs::Changes::changed))]
+    fn add_row(&mut self, row: &Row) -> Result<(), Memory>
+        requires { add_refusal self.old.routing.rows row.now ≡ None }
+        ensures ok { OnOk result (self.new.routing ≡ changed self.old.routing (change.AddRow row.now)) }
+        ensures err { OnErr result (self.new.routing ≡ self.old.routing) }
+        ensures edition { self.new.edition ≡ self.old.edition }
+        ensures memory { IsTrue self.old.has_room → IsOk result }
+    {
+        match self.rows.add(*row) {
+            Ok(()) => Ok(()),
+            Err(_) => Err(Memory),
+        }
+    }
+
+    #[tactic(auto, unfolding(crate::specs::Changes::changed))]
+    fn bar_subsystem(&mut self, point: Pc, ssn: Ssn) -> Result<(), Memory>
+        ensures ok { OnOk result (self.new.routing ≡ changed self.old.routing (change.BarSub point ssn)) }
+        ensures err { OnErr result (self.new.routing ≡ self.old.routing) }
+        ensures edition { self.new.edition ≡ self.old.edition }
+        ensures memory { IsTrue self.old.has_room → IsOk result }
+    {
+        put(&mut self.barred_subsystems, &RemoteSubsystem { point, ssn })
+    }
+
+    /// Makes a change that alters the routing data.
+    #[tactic(auto, unfolding(crate::specs::Changes::changed, crate::specs::Changes::verdict_on, gtt_table::specs::Adding::add_refusal))]
+    fn apply(&mut self, change: &Change) -> Result<(), Memory>
+        requires { verdict_on self.old.routing change.now ≡ verdict.Alters }
+        ensures ok { OnOk result (self.new.routing ≡ changed self.old.routing change.now) }
+        ensures err { OnErr result (self.new.routing ≡ self.old.routing) }
+        ensures edition { self.new.edition ≡ self.old.edition }
+        ensures memory { IsTrue self.old.has_room → IsOk result }
+    {
+        match change {
+            Change::AddRow(row) => return self.add_row(row),
+            Change::DelRow(selector, prefix) => {
+                let _ = self.rows.remove(selector, prefix);
+            }
+            Change::BarPoint(point) => return put(&mut self.barred_points, point),
+            Change::FreePoint(point) => take_point_out(&mut self.barred_points, *point),
+            Change::BarSub(point, ssn) => return self.bar_subsystem(*point, *ssn),
+            Change::FreeSub(point, ssn) => take_subsystem_out(
+                &mut self.barred_subsystems,
+                *point,
+                *ssn,
+            ),
+            Change::LocalUp(ssn) => take_user_out(&mut self.out_of_service, *ssn),
+            Change::LocalDown(ssn) => return put(&mut self.out_of_service, ssn),
+        }
+        Ok(())
+    }
+
+    /// Raises the edition by one, and makes the change where it alters the routing data. After want of memory all is as before.
+    #[tactic(auto, unfolding(crate::specs::Changes::plant_after))]
+    pub fn absorb(&mut self, change: &Change) -> Result<(), Memory>
+        requires { self.old.edition + 1 < 2 ^ 64 }
+        ensures routing { OnOk result (self.new.routing ≡ plant_after self.old.routing change.now) }
+        ensures edition { OnOk result (self.new.edition ≡ self.old.edition + 1) }
+        ensures err { OnErr result ((self.new.routing ≡ self.old.routing) × (self.new.edition ≡ self.old.edition)) }
+        ensures memory { IsTrue self.old.has_room → IsOk result }
+    {
+        if self.verdict(change) == Verdict::Alters {
+            self.apply(change)?;
+        }
+        self.edition += 1;
+        Ok(())
     }
 
     /// Whether this entity is available, and else why not.
