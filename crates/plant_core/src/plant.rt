@@ -87,6 +87,13 @@ impl Plant {
         self.rows.add(row)
     }
 
+    /// The own point code.
+    pub fn own(&self) -> Pc
+        ensures { result ≡ self.now.routing.own }
+    {
+        self.own
+    }
+
     /// The number of the edition.
     pub fn edition(&self) -> u64
         ensures { result ≡ self.now.edition }
