@@ -1,16 +1,17 @@
 //! The entries of the journals.
 use crate::answer::Answer;
+use crate::change::Change;
 use relay_base::{Event, Outs, PlainList, Stamp};
 
-/// A routing, with the edition that it read.
+/// A routing, with the edition of the routing data that it read.
 #[derive(Clone, Copy, Debug, PartialEq, Eq)]
 pub struct Asked {
     pub edition: u64,
     pub answer: Answer,
 }
 
-/// What a lane did with one event.
-#[derive(Debug, PartialEq, Eq, Drop)]
+/// What a lane did with one event: the routing where it asked for one, and what came of it.
+#[derive(Clone, Debug, PartialEq, Eq, Drop)]
 pub struct Entry {
     pub stamp: Stamp,
     pub event: Event,
@@ -19,13 +20,14 @@ pub struct Entry {
 }
 
 /// What the control lane takes.
-#[derive(Debug, PartialEq, Eq, Drop)]
+#[derive(Clone, Debug, PartialEq, Eq, Drop)]
 pub enum ControlEvent {
     Plain(Event),
+    Change(Change),
 }
 
-/// What the control lane did with one event.
-#[derive(Debug, PartialEq, Eq, Drop)]
+/// What the control lane did with one event: the number of the edition that it published, where it did, and what came of it.
+#[derive(Clone, Debug, PartialEq, Eq, Drop)]
 pub struct ControlEntry {
     pub stamp: Stamp,
     pub event: ControlEvent,
@@ -33,8 +35,11 @@ pub struct ControlEntry {
     pub outs: Outs,
 }
 
+/// The journal of a lane.
 pub type EntryList = PlainList<Entry>;
 
+/// The journal of the control lane.
 pub type ControlList = PlainList<ControlEntry>;
 
+/// The journals of several lanes.
 pub type JournalList = PlainList<EntryList>;

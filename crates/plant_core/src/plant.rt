@@ -1,65 +1,363 @@
-//! The routing data.
-ghost use Rattle.std.specs.Prelude.{◌≡◌, IfOk, IsTrue};
+//! The routing data, and its changes.
+ghost use Rattle.std.specs.Prelude.{◌≡◌, ◌+◌, ◌^◌, ◌<◌, ◌++◌, ◌∷◌, [], filter, not, vec_len, IsTrue, IsOk, None, IfOk, OnOk, OnErr};
+ghost use Rattle.std.specs.Vec.{vec_capacity};
+ghost use Rattle.plant_core.specs.Changes.{alters_if, but_for};
+ghost use Rattle.gtt_table.specs.Adding.{add_refusal, Refuses, HasMemory};
+ghost use Rattle.gtt_table.specs.Translation.{seen_look, translation_of};
+ghost use Rattle.sccp_address.specs.Form.{seen};
 
 use crate::answer::{Answer, Ask, Origin, Rewrite, RouteCause};
-use relay_base::{Memory, Pc, Ssn, SsnList};
+use crate::change::{Change, Verdict};
+use crate::statuses::{RemoteSubsystem, put, take_point_out, take_subsystem_out, take_user_out};
+use gtt_table::{AddFault, Entity, Look, Row, Table};
+use relay_base::{Digits, Memory, Pc, Ssn};
+use sccp_address::Selector;
 use std::alloc::Global;
+use std::marker::Model;
 
-/// The own point, the local users, and how many changes were published.
-#[derive(Debug, PartialEq, Eq, Drop)]
+/// The routing data of a node: its point and users, the rows of the translation, and which points, subsystems of other points
+/// and users are out of service; with the number of the edition.
+#[derive(Debug, Drop)]
 pub struct Plant {
-    pub own: Pc,
-    pub users: SsnList,
-    pub number: u64,
+    own: Pc,
+    users: Vec<Ssn>,
+    rows: Table,
+    barred_points: Vec<Pc>,
+    barred_subsystems: Vec<RemoteSubsystem>,
+    out_of_service: Vec<Ssn>,
+    edition: u64,
+}
+
+impl Model for Plant {
+    ghost use Rattle.std.specs.Prelude.{◌&&◌, nat_lt, vec_len};
+    ghost use Rattle.std.specs.Vec.{vec_capacity};
+    ghost use Rattle.plant_core.specs.Plant.{PlantState};
+
+    ghost Value = { PlantState };
+
+    ghost view = { λ p. record {
+      routing = record {
+        own = p.own;
+        users = p.users.items;
+        rows = p.rows.rows;
+        barred_points = p.barred_points.items;
+        barred_subsystems = p.barred_subsystems.items;
+        out_of_service = p.out_of_service.items;
+      };
+      edition = p.edition;
+      has_room = p.rows.has_room
+          && nat_lt (vec_len p.barred_points) (vec_capacity p.barred_points)
+          && nat_lt (vec_len p.barred_subsystems) (vec_capacity p.barred_subsystems)
+          && nat_lt (vec_len p.out_of_service) (vec_capacity p.out_of_service);
+    } };
 }
 
 impl Plant {
-    ghost use Rattle.plant_core.specs.Plant.{start_of, local_of, answer_of};
+    ghost use Rattle.plant_core.specs.Plant.{start_of, is_among, is_barred_subsystem, is_in_service};
+    ghost use Rattle.plant_core.specs.Changes.{verdict_on, changed, plant_after};
+    ghost use Rattle.plant_core.specs.Routing.{local_answer, is_barred_at, remote_answer, availability_of, route_of};
+    ghost use Rattle.plant_core.specs.declared.change.Change.TheVariants as change;
+    ghost use Rattle.plant_core.specs.declared.change.Verdict.TheVariants as verdict;
 
-    /// The routing data of the head, all users in service.
+    /// The routing data at edition 0: no rows, all users in service, and nothing barred.
     pub fn start(alloc: Global, point: Pc, users: &[Ssn]) -> Result<Plant, Memory>
-        ensures { IfOk result (λ p. p ≡ start_of point users.now) }
+        ensures routing { IfOk result (λ p. p.routing ≡ start_of point users.now) }
+        ensures edition { IfOk result (λ p. p.edition ≡ 0) }
     {
         Ok(Plant {
             own: point,
-            users: SsnList::from_slice(alloc, users)?,
-            number: 0,
+            users: Vec::from_slice(alloc, users)?,
+            rows: Table::new(alloc),
+            barred_points: Vec::new(alloc),
+            barred_subsystems: Vec::new(alloc),
+            out_of_service: Vec::new(alloc),
+            edition: 0,
         })
     }
 
-    /// How many changes were published.
-    pub fn edition(&self) -> u64
-        ensures { result ≡ self.now.number }
+    /// Adds a row before any change, and leaves the edition. `Duplicate`: a row with its selector and prefix is there;
+    /// else `RowsFull`: 4,096 rows are there. The routing data is as before after each refusal.
+    pub fn add(&mut self, row: Row) -> Result<(), AddFault>
+        requires { self.old.edition ≡ 0 }
+        ensures ok { OnOk result (self.new.routing ≡ record self.old.routing { rows = self.old.routing.rows ++ row ∷ [] }) }
+        ensures err { OnErr result (self.new.routing ≡ self.old.routing) }
+        ensures refusal { Refuses result (add_refusal self.old.routing.rows row) }
+        ensures edition { self.new.edition ≡ 0 }
     {
-        self.number
+        self.rows.add(row)
     }
 
-    fn local(&self, ssn: Option<Ssn>) -> Answer
-        ensures { result ≡ local_of self.now ssn }
+    /// The own point code.
+    pub fn own(&self) -> Pc
+        ensures { result ≡ self.now.routing.own }
     {
-        let ssn = ssn.unwrap_or(Ssn::from(0));
-        if self.users.as_slice().contains(&ssn) {
-            Answer::Local(ssn)
+        self.own
+    }
+
+    /// The number of the edition.
+    pub fn edition(&self) -> u64
+        ensures { result ≡ self.now.edition }
+    {
+        self.edition
+    }
+
+    /// An equal plant.
+    pub fn copy(&self) -> Result<Plant, Memory>
+        ensures routing { IfOk result (λ p. p.routing ≡ self.now.routing) }
+        ensures edition { IfOk result (λ p. p.edition ≡ self.now.edition) }
+    {
+        Ok(Plant {
+            own: self.own,
+            users: self.users.clone()?,
+            rows: self.rows.copy()?,
+            barred_points: self.barred_points.clone()?,
+            barred_subsystems: self.barred_subsystems.clone()?,
+            out_of_service: self.out_of_service.clone()?,
+            edition: self.edition,
+        })
+    }
+
+    /// The row that translates these digits.
+    pub fn look(&self, selector: &Selector, digits: &Digits) -> Look<'_>
+        ensures { seen_look result ≡ translation_of self.now.routing.rows selector.now digits.now }
+    {
+        self.rows.look(selector, digits)
+    }
+
+    fn is_user(&self, ssn: Ssn) -> bool
+        ensures { result ≡ is_among ssn self.now.routing.users }
+    {
+        self.users.contains(&ssn)
+    }
+
+    fn is_out(&self, ssn: Ssn) -> bool
+        ensures { result ≡ is_among ssn self.now.routing.out_of_service }
+    {
+        self.out_of_service.contains(&ssn)
+    }
+
+    fn is_barred_point(&self, point: Pc) -> bool
+        ensures { result ≡ is_among point self.now.routing.barred_points }
+    {
+        self.barred_points.contains(&point)
+    }
+
+    fn is_barred_subsystem(&self, point: Pc, ssn: Ssn) -> bool
+        ensures { result ≡ is_barred_subsystem self.now.routing point ssn }
+    {
+        self.barred_subsystems
+            .iter()
+            .any(|remote| remote.point == point && remote.ssn == ssn)
+    }
+
+    fn is_barred_at(&self, point: Pc, ssn: Option<Ssn>) -> bool
+        ensures { result ≡ is_barred_at self.now.routing point ssn }
+    {
+        match ssn {
+            Some(ssn) => self.is_barred_subsystem(point, ssn),
+            None => false,
+        }
+    }
+
+    #[tactic(auto, unfolding(crate::specs::Changes::verdict_on, gtt_table::specs::Adding::add_refusal))]
+    fn row_verdict(&self, row: &Row) -> Verdict
+        ensures { result ≡ verdict_on self.now.routing (change.AddRow row.now) }
+    {
+        match self.rows.refusal(row) {
+            Some(AddFault::Duplicate) => Verdict::Duplicate,
+            Some(_) => Verdict::RowsFull,
+            None => Verdict::Alters,
+        }
+    }
+
+    /// What this change would do.
+    #[tactic(auto, unfolding(crate::specs::Changes::verdict_on))]
+    pub fn verdict(&self, change: &Change) -> Verdict
+        ensures { result ≡ verdict_on self.now.routing change.now }
+    {
+        match change {
+            Change::AddRow(row) => self.row_verdict(row),
+            Change::DelRow(selector, prefix) => {
+                if self.rows.has_row(selector, prefix) {
+                    Verdict::Alters
+                } else {
+                    Verdict::NoRow
+                }
+            }
+            Change::BarPoint(point) => alters_if(!self.is_barred_point(*point)),
+            Change::FreePoint(point) => alters_if(self.is_barred_point(*point)),
+            Change::BarSub(point, ssn) => alters_if(!self.is_barred_subsystem(*point, *ssn)),
+            Change::FreeSub(point, ssn) => alters_if(self.is_barred_subsystem(*point, *ssn)),
+            Change::LocalUp(ssn) => alters_if(self.is_user(*ssn) && self.is_out(*ssn)),
+            Change::LocalDown(ssn) => alters_if(self.is_user(*ssn) && !self.is_out(*ssn)),
+        }
+    }
+
+    /// Takes memory for one change: the next one that is absorbed isn't refused.
+    pub fn make_room(&mut self) -> Result<(), Memory>
+        ensures routing { self.new.routing ≡ self.old.routing }
+        ensures edition { self.new.edition ≡ self.old.edition }
+        ensures room { OnOk result (IsTrue self.new.has_room) }
+    {
+        self.rows.make_room()?;
+        self.barred_points.reserve(1)?;
+        self.barred_subsystems.reserve(1)?;
+        self.out_of_service.reserve(1)?;
+        Ok(())
+    }
+
+    #[tactic(auto, unfolding(crate::specs::Changes::changed))]
+    fn add_row(&mut self, row: &Row) -> Result<(), Memory>
+        requires { add_refusal self.old.routing.rows row.now ≡ None }
+        ensures ok { OnOk result (self.new.routing ≡ changed self.old.routing (change.AddRow row.now)) }
+        ensures err { OnErr result (self.new.routing ≡ self.old.routing) }
+        ensures edition { self.new.edition ≡ self.old.edition }
+        ensures memory { IsTrue self.old.has_room → IsOk result }
+    {
+        match self.rows.add(*row) {
+            Ok(()) => Ok(()),
+            Err(_) => Err(Memory),
+        }
+    }
+
+    #[tactic(auto, unfolding(crate::specs::Changes::changed))]
+    fn bar_subsystem(&mut self, point: Pc, ssn: Ssn) -> Result<(), Memory>
+        ensures ok { OnOk result (self.new.routing ≡ changed self.old.routing (change.BarSub point ssn)) }
+        ensures err { OnErr result (self.new.routing ≡ self.old.routing) }
+        ensures edition { self.new.edition ≡ self.old.edition }
+        ensures memory { IsTrue self.old.has_room → IsOk result }
+    {
+        put(&mut self.barred_subsystems, &RemoteSubsystem { point, ssn })
+    }
+
+    /// Makes a change that alters the routing data.
+    #[tactic(auto, unfolding(crate::specs::Changes::changed, crate::specs::Changes::verdict_on, gtt_table::specs::Adding::add_refusal))]
+    fn apply(&mut self, change: &Change) -> Result<(), Memory>
+        requires { verdict_on self.old.routing change.now ≡ verdict.Alters }
+        ensures ok { OnOk result (self.new.routing ≡ changed self.old.routing change.now) }
+        ensures err { OnErr result (self.new.routing ≡ self.old.routing) }
+        ensures edition { self.new.edition ≡ self.old.edition }
+        ensures memory { IsTrue self.old.has_room → IsOk result }
+    {
+        match change {
+            Change::AddRow(row) => return self.add_row(row),
+            Change::DelRow(selector, prefix) => {
+                let _ = self.rows.remove(selector, prefix);
+            }
+            Change::BarPoint(point) => return put(&mut self.barred_points, point),
+            Change::FreePoint(point) => take_point_out(&mut self.barred_points, *point),
+            Change::BarSub(point, ssn) => return self.bar_subsystem(*point, *ssn),
+            Change::FreeSub(point, ssn) => take_subsystem_out(
+                &mut self.barred_subsystems,
+                *point,
+                *ssn,
+            ),
+            Change::LocalUp(ssn) => take_user_out(&mut self.out_of_service, *ssn),
+            Change::LocalDown(ssn) => return put(&mut self.out_of_service, ssn),
+        }
+        Ok(())
+    }
+
+    /// Raises the edition by one, and makes the change where it alters the routing data. After want of memory all is as before.
+    #[tactic(auto, unfolding(crate::specs::Changes::plant_after))]
+    pub fn absorb(&mut self, change: &Change) -> Result<(), Memory>
+        requires { self.old.edition + 1 < 2 ^ 64 }
+        ensures routing { OnOk result (self.new.routing ≡ plant_after self.old.routing change.now) }
+        ensures edition { OnOk result (self.new.edition ≡ self.old.edition + 1) }
+        ensures err { OnErr result ((self.new.routing ≡ self.old.routing) × (self.new.edition ≡ self.old.edition)) }
+        ensures memory { IsTrue self.old.has_room → IsOk result }
+    {
+        if self.verdict(change) == Verdict::Alters {
+            self.apply(change)?;
+        }
+        self.edition += 1;
+        Ok(())
+    }
+
+    /// Whether this entity is available, and else why not.
+    #[tactic(auto, unfolding(crate::specs::Routing::availability_of))]
+    pub fn stands(&self, entity: &Entity) -> Result<(), RouteCause>
+        ensures { result ≡ availability_of self.now.routing entity.now }
+    {
+        if entity.point == self.own {
+            return match entity.ssn {
+                Some(ssn) if !self.is_user(ssn) => Err(RouteCause::Unequipped),
+                Some(ssn) if self.is_out(ssn) => Err(RouteCause::SubsystemBarred),
+                Some(_) => Ok(()),
+                None => Err(RouteCause::Unequipped),
+            };
+        }
+        if self.is_barred_point(entity.point) {
+            Err(RouteCause::PointBarred)
+        } else if entity.on_ssn && self.is_barred_at(entity.point, entity.ssn) {
+            Err(RouteCause::SubsystemBarred)
         } else {
+            Ok(())
+        }
+    }
+
+    #[tactic(auto, unfolding(crate::specs::Routing::local_answer))]
+    fn local(&self, ssn: Ssn) -> Answer
+        ensures { result ≡ local_answer self.now.routing ssn }
+    {
+        if !self.is_user(ssn) {
             Answer::Refused {
                 cause: RouteCause::Unequipped,
                 local: None,
             }
+        } else if self.is_out(ssn) {
+            Answer::Refused {
+                cause: RouteCause::SubsystemBarred,
+                local: Some(ssn),
+            }
+        } else {
+            Answer::Local(ssn)
         }
     }
 
-    /// The answer for an address that routes on SSN.
+    fn remote(&self, point: Pc, ssn: Option<Ssn>, hop: Option<u8>) -> Answer
+        ensures { result ≡ remote_answer self.now.routing point ssn hop }
+    {
+        if self.is_barred_point(point) {
+            return Answer::Refused {
+                cause: RouteCause::PointBarred,
+                local: None,
+            };
+        }
+        if self.is_barred_at(point, ssn) {
+            return Answer::Refused {
+                cause: RouteCause::SubsystemBarred,
+                local: None,
+            };
+        }
+        Answer::Forward {
+            dpc: point,
+            rewrite: Rewrite::Keep,
+            hop,
+        }
+    }
+
+    /// The answer for an address that routes on its subsystem number.
+    #[tactic(auto, unfolding(crate::specs::Routing::route_of, crate::specs::Routing::ssn_answer))]
     pub fn answer(&self, ask: &Ask<'_>) -> Answer
-        requires { IsTrue ask.now.called.now.on_ssn }
-        ensures { result ≡ answer_of self.now ask.now.called.now.point ask.now.called.now.ssn ask.now.hop ask.now.origin }
+        requires { IsTrue ask.now.called.on_ssn }
+        ensures { result ≡ route_of self.now.routing (seen ask.now.called) ask.now.hop ask.now.origin }
     {
         match (ask.origin, ask.called.point) {
-            (Origin::User, Some(point)) if point != self.own => Answer::Forward {
-                dpc: point,
-                rewrite: Rewrite::Keep,
-                hop: ask.hop,
-            },
-            _ => self.local(ask.called.ssn),
+            (Origin::User, Some(point)) if point != self.own => {
+                self.remote(point, ask.called.ssn, ask.hop)
+            }
+            _ => self.local(ask.called.ssn.unwrap_or(Ssn::from(0))),
         }
+    }
+}
+
+fn alters_if(alters: bool) -> Verdict
+    ensures { result ≡ alters_if alters }
+{
+    if alters {
+        Verdict::Alters
+    } else {
+        Verdict::Same
     }
 }

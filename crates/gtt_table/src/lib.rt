@@ -1,0 +1,10 @@
+//! The rows of global title translation (Q.714, translation function), and the search among them.
+#![tactic(auto)]
+
+mod row;
+mod table;
+#[cfg(test)]
+mod tests;
+
+pub use row::{Entity, Row};
+pub use table::{AddFault, Look, NoSuchRow, Table};

@@ -1,0 +1,56 @@
+-- What changes do to the routing data.
+use Rattle.std.specs.Prelude.{ℕ, ◌==◌, ◌&&◌, nat_le, not, Bool, true, false, List, [], ◌∷◌, ◌++◌, length, filter, if◌then◌else◌}
+use Rattle.gtt_table.specs.Rows.{has_row, without}
+use Rattle.plant_core.specs.declared.change.Change.{Change}
+use Rattle.plant_core.specs.declared.change.Change.TheVariants.{AddRow, DelRow, BarPoint, FreePoint, BarSub, FreeSub, LocalUp, LocalDown}
+use Rattle.plant_core.specs.declared.change.Verdict.{Verdict}
+use Rattle.plant_core.specs.declared.change.Verdict.TheVariants.{Alters, Same, Duplicate, RowsFull, NoRow}
+use Rattle.plant_core.specs.Plant.{RoutingData, is_among, is_same_subsystem, is_barred_subsystem, is_in_service}
+
+abbrev pub alters_if : Bool → Verdict
+alters_if b = if b then Alters else Same
+
+-- what a change would do
+unfoldable pub verdict_on : RoutingData → Change → Verdict
+verdict_on p (AddRow row) =
+    if has_row row.selector row.prefix p.rows then Duplicate
+    else if nat_le 4096 (length p.rows) then RowsFull
+    else Alters
+verdict_on p (DelRow selector prefix) = if has_row selector prefix p.rows then Alters else NoRow
+verdict_on p (BarPoint point) = alters_if (not (is_among point p.barred_points))
+verdict_on p (FreePoint point) = alters_if (is_among point p.barred_points)
+verdict_on p (BarSub point ssn) = alters_if (not (is_barred_subsystem p point ssn))
+verdict_on p (FreeSub point ssn) = alters_if (is_barred_subsystem p point ssn)
+verdict_on p (LocalUp ssn) = alters_if (is_among ssn p.users && is_among ssn p.out_of_service)
+verdict_on p (LocalDown ssn) = alters_if (is_in_service p ssn)
+
+-- the numbers but for this one
+abbrev pub but_for : ℕ → List ℕ → List ℕ
+but_for n list = filter (λ x. not (x == n)) list
+
+-- a change that alters adds to one list or takes from it
+unfoldable pub changed : RoutingData → Change → RoutingData
+changed p (AddRow row) = record p { rows = p.rows ++ row ∷ [] }
+changed p (DelRow selector prefix) = record p { rows = without selector prefix p.rows }
+changed p (BarPoint point) = record p { barred_points = p.barred_points ++ point ∷ [] }
+changed p (FreePoint point) = record p { barred_points = but_for point p.barred_points }
+changed p (BarSub point ssn) = record p { barred_subsystems = p.barred_subsystems ++ record { point = point; ssn = ssn } ∷ [] }
+changed p (FreeSub point ssn) = record p { barred_subsystems = filter (λ x. not (is_same_subsystem point ssn x)) p.barred_subsystems }
+changed p (LocalUp ssn) = record p { out_of_service = but_for ssn p.out_of_service }
+changed p (LocalDown ssn) = record p { out_of_service = p.out_of_service ++ ssn ∷ [] }
+
+abbrev pub is_alters : Verdict → Bool
+is_alters Alters = true
+is_alters Same = false
+is_alters Duplicate = false
+is_alters RowsFull = false
+is_alters NoRow = false
+
+-- a change that doesn't alter leaves the lists as they are
+unfoldable pub plant_after : RoutingData → Change → RoutingData
+plant_after p change = if is_alters (verdict_on p change) then changed p change else p
+
+-- the routing data after changes, in order
+abbrev pub plant_after_all : RoutingData → List Change → RoutingData
+plant_after_all p [] = p
+plant_after_all p (change ∷ changes) = plant_after_all (plant_after p change) changes

@@ -1,0 +1,31 @@
+//! The called address as it leaves.
+ghost use Rattle.std.specs.Prelude.{◌≡◌, IfOk, Ok};
+ghost use Rattle.sccp_address.specs.Form.{seen};
+ghost use Rattle.sccp_address.specs.Parsing.{address_of, IsInForm};
+ghost use Rattle.sccp_address.specs.Spelling.{address_spelling};
+ghost use Rattle.plant_core.specs.Rewriting.{address_after};
+
+use crate::answer::Rewrite;
+use relay_base::{Memory, Octets};
+use sccp_address::{Address, spell};
+use std::alloc::Global;
+
+/// The octets of a called address, in form, as it leaves.
+pub fn rewritten(alloc: Global, called: &Address<'_>, rewrite: &Rewrite) -> Result<Octets, Memory>
+    requires { IsInForm (seen called.now) }
+    ensures value { IfOk result (λ o. o ≡ address_spelling (address_after (seen called.now) rewrite.now)) }
+    ensures read_back { IfOk result (λ o. address_of o ≡ Ok (address_after (seen called.now) rewrite.now)) }
+{
+    match rewrite {
+        Rewrite::Keep => spell(alloc, called),
+        Rewrite::Set { ssn, on_ssn } => {
+            let leaving = Address {
+                point: None,
+                ssn: ssn.or(called.ssn),
+                title: called.title.copied(),
+                on_ssn: *on_ssn,
+            };
+            spell(alloc, &leaving)
+        }
+    }
+}

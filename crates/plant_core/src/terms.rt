@@ -1,0 +1,46 @@
+//! What a lane is told at its start.
+use relay_base::Pc;
+
+/// The ticks of each timer (Q.714, timers), and those of this node's own: for freezing a reference, and for a repeated release.
+#[derive(Clone, Copy, Debug, PartialEq, Eq)]
+pub struct Ticks {
+    /// T(conn est), 1 to 65,535.
+    pub connect: u32,
+    /// T(ias), 60 to 65,535.
+    pub ias: u32,
+    /// T(iar), 1 to 65,535.
+    pub iar: u32,
+    /// T(rel), 1 to 65,535.
+    pub rel: u32,
+    /// T(repeat rel), 5 to 65,535.
+    pub repeat: u32,
+    /// T(int), 1 to 65,535.
+    pub int: u32,
+    /// T(reset), 1 to 65,535.
+    pub reset: u32,
+    /// T(reassembly), 1 to 65,535.
+    pub reassembly: u32,
+    /// How long a local reference is frozen, 1 to 65,535.
+    pub freeze: u32,
+    /// T(stat info) at first, 1 to 65,535.
+    pub status: u32,
+    /// T(stat info) at most, `status` to 65,535.
+    pub status_max: u32,
+    /// T(coord chg), 1 to 65,535.
+    pub coord: u32,
+}
+
+/// What a connection is opened with: the own point code, the greatest credit (1 to 127), and the ticks.
+#[derive(Clone, Copy, Debug, PartialEq, Eq)]
+pub struct Terms {
+    pub own: Pc,
+    pub credit: u8,
+    pub ticks: Ticks,
+}
+
+/// What a lane is made with: the terms of its connections, and the ticks of a reassembly (1 to 65,535).
+#[derive(Clone, Copy, Debug, PartialEq, Eq)]
+pub struct LaneHead {
+    pub terms: Terms,
+    pub reassembly: u32,
+}

@@ -1,0 +1,110 @@
+//! The answer for a called address.
+ghost use Rattle.std.specs.Prelude.{◌≡◌, None};
+ghost use Rattle.sccp_address.specs.Form.{seen};
+ghost use Rattle.plant_core.specs.declared.answer.Answer.TheVariants.{Refused};
+ghost use Rattle.plant_core.specs.Routing.{own_answer, entity_answer, either_answer, row_answer, title_answer, route_of};
+
+use gtt_table::{Entity, Look, Row};
+use plant_core::{Answer, Ask, Origin, Plant, Rewrite, RouteCause};
+use relay_base::Ssn;
+use sccp_address::{Address, Title, selector};
+
+fn refused(cause: RouteCause) -> Answer
+    ensures { result ≡ Refused cause None }
+{
+    Answer::Refused { cause, local: None }
+}
+
+/// Where an entity at the own point leads.
+#[tactic(auto, unfolding(plant_core::specs::Routing::route_of, plant_core::specs::Routing::ssn_answer))]
+fn at_own_point(plant: &Plant, ssn: Option<Ssn>) -> Answer
+    ensures { result ≡ own_answer plant.now.routing ssn }
+{
+    if ssn.is_none() {
+        return refused(RouteCause::Unequipped);
+    }
+    plant.answer(&Ask {
+        called: Address {
+            point: None,
+            ssn,
+            title: Title::Absent,
+            on_ssn: true,
+        },
+        hop: None,
+        origin: Origin::Network,
+    })
+}
+
+/// Where an entity leads.
+#[tactic(auto, unfolding(plant_core::specs::Routing::entity_answer, plant_core::specs::Routing::availability_of))]
+fn at_entity(plant: &Plant, hop: Option<u8>, entity: &Entity) -> Answer
+    ensures { result ≡ entity_answer plant.now.routing hop entity.now }
+{
+    if entity.point == plant.own() {
+        return at_own_point(plant, entity.ssn);
+    }
+    match plant.stands(entity) {
+        Ok(()) => Answer::Forward {
+            dpc: entity.point,
+            rewrite: Rewrite::Set {
+                ssn: entity.ssn,
+                on_ssn: entity.on_ssn,
+            },
+            hop,
+        },
+        Err(cause) => refused(cause),
+    }
+}
+
+/// The first entity that is available; where none is, the refusal of the first.
+fn at_either(plant: &Plant, hop: Option<u8>, row: &Row) -> Answer
+    ensures { result ≡ either_answer plant.now.routing hop row.now.first row.now.second }
+{
+    if let Some(second) = &row.second {
+        if plant.stands(&row.first).is_err() && plant.stands(second).is_ok() {
+            return at_entity(plant, hop, second);
+        }
+    }
+    at_entity(plant, hop, &row.first)
+}
+
+/// Where a row leads, once the hop counter is lowered.
+fn at_row(plant: &Plant, hop: Option<u8>, row: &Row) -> Answer
+    ensures { result ≡ row_answer plant.now.routing hop row.now }
+{
+    match hop {
+        None => at_either(plant, None, row),
+        Some(hop) if hop < 2 || hop > 15 => refused(RouteCause::Hop),
+        Some(hop) => at_either(plant, Some(hop - 1), row),
+    }
+}
+
+/// The answer for an address that routes on its title.
+#[tactic(auto, unfolding(plant_core::specs::Routing::title_answer))]
+fn on_title(plant: &Plant, called: &Address<'_>, hop: Option<u8>) -> Answer
+    ensures { result ≡ title_answer plant.now.routing (seen called.now).title hop }
+{
+    let Some((selector, digits)) = selector(called) else {
+        return refused(RouteCause::NoNature);
+    };
+    match plant.look(&selector, &digits) {
+        Look::NoSelector => refused(RouteCause::NoNature),
+        Look::NoPrefix => refused(RouteCause::NoAddress),
+        Look::Row(row) => at_row(plant, hop, row),
+    }
+}
+
+/// The answer of the routing data for a called address, with its hop counter where it has one.
+#[tactic(auto, unfolding(plant_core::specs::Routing::route_of))]
+pub fn route(plant: &Plant, called: &Address<'_>, hop: Option<u8>, origin: Origin) -> Answer
+    ensures { result ≡ route_of plant.now.routing (seen called.now) hop origin }
+{
+    if !called.on_ssn {
+        return on_title(plant, called, hop);
+    }
+    plant.answer(&Ask {
+        called: called.copied(),
+        hop,
+        origin,
+    })
+}

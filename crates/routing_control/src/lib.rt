@@ -1,0 +1,8 @@
+//! Routing control (Q.714, SCCP routing control): where a called address leads.
+#![tactic(auto)]
+
+mod control;
+#[cfg(test)]
+mod tests;
+
+pub use control::route;

@@ -1,0 +1,4 @@
+pub mod DigitLemmas
+pub mod TitleLemmas
+pub mod ResultLemmas
+pub mod SpellingLaw

@@ -1,0 +1,22 @@
+-- Digits in binary coded decimal: two in an octet, the first one in its low half (Q.713, global title).
+use Rattle.std.specs.Prelude.{ℕ, ◌+◌, ◌-◌, ◌*◌, ◌/◌, ◌%◌, ◌==◌, Bool, List, [], ◌∷◌, length, take, slice_index, if◌then◌else◌}
+
+-- the halves of octets, each octet's low half first
+abbrev pub halves : List ℕ → List ℕ
+halves [] = []
+halves (octet ∷ rest) = octet % 16 ∷ octet / 16 ∷ halves rest
+
+-- the half at a place
+abbrev pub nibble_at : List ℕ → ℕ → ℕ
+nibble_at octets place =
+    if place % 2 == 0 then slice_index octets (place / 2) % 16 else slice_index octets (place / 2) / 16
+
+-- the digits in octets: an odd number leaves the last half out
+unfoldable pub digits_in : Bool → List ℕ → List ℕ
+digits_in is_odd octets = if is_odd then take (2 * length octets - 1) (halves octets) else halves octets
+
+-- the octets of digits: an odd number leaves the last half 0
+abbrev pub digit_octets : List ℕ → List ℕ
+digit_octets [] = []
+digit_octets (last ∷ []) = last ∷ []
+digit_octets (low ∷ high ∷ rest) = (low + 16 * high) ∷ digit_octets rest
