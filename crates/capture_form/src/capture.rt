@@ -1,13 +1,122 @@
 //! A capture: its head, and its events by phase and link.
-ghost use Rattle.std.specs.Prelude.{◌≡◌, ◌<◌, ◌≤◌, ◌+◌, ◌^◌, [], length, IfOk};
-ghost use Rattle.capture_form.specs.Capture.{Reads, capture_of, IsStamped};
+ghost use Rattle.std.specs.Prelude.{◌≡◌, ◌<◌, ◌≤◌, ◌+◌, ◌^◌, [], length, IfOk, OnOk};
+ghost use Rattle.node_head.specs.Lines.{lines, halves};
+ghost use Rattle.node_head.specs.Head.{begun};
+ghost use Rattle.capture_form.specs.Capture.{Reads, Takes, HeadReads, at_head, reading_from, lines_taken, phases_of, capture_after, capture_within, capture_of, IsStamped};
 
-use crate::reading::PhaseList;
-use node_head::Head;
+use crate::fault::{CaptureFault, Limit};
+use crate::reading::{PhaseList, Reading};
+use crate::steps::{empty_phase, take_line};
+use bstr::{ByteSlice, Lines};
+use node_head::{Head, HeadRefused, take_head};
+use relay_base::Memory;
+use std::alloc::Global;
 
 /// What a capture holds.
 #[derive(Debug, PartialEq, Eq, Drop)]
 pub struct Capture {
     pub head: Head,
     pub phases: PhaseList,
+}
+
+/// The most bytes of an input.
+pub const MOST_BYTES: usize = 67_108_864;
+
+/// The head, how many lines stand before its mark, and the lines after it.
+fn head_part(alloc: Global, lines: &mut Lines<'_>) -> Result<(Head, usize), CaptureFault>
+    requires { length lines.old < 2 ^ 64 }
+    ensures { HeadReads lines.new result (at_head (begun (halves lines.old))) }
+{
+    match take_head(alloc, lines) {
+        Ok(head) => Ok(head),
+        Err(HeadRefused::Fault(fault)) => Err(CaptureFault::Head(fault)),
+        Err(HeadRefused::Memory) => Err(CaptureFault::Memory),
+    }
+}
+
+/// Nothing is read but the head, and the next line has this number.
+fn reading_from(alloc: Global, head: &Head, line: u32) -> Result<Reading, Memory>
+    ensures { IfOk result (λ read. read ≡ reading_from head.now line) }
+{
+    Ok(Reading {
+        phases: PhaseList::new(alloc),
+        current: empty_phase(alloc, head.links)?,
+        phase: 1,
+        line,
+        events: 0,
+    })
+}
+
+/// Reads all lines.
+#[tactic(auto, unfolding(crate::specs::Capture::lines_taken))]
+fn take_lines(
+    alloc: Global,
+    head: &Head,
+    read: &mut Reading,
+    lines: &mut Lines<'_>,
+) -> Result<(), CaptureFault>
+    requires few { read.old.line + length lines.old < 2 ^ 32 }
+    requires links { length read.old.current ≡ head.now.links + 1 }
+    ensures { Takes read.new result (lines_taken head.now read.old lines.old) }
+{
+    while let Some(line) = lines.next() {
+        take_line(alloc, head, read, line)?;
+    }
+    Ok(())
+}
+
+/// The phases that were read.
+fn phases_of(alloc: Global, read: Reading) -> Result<PhaseList, Memory>
+    ensures { IfOk result (λ phases. phases ≡ phases_of read) }
+{
+    if read.events == 0 {
+        return Ok(PhaseList::new(alloc));
+    }
+    let Reading {
+        mut phases,
+        current,
+        ..
+    } = read;
+    phases.push(current)?;
+    Ok(phases)
+}
+
+/// The capture of a head and the lines after it, of which the first has the number `line`.
+fn capture_after(
+    alloc: Global,
+    head: Head,
+    line: u32,
+    lines: &mut Lines<'_>,
+) -> Result<Capture, CaptureFault>
+    requires { line + length lines.old < 2 ^ 32 }
+    ensures { Reads result (capture_after head line lines.old) }
+{
+    let mut read = reading_from(alloc, &head, line)?;
+    take_lines(alloc, &head, &mut read, lines)?;
+    let phases = phases_of(alloc, read)?;
+    Ok(Capture { head, phases })
+}
+
+/// The capture of an input of at most 67,108,864 bytes.
+fn capture_within(alloc: Global, bytes: &[u8]) -> Result<Capture, CaptureFault>
+    requires { length bytes.now ≤ 67108864 }
+    ensures { Reads result (capture_within bytes.now) }
+{
+    let mut lines = bytes.lines();
+    let (head, count) = head_part(alloc, &mut lines)?;
+    capture_after(alloc, head, count as u32 + 2, &mut lines)
+}
+
+/// The capture that an input is, or the first of its faults.
+///
+/// An input has at most 67,108,864 bytes, 200,000 event lines and 1,000 barriers.
+#[tactic(auto, unfolding(crate::specs::Capture::capture_of))]
+pub fn read_capture(alloc: Global, bytes: &[u8]) -> Result<Capture, CaptureFault>
+    ensures value { Reads result (capture_of bytes.now) }
+    ensures stamped { IfOk result (λ c. IsStamped c.head c.phases) }
+{
+    if bytes.len() > MOST_BYTES {
+        return Err(CaptureFault::TooLong(Limit::Bytes));
+    }
+    capture_within(alloc, bytes)
 }

@@ -5,10 +5,16 @@ mod built;
 mod capture;
 mod fault;
 mod line;
+mod note;
 mod reading;
 mod refused;
 mod steps;
 mod text;
 mod words;
 
+pub use capture::{Capture, MOST_BYTES, read_capture};
 pub use fault::{CaptureFault, Limit, LineFault, LineKind};
+pub use journal_text::{Book, print_book};
+pub use note::fault_note;
+pub use reading::{Phase, PhaseList};
+pub use relay_base::StampedList;

@@ -1,7 +1,7 @@
 //! What one line adds to what was read.
 ghost use Rattle.std.specs.Prelude.{◌≡◌, ◌<◌, ◌≤◌, ◌+◌, ◌^◌, ◌++◌, [], ◌∷◌, length, map, replicate, slice_set, slice_index_or, IfOk, OnOk, OnErr, Ok};
 ghost use Rattle.capture_form.specs.Refused.{FaultAt};
-ghost use Rattle.capture_form.specs.Capture.{Reads, Fails, Stamped, is_barrier, is_skipped, empty_phase, phase_ended, event_added, barrier_taken, event_taken, words_taken, line_taken, at_line};
+ghost use Rattle.capture_form.specs.Capture.{Reads, Takes, Fails, Stamped, is_barrier, is_skipped, empty_phase, phase_ended, event_added, barrier_taken, event_taken, words_taken, line_taken, at_line};
 ghost use Rattle.capture_form.specs.Line.{event_of};
 ghost use Rattle.capture_form.specs.Text.{words};
 
@@ -77,10 +77,97 @@ fn event_at(
     line: u32,
     words: &[&[u8]],
 ) -> Result<(u8, Event), CaptureFault>
-    ensures { Reads result (at_line line (event_of head.now (map (λ w. w.now) words.now))) }
+    ensures value { Reads result (at_line line (event_of head.now (map (λ w. w.now) words.now))) }
+    ensures within { IfOk result (λ e. e.0 ≤ head.now.links) }
 {
     match event_of(alloc, head, words) {
         Ok(event) => Ok(event),
         Err(refused) => Err(fault_at(line, refused)),
+    }
+}
+
+/// Ends the phase that stands, and begins the next one.
+fn end_phase(alloc: Global, head: &Head, read: &mut Reading) -> Result<(), CaptureFault>
+    requires { (read.old.phase + 1 < 2 ^ 32) × (read.old.line + 1 < 2 ^ 32) }
+    ensures value { Takes read.new result (Ok (phase_ended head.now read.old)) }
+    ensures kept { OnOk result ((length read.new.current ≡ head.now.links + 1) × (read.new.line ≡ read.old.line + 1)) }
+{
+    let next = empty_phase(alloc, head.links)?;
+    let ended = mem::replace(&mut read.current, next);
+    read.phases.push(ended)?;
+    read.phase += 1;
+    read.line += 1;
+    Ok(())
+}
+
+/// Reads a barrier.
+fn take_barrier(
+    alloc: Global,
+    head: &Head,
+    read: &mut Reading,
+    words: &[&[u8]],
+) -> Result<(), CaptureFault>
+    requires { read.old.line + 1 < 2 ^ 32 }
+    ensures value { Takes read.new result (barrier_taken head.now read.old (map (λ w. w.now) words.now)) }
+    ensures kept { OnOk result ((length read.new.current ≡ head.now.links + 1) × (read.new.line ≡ read.old.line + 1)) }
+{
+    if read.phase > MOST_BARRIERS {
+        return Err(CaptureFault::TooLong(Limit::Barriers));
+    }
+    if words.len() != 1 {
+        return Err(fault_at(read.line, LineRefused::Kind(LineKind::Words)));
+    }
+    end_phase(alloc, head, read)
+}
+
+/// Reads an event line.
+fn take_event(
+    alloc: Global,
+    head: &Head,
+    read: &mut Reading,
+    words: &[&[u8]],
+) -> Result<(), CaptureFault>
+    requires line { read.old.line + 1 < 2 ^ 32 }
+    requires links { length read.old.current ≡ head.now.links + 1 }
+    ensures value { Takes read.new result (event_taken head.now read.old (map (λ w. w.now) words.now)) }
+    ensures kept { OnOk result ((length read.new.current ≡ head.now.links + 1) × (read.new.line ≡ read.old.line + 1)) }
+{
+    if read.events >= MOST_LINES {
+        return Err(CaptureFault::TooLong(Limit::Lines));
+    }
+    let (link, event) = event_at(alloc, head, read.line, words)?;
+    let stamp = Stamp {
+        phase: read.phase,
+        link,
+        line: read.line,
+    };
+    put(alloc, &mut read.current, usize::from(link), (stamp, event))?;
+    read.events += 1;
+    read.line += 1;
+    Ok(())
+}
+
+/// Reads a line.
+#[tactic(auto, unfolding(crate::specs::Capture::line_taken))]
+pub fn take_line(
+    alloc: Global,
+    head: &Head,
+    read: &mut Reading,
+    line: &[u8],
+) -> Result<(), CaptureFault>
+    requires line { read.old.line + 1 < 2 ^ 32 }
+    requires links { length read.old.current ≡ head.now.links + 1 }
+    ensures value { Takes read.new result (line_taken head.now read.old line.now) }
+    ensures kept { OnOk result ((length read.new.current ≡ head.now.links + 1) × (read.new.line ≡ read.old.line + 1)) }
+{
+    if is_skipped(line) {
+        read.line += 1;
+        return Ok(());
+    }
+    let words = split_words(alloc, line)?;
+    if is_barrier(words.as_slice()) {
+        take_barrier(alloc, head, read, words.as_slice())
+    } else {
+        take_event(alloc, head, read, words.as_slice())
     }
 }

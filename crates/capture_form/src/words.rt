@@ -1,5 +1,5 @@
 //! What the words of a line state.
-ghost use Rattle.std.specs.Prelude.{◌≡◌, codes, false, is_ok};
+ghost use Rattle.std.specs.Prelude.{◌≡◌, ◌≤◌, codes, false, is_ok, IfOk};
 ghost use Rattle.capture_form.specs.Text.{is_dash, number_of};
 ghost use Rattle.capture_form.specs.Words.{below, link_of, user_of, octets_of, address_in, called_of, calling_of, body_of, return_of};
 ghost use Rattle.capture_form.specs.Refused.{States};
@@ -24,7 +24,8 @@ pub fn below<const LIMIT: u32>(word: &[u8]) -> Result<Below<LIMIT>, LineKind>
 
 /// A link, from 1.
 pub fn link(links: u8, word: &[u8]) -> Result<u8, LineKind>
-    ensures { result ≡ link_of links word.now }
+    ensures value { result ≡ link_of links word.now }
+    ensures within { IfOk result (λ n. n ≤ links) }
 {
     match number(word) {
         Some(n) if 1 <= n && n <= u64::from(links) => Ok(n as u8),
