@@ -1,6 +1,7 @@
 //! A capture: its head, and its events by phase and link.
-ghost use Rattle.std.specs.Prelude.{◌≡◌, ◌<◌, ◌≤◌, ◌+◌, ◌^◌, [], length, IfOk, OnOk};
+ghost use Rattle.std.specs.Prelude.{◌≡◌, ◌<◌, ◌≤◌, ◌+◌, ◌^◌, [], length, IsTrue, IfOk, OnOk};
 ghost use Rattle.node_head.specs.Lines.{lines, halves};
+ghost use Rattle.node_head.specs.Addable.{are_addable};
 ghost use Rattle.node_head.specs.Head.{begun};
 ghost use Rattle.capture_form.specs.Capture.{Reads, Takes, HeadReads, at_head, reading_from, lines_taken, phases_of, capture_after, capture_within, capture_of, IsStamped};
 
@@ -25,7 +26,8 @@ pub const MOST_BYTES: usize = 67_108_864;
 /// The head, how many lines stand before its mark, and the lines after it.
 fn head_part(alloc: Global, lines: &mut Lines<'_>) -> Result<(Head, usize), CaptureFault>
     requires { length lines.old < 2 ^ 64 }
-    ensures { HeadReads lines.new result (at_head (begun (halves lines.old))) }
+    ensures value { HeadReads lines.new result (at_head (begun (halves lines.old))) }
+    ensures addable { IfOk result (λ h. IsTrue (are_addable [] h.0.row)) }
 {
     match take_head(alloc, lines) {
         Ok(head) => Ok(head),
@@ -89,7 +91,8 @@ fn capture_after(
     lines: &mut Lines<'_>,
 ) -> Result<Capture, CaptureFault>
     requires { line + length lines.old < 2 ^ 32 }
-    ensures { Reads result (capture_after head line lines.old) }
+    ensures value { Reads result (capture_after head line lines.old) }
+    ensures head { IfOk result (λ c. c.head ≡ head) }
 {
     let mut read = reading_from(alloc, &head, line)?;
     take_lines(alloc, &head, &mut read, lines)?;
@@ -100,7 +103,8 @@ fn capture_after(
 /// The capture of an input of at most 67,108,864 bytes.
 fn capture_within(alloc: Global, bytes: &[u8]) -> Result<Capture, CaptureFault>
     requires { length bytes.now ≤ 67108864 }
-    ensures { Reads result (capture_within bytes.now) }
+    ensures value { Reads result (capture_within bytes.now) }
+    ensures addable { IfOk result (λ c. IsTrue (are_addable [] c.head.row)) }
 {
     let mut lines = bytes.lines();
     let (head, count) = head_part(alloc, &mut lines)?;
@@ -114,6 +118,7 @@ fn capture_within(alloc: Global, bytes: &[u8]) -> Result<Capture, CaptureFault>
 pub fn read_capture(alloc: Global, bytes: &[u8]) -> Result<Capture, CaptureFault>
     ensures value { Reads result (capture_of bytes.now) }
     ensures stamped { IfOk result (λ c. IsStamped c.head c.phases) }
+    ensures addable { IfOk result (λ c. IsTrue (are_addable [] c.head.row)) }
 {
     if bytes.len() > MOST_BYTES {
         return Err(CaptureFault::TooLong(Limit::Bytes));

@@ -1,5 +1,6 @@
 //! The head of an input.
-ghost use Rattle.std.specs.Prelude.{◌≡◌, ◌<◌, ◌^◌, [], length, IfOk, option_map, codes};
+ghost use Rattle.std.specs.Prelude.{◌≡◌, ◌<◌, ◌^◌, [], length, IsTrue, IfOk, option_map, codes};
+ghost use Rattle.node_head.specs.Addable.{are_addable};
 ghost use Rattle.node_head.specs.Head.{Reads, Refuses, fault, begun, head_of};
 ghost use Rattle.node_head.specs.Lines.{lines, halves, extended};
 
@@ -13,7 +14,8 @@ use std::alloc::Global;
 /// Takes the lines of a head and the mark `%%` that ends it, and gives the head and how many lines stand before the mark.
 pub fn take_head(alloc: Global, lines: &mut Lines<'_>) -> Result<(Head, usize), HeadRefused>
     requires { length lines.old < 2 ^ 64 }
-    ensures { Reads (λ h. (h.0, h.1, lines.new)) result (begun (halves lines.old)) }
+    ensures value { Reads (λ h. (h.0, h.1, lines.new)) result (begun (halves lines.old)) }
+    ensures addable { IfOk result (λ h. IsTrue (are_addable [] h.0.row)) }
 {
     let Some(head) = take_text(alloc, lines)? else {
         return Err(refuse(alloc, HeadKind::End, "-"));
@@ -26,7 +28,8 @@ pub fn take_head(alloc: Global, lines: &mut Lines<'_>) -> Result<(Head, usize), 
 /// The head of an input, or the first of its faults.
 #[tactic(auto, unfolding(crate::specs::Head::head_of))]
 pub fn read_head(alloc: Global, bytes: &[u8]) -> Result<Head, HeadRefused>
-    ensures { Reads (λ h. h) result (head_of bytes.now) }
+    ensures value { Reads (λ h. h) result (head_of bytes.now) }
+    ensures addable { IfOk result (λ h. IsTrue (are_addable [] h.row)) }
 {
     let mut lines = bytes.lines();
     let (head, _) = take_head(alloc, &mut lines)?;

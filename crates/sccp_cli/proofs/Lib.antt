@@ -1,3 +1,3 @@
-pub mod OwnLemmas
 pub mod OutcomeLemmas
-pub mod RightLemmas
+pub mod OwnLemmas
+pub mod RunLemmas

@@ -6,7 +6,7 @@ use Rattle.std.specs.Io.KnownBytes.{Consumes, Appends}
 use Rattle.relay_base.specs.Causes.{Rose, HasCause}
 use Rattle.relay_base.specs.Streams.{TookMore, AppendedPart}
 use Rattle.relay_base.specs.declared.errors.Failed.{Failed}
-use Rattle.capture_form.specs.declared.book.Book.{Book}
+use Rattle.journal_text.specs.declared.book.Book.{Book}
 use Rattle.capture_form.specs.Capture.{capture_of}
 use Rattle.capture_form.specs.declared.fault.CaptureFault.TheVariants as refused
 use Rattle.capture_form.specs.declared.fault.Limit.TheVariants as limit

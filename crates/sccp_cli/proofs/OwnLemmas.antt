@@ -3,7 +3,8 @@ use Rattle.std.proofs.Common.{◌≡◌, ℕ, zero, suc, ◌+◌, ◌≤◌, ◌
 use Rattle.std.specs.Prelude.{◌≢◌, filter}
 use Rattle.std.specs.List.{AllByRecursion, flat_map}
 use Rattle.std.specs.List.Sorted.{IsNonDecreasingBy}
-use Rattle.std.proofs.lemmas.Bool.{and_parts, eqb-true, cases_Bool}
+use Rattle.std.proofs.lemmas.Bool.{eqb-true, cases_Bool}
+use Rattle.std.proofs.lemmas.Bool.Decides.{nat_tests}
 use Rattle.std.proofs.lemmas.List.Elements.{filter-append, All-from_recursion}
 use Rattle.relay_base.specs.declared.words.Event.{Event}
 use Rattle.relay_base.specs.declared.words.Stamp.{Stamp}
@@ -21,13 +22,16 @@ differs a b h =
       | inr e ↦ e
     ]
 
+same_number : (n : ℕ) → (n == n) ≡ true
+same_number n = grind (arith, nat_tests)
+
 and_false : (t : Bool) → (t && false) ≡ false
 and_false true = refl
 and_false false = refl
 
 -- a pair stands where its stamp says, and nowhere else
 here : (phase link : ℕ) (e : Stamp × Event) → IsOf phase link e → is_at phase link e ≡ true
-here phase link e h = rw (h.0, h.1) refl
+here phase link e h = rw (h.0, h.1, same_number phase, same_number link) refl
 
 other_phase : (phase k : ℕ) (e : Stamp × Event) → e.0.phase ≢ phase → is_at phase k e ≡ false
 other_phase phase k e h = rw (differs e.0.phase phase h) refl

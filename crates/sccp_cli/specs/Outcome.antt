@@ -12,14 +12,14 @@ use Rattle.capture_form.specs.declared.fault.LineFault.{LineFault}
 use Rattle.capture_form.specs.declared.fault.Limit.{Limit}
 use Rattle.capture_form.specs.declared.fault.Limit.TheVariants as limit
 use Rattle.capture_form.specs.declared.capture.Capture.{Capture}
-use Rattle.capture_form.specs.declared.book.Book.{Book}
-use Rattle.capture_form.specs.Book.{IsEmpty}
+use Rattle.journal_text.specs.declared.book.Book.{Book}
+use Rattle.journal_text.specs.Book.{IsEmpty}
 use Rattle.capture_form.specs.Capture.{capture_of}
 use Rattle.capture_form.specs.Note.{fault_note}
-use Rattle.capture_form.specs.Print.{book_text}
+use Rattle.journal_text.specs.Print.{book_text}
 use Rattle.sccp_cli.specs.declared.relay.Stop.{Stop}
 use Rattle.sccp_cli.specs.declared.relay.Stop.TheVariants as stop
-use Rattle.sccp_cli.specs.Right.{Right}
+use Rattle.sccp_cli.specs.Right.{IsRight}
 
 -- the words are the one word `run`
 abbrev pub is_run : List (List ℕ) → Bool
@@ -61,11 +61,11 @@ Untouched held now book = Keeps held now × IsEmpty book
 
 -- the book is right, and all of its print was written
 abbrev pub Filled : Bytes → Bytes → Capture → Book → Type 0
-Filled held now capture book = Right capture.head capture.phases book × Appends held now (book_text book)
+Filled held now capture book = IsRight capture.head capture.phases book × Appends held now (book_text book)
 
 -- the book is right, and a part of its print was written
 abbrev pub FilledPartly : Bytes → Bytes → Capture → Book → Type 0
-FilledPartly held now capture book = Right capture.head capture.phases book × AppendedPart held now (book_text book)
+FilledPartly held now capture book = IsRight capture.head capture.phases book × AppendedPart held now (book_text book)
 
 -- the input was read to its end, the book is right, and all of its print was written
 abbrev pub Done : Bytes → Bytes → Bytes → Bytes → Book → Type 0

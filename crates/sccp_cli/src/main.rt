@@ -1,7 +1,6 @@
 //! The node: reads a capture, runs it, and prints its journals.
 #![tactic(auto)]
 
-mod lane;
 mod relay;
 mod run;
 #[cfg(test)]

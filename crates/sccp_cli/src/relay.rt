@@ -1,11 +1,12 @@
 //! The top call.
-ghost use Rattle.std.specs.Prelude.{◌≡◌, ◌≢◌, ◌<◌, ◌≤◌, ◌⊎◌, ◌↔◌, IfOk, IfErr, IfSome, OnOk, OnErr, Ok, Err, map, string_bytes, true, false, length};
+ghost use Rattle.std.specs.Prelude.{◌≡◌, ◌≢◌, ◌<◌, ◌≤◌, ◌⊎◌, ◌↔◌, IfOk, IfErr, IfSome, OnOk, OnErr, Ok, Err, IsTrue, [], map, string_bytes, true, false, length};
 ghost use Rattle.std.specs.Io.KnownBytes.{Appends, Keeps};
 ghost use Rattle.relay_base.specs.Causes.{Rose};
-ghost use Rattle.capture_form.specs.Book.{IsEmpty};
+ghost use Rattle.journal_text.specs.Book.{IsEmpty};
+ghost use Rattle.node_head.specs.Addable.{are_addable};
 ghost use Rattle.capture_form.specs.Capture.{capture_of};
-ghost use Rattle.capture_form.specs.Print.{book_text};
-ghost use Rattle.sccp_cli.specs.Right.{IsStamped};
+ghost use Rattle.journal_text.specs.Print.{book_text};
+ghost use Rattle.capture_form.specs.Capture.{IsStamped};
 ghost use Rattle.sccp_cli.specs.Outcome.{ReadAs, Refused, Untouched, Partly, Filled, Done, DonePartly, PassesLimit, Stands, Stopped, IsHeadFault, IsLineFault, Says, note_of, status_of, plain_note, IsDue, is_run};
 
 use crate::run::run_capture;
@@ -49,7 +50,8 @@ fn refusal(alloc: Global, fault: CaptureFault) -> Stop
 /// The capture that the source gives.
 fn take_capture<S: Source>(alloc: Global, source: &mut S) -> Result<Capture, Stop>
     ensures ok { IfOk result (λ capture. ReadAs (S.left source.old) (S.left source.new) (λ parts. parts ≡ Ok capture)) }
-    ensures stamped { IfOk result (λ capture. IsStamped capture.phases) }
+    ensures stamped { IfOk result (λ capture. IsStamped capture.head capture.phases) }
+    ensures addable { IfOk result (λ capture. IsTrue (are_addable [] capture.head.row)) }
     ensures refused { IfErr result (Refused (S.left source.old) (S.left source.new)) }
     ensures fault { result ≡ Err Stop.ReadFault → Rose (S.faults source.old) (S.faults source.new) }
     ensures kept { result ≢ Err Stop.ReadFault → S.faults source.new ≡ S.faults source.old }
@@ -75,7 +77,8 @@ fn run_and_print<R: Threads + Wait + Sync, K: Sink, P: Pace>(
     pace: &P,
     book: &mut Book,
 ) -> Result<(), Stop>
-    requires stamped { IsStamped capture.now.phases }
+    requires stamped { IsStamped capture.now.head capture.now.phases }
+    requires addable { IsTrue (are_addable [] capture.now.head.row) }
     requires empty { IsEmpty book.old }
     ensures ok { OnOk result (Filled (K.held out.old) (K.held out.new) capture.now book.new) }
     ensures stopped { IfErr result (Partly (K.held out.old) (K.held out.new) capture.now book.new) }

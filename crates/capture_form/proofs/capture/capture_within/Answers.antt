@@ -5,15 +5,15 @@ use Rattle.capture_form.proofs.capture.capture_within.Goals as goal
 pub overflow_cast-count : goal.overflow_cast-count
 overflow_cast-count c =
     let few : c.in_ok-head.count + 2 + length c.head_part.new.lines < 4294967296 =
-    few-lines c.args.bytes.now c.lines-lines.result c.head_part.new.lines c.in_ok-head.head c.in_ok-head.count c.requires c.lines-lines.ensures.value c.in_ok-head.ensures in
+    few-lines c.args.bytes.now c.lines-lines.result c.head_part.new.lines c.in_ok-head.head c.in_ok-head.count c.requires c.lines-lines.ensures.value c.in_ok-head.ensures.value in
     omega arith
 
 pub overflow_add-count : goal.overflow_add-count
 overflow_add-count c =
     let few : c.in_ok-head.count + 2 + length c.head_part.new.lines < 4294967296 =
-    few-lines c.args.bytes.now c.lines-lines.result c.head_part.new.lines c.in_ok-head.head c.in_ok-head.count c.requires c.lines-lines.ensures.value c.in_ok-head.ensures in
+    few-lines c.args.bytes.now c.lines-lines.result c.head_part.new.lines c.in_ok-head.head c.in_ok-head.count c.requires c.lines-lines.ensures.value c.in_ok-head.ensures.value in
     omega arith
 
 pub capture_after-requires : goal.capture_after-requires
 capture_after-requires c =
-    few-lines c.args.bytes.now c.lines-lines.result c.head_part.new.lines c.in_ok-head.head c.in_ok-head.count c.requires c.lines-lines.ensures.value c.in_ok-head.ensures
+    few-lines c.args.bytes.now c.lines-lines.result c.head_part.new.lines c.in_ok-head.head c.in_ok-head.count c.requires c.lines-lines.ensures.value c.in_ok-head.ensures.value

@@ -2,4 +2,4 @@ use Rattle.capture_form.proofs.StampLemmas.{read-stamped}
 use Rattle.capture_form.proofs.capture.read_capture.Goals as goal
 
 pub returns-clause-stamped : goal.returns-clause-stamped
-returns-clause-stamped c = read-stamped c.capture_within.result c.args.bytes.now c.capture_within.ensures
+returns-clause-stamped c = read-stamped c.capture_within.result c.args.bytes.now c.capture_within.ensures.value

@@ -1,10 +1,9 @@
-use Rattle.std.proofs.Common.{sym, subst}
-use Rattle.std.proofs.lemmas.Result.{IfOk-weaker}
-use Rattle.sccp_cli.specs.Right.{Right}
-use Rattle.sccp_cli.proofs.RightLemmas.{Right-book_of}
+use Rattle.std.proofs.Common.{◌∙◌, List, ◌∷◌, [], ap}
+use Rattle.plant_core.specs.declared.entry.Entry.{Entry}
+use Rattle.sccp_cli.proofs.RunLemmas.{right-book}
 use Rattle.sccp_cli.proofs.run.run_capture.Goals as goal
 
 pub returns-clause-ok : goal.returns-clause-ok
 returns-clause-ok g c =
-    let capture = c.args.capture.now in
-    IfOk-weaker c.fill_book.result _ _ (λ _ e. subst (Right capture.head capture.phases) (sym e) (Right-book_of capture c.requires.stamped)) c.fill_book.ensures.ok
+    right-book c.args.capture.now c.in_ok-lane.lane c.into_journal.result (record { control = c.args.book.now.control; conns = c.in_ok-conns.conns; units = c.in_ok-units.units })
+    c.requires.stamped c.in_ok-lane.ensures c.into_journal.ensures.legal c.into_journal.ensures.value c.requires.empty.control (c.in_ok-conns.ensures ∙ ap (λ (journal : List Entry). journal ∷ []) c.new.ensures) c.in_ok-units.ensures

@@ -1,0 +1,7 @@
+//! A data lane: the units that one lane takes, and the journal of what came of them.
+#![tactic(auto)]
+
+mod lane;
+mod units;
+
+pub use lane::DataLane;

@@ -1,0 +1,4 @@
+pub mod CallerCounts
+pub mod PassLists
+pub mod TrialLemmas
+pub mod TurnKeeps

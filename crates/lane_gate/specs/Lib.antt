@@ -1,0 +1,6 @@
+pub mod Gates
+pub mod Passes
+pub mod Plan
+pub mod Rule
+pub mod Trials
+pub mod Views

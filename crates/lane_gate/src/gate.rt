@@ -1,0 +1,20 @@
+//! The gate.
+ghost use Rattle.std.specs.Prelude.{◌≡◌, ◌<◌};
+
+use crate::lane::LaneState;
+use crate::table::{Opening, Turns, View};
+use atomic_table::{Seat, Table};
+use std::alloc::Global;
+
+mod ends;
+mod turns;
+
+/// A lane behind a turn.
+#[derive(Drop)]
+pub struct Gate<L: LaneState> {
+    pub(crate) table: Table<Option<L>, View, Opening<L>, Turns<L>, Global>,
+    ghost sized: { (table.shared.table_id.words ≡ 1) × (table.shared.table_id.slots ≡ 1) × (0 < table.shared.key.callers) },
+}
+
+// A caller's place at the table of a gate of such lanes.
+type Place<L> = Seat<Option<L>, View>;

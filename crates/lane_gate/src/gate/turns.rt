@@ -1,0 +1,145 @@
+//! Taking turns.
+ghost use Rattle.std.specs.Prelude.{◌≡◌, ◌≢◌, ◌+◌, [], ◌∷◌, Some, None, IfOk, IfErr, OnOk, OnErr};
+ghost use mathlib.Core.Option.{none};
+ghost use Rattle.atomic_table.specs.Table.{Allows, step};
+ghost use Rattle.lane_gate.specs.Gates.{origin_of, IsPassOf};
+ghost use Rattle.lane_gate.specs.Passes.{view_of, done_of, IsSamePass, TellsWhy};
+ghost use Rattle.lane_gate.specs.Plan.{IsNext};
+ghost use Rattle.lane_gate.specs.Rule.{IsKept, HasEntered};
+ghost use Rattle.lane_gate.specs.Views.{IsIdle, tried_view, done_in};
+
+use super::{Gate, Place};
+use crate::lane::LaneState;
+use crate::pass::{Pass, Refused};
+use crate::table::{Abandon, Enter, Finish, Known, View};
+use atomic_table::{Badge, Play};
+use relay_base::{Memory, Stamp};
+use std::marker::Brand;
+use std::mem;
+use std::sync::Wait;
+
+impl<L: LaneState> Gate<L> {
+    // Takes the turn, and the lane with it, or tells who has it.
+    fn enter<K: Known<L>>(&self, seat: &mut Place<L>, number: u8) -> Result<L, u8>
+        requires own { seat.old.table_id ≡ self.now.table.shared.table_id }
+        requires idle { IsIdle seat.old.me number }
+        requires known { (lane : L) → L.plan lane ≡ L.plan (origin_of self.now) → K.known lane }
+        ensures own { seat.new.table_id ≡ seat.old.table_id }
+        ensures ok { IfOk result (λ lane. HasEntered L.taken seat.old.me seat.new.me lane × K.known lane) }
+        ensures busy { IfErr result (λ holder. (seat.new.me ≡ (tried_view seat.old.me.0 (holder + 1) None, [])) × (holder ≢ number)) }
+    {
+        let shared = &self.table.shared;
+        let found = shared.compare_exchange::<Enter<L, K>>(seat, 0, 0, u64::from(number) + 1);
+        if found != 0 {
+            return Err((found - 1) as u8);
+        }
+        let Some(lane) = shared.exchange(seat, 0, None) else {
+            unreachable!()
+        };
+        Ok(lane)
+    }
+
+    // Gives the lane and the turn back.
+    fn leave<M: Play<Option<L>, View>>(&self, seat: &mut Place<L>, lane: L)
+        requires own { seat.old.table_id ≡ self.now.table.shared.table_id }
+        requires empty { seat.old.me.1 ≡ (0, None) ∷ [] }
+        requires kept { Allows (IsKept L.plan L.taken self.now.table.shared.key) 1 seat.old.id (seat.old.me.0, (0, Some lane) ∷ []) 0 (λ _. 0) (λ _. M.then (step 1 0 0 0 none) (seat.old.me.0, (0, Some lane) ∷ []) 0) }
+        ensures own { seat.new.table_id ≡ seat.old.table_id }
+        ensures then { M.then (step 1 0 0 0 none) (seat.old.me.0, (0, Some lane) ∷ []) 0 seat.new.me }
+    {
+        let shared = &self.table.shared;
+        let left = shared.exchange(seat, 0, Some(lane));
+        let None = left else { unreachable!() };
+        shared.store::<M>(seat, 0, 0);
+        shared.wake_one(0);
+    }
+
+    // One turn of the caller at this place.
+    fn turn(
+        &self,
+        seat: &mut Place<L>,
+        number: u8,
+        stamp: Stamp,
+        event: L::Event,
+    ) -> Result<(), Refused<L::Event>>
+        requires own { seat.old.table_id ≡ self.now.table.shared.table_id }
+        requires idle { IsIdle seat.old.me number }
+        requires link { stamp.link ≡ number }
+        requires next { IsNext (L.plan (origin_of self.now)) (λ _. done_in seat.old.me.0) stamp event }
+        ensures own { seat.new.table_id ≡ seat.old.table_id }
+        ensures idle { IsIdle seat.new.me number }
+        ensures ok { OnOk result (done_in seat.new.me.0 ≡ done_in seat.old.me.0 + 1) }
+        ensures err { OnErr result (done_in seat.new.me.0 ≡ done_in seat.old.me.0) }
+        ensures why { IfErr result (TellsWhy number seat.old.me.0 seat.new.me.0 event) }
+    {
+        match self.enter::<Brand>(seat, number) {
+            Err(holder) => Err(Refused::Busy { event, holder }),
+            Ok(mut lane) => match lane.take_turn(stamp, &event) {
+                Ok(()) => {
+                    self.leave::<Finish>(seat, lane);
+                    Ok(())
+                }
+                Err(Memory) => {
+                    self.leave::<Abandon>(seat, lane);
+                    Err(Refused::Memory { event })
+                }
+            },
+        }
+    }
+
+    /// Delivers the next event of the pass's link, or gives it back: the lane was busy, or memory ran out. It waits for nobody, but for what the lane's own turn waits for.
+    pub fn try_turn(
+        &self,
+        pass: &mut Pass,
+        stamp: Stamp,
+        event: L::Event,
+    ) -> Result<(), Refused<L::Event>>
+        requires own { IsPassOf self.now pass.old }
+        requires link { stamp.link ≡ pass.old.number }
+        requires next { IsNext (L.plan (origin_of self.now)) (λ _. done_of pass.old) stamp event }
+        ensures same { IsSamePass pass.old pass.new }
+        ensures ok { OnOk result (done_of pass.new ≡ done_of pass.old + 1) }
+        ensures err { OnErr result (done_of pass.new ≡ done_of pass.old) }
+        ensures why { IfErr result (TellsWhy pass.old.number (view_of pass.old) (view_of pass.new) event) }
+    {
+        let number = pass.number();
+        let mut seat = mem::replace(&mut pass.badge, Badge::blank()).into_seat();
+        let outcome = self.turn(&mut seat, number, stamp, event);
+        pass.badge = seat.into_badge();
+        outcome
+    }
+
+    /// Delivers the next event of the pass's link, and waits for the turn. After want of memory the pass counts what it did, and the lane has taken what it had.
+    pub fn deliver<R: Wait>(
+        &self,
+        rt: &R,
+        pass: &mut Pass,
+        stamp: Stamp,
+        event: L::Event,
+    ) -> Result<(), Memory>
+        requires own { IsPassOf self.now pass.old }
+        requires link { stamp.link ≡ pass.old.number }
+        requires next { IsNext (L.plan (origin_of self.now)) (λ _. done_of pass.old) stamp event }
+        ensures same { IsSamePass pass.old pass.new }
+        ensures ok { OnOk result (done_of pass.new ≡ done_of pass.old + 1) }
+        ensures err { OnErr result (done_of pass.new ≡ done_of pass.old) }
+    {
+        let mut event = event;
+        for _ in rt.forever() {
+            match self.try_turn(pass, stamp, event) {
+                Ok(()) => return Ok(()),
+                Err(Refused::Memory { event: _ }) => return Err(Memory),
+                Err(
+                    Refused::Busy {
+                        event: back,
+                        holder,
+                    },
+                ) => {
+                    event = back;
+                    self.table.shared.park(rt, 0, u32::from(holder) + 1);
+                }
+            }
+        }
+        unreachable!()
+    }
+}
