@@ -5,7 +5,7 @@ use Rattle.std.specs.declared.result.Result.{Result}
 use Rattle.relay_base.specs.declared.words.ReadFault.{ReadFault}
 use Rattle.q713_codec.specs.declared.message.Message.{Message}
 use Rattle.q713_codec.specs.declared.message.Message.TheVariants.{Udt}
-use Rattle.q713_codec.specs.Reading.{message_of}
+use Rattle.q713_codec.specs.Reading.{reading_of}
 use Rattle.sccp_address.specs.Form.{Form}
 use Rattle.sccp_address.specs.Parsing.{address_of}
 use Rattle.sccp_address.specs.declared.address.AddressFault.{AddressFault}
@@ -20,7 +20,7 @@ reaches_user users called = names_user users (address_of called)
 
 abbrev pub is_built_message : List ℕ → Result Message ReadFault → Bool
 is_built_message users (Ok (Udt class called calling body)) = (nat_le (class % 16) 1 && (class / 128 == 0)) && reaches_user users called
-is_built_message users (Err f) = false
+is_built_message users _ = false
 
 abbrev pub is_built : List ℕ → List ℕ → Bool
-is_built users bytes = if nat_lt 268 (length bytes) then false else is_built_message users (message_of bytes)
+is_built users bytes = if nat_lt 268 (length bytes) then false else is_built_message users (reading_of bytes)

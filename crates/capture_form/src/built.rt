@@ -34,6 +34,6 @@ pub fn is_built(users: &[Ssn], bytes: &[u8]) -> bool
                 ..
             },
         ) => class_octet % 16 <= 1 && class_octet / 128 == 0 && reaches_user(users, called),
-        Err(_) => false,
+        _ => false,
     }
 }

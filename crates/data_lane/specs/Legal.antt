@@ -10,7 +10,7 @@ use Rattle.relay_base.specs.declared.words.Tell.TheVariants.{Unit as UnitTold}
 use Rattle.relay_base.specs.declared.words.ReadFault.{ReadFault}
 use Rattle.q713_codec.specs.declared.message.Message.{Message}
 use Rattle.q713_codec.specs.declared.message.Message.TheVariants.{Udt}
-use Rattle.q713_codec.specs.Reading.{message_of}
+use Rattle.q713_codec.specs.Reading.{reading_of}
 use Rattle.sccp_address.specs.Form.{Form}
 use Rattle.sccp_address.specs.Parsing.{address_of}
 use Rattle.sccp_address.specs.declared.address.AddressFault.{AddressFault}
@@ -36,11 +36,11 @@ addressed (Err f) = None
 
 abbrev pub message_question : Result Message ReadFault → Option Question
 message_question (Ok (Udt class called calling body)) = addressed (address_of called)
-message_question (Err f) = None
+message_question _ = None
 
 -- what an event asks of routing
 abbrev pub question_of : Event → Option Question
-question_of (event.Message opc sls bytes) = message_question (message_of bytes)
+question_of (event.Message opc sls bytes) = message_question (reading_of bytes)
 question_of _ = None
 
 abbrev pub answer_to : RoutingData → Question → Answer
@@ -51,7 +51,7 @@ abbrev pub asked_at : ℕ → RoutingData → Option Question → Option Asked
 asked_at edition routing asks = option_map (λ q. record { edition = edition; answer = answer_to routing q }) asks
 
 abbrev pub message_asked : PlantState → List ℕ → Option Asked
-message_asked plant bytes = asked_at plant.edition plant.routing (message_question (message_of bytes))
+message_asked plant bytes = asked_at plant.edition plant.routing (message_question (reading_of bytes))
 
 -- the routing that an event asks, at the edition of these routing data
 abbrev pub asked_of : PlantState → Event → Option Asked
@@ -63,7 +63,7 @@ told_of _ _ = []
 
 abbrev pub message_outputs : List ℕ → Option Answer → List Output
 message_outputs bytes None = []
-message_outputs bytes (Some answer) = told_of (message_of bytes) answer
+message_outputs bytes (Some answer) = told_of (reading_of bytes) answer
 
 abbrev pub event_outputs : Event → Option Answer → List Output
 event_outputs (event.Message opc sls bytes) answer = message_outputs bytes answer

@@ -1,7 +1,7 @@
 //! What comes of a unit.
 ghost use Rattle.std.specs.Prelude.{◌≡◌, IfOk, option_map};
 ghost use Rattle.data_lane.specs.Legal.{asked_of, message_asked, answer_in, event_outputs, told_of};
-ghost use Rattle.q713_codec.specs.Reading.{message_of};
+ghost use Rattle.q713_codec.specs.Reading.{reading_of};
 
 use plant_core::{Answer, Asked, LaneHead, Origin, Plant};
 use q713_codec::{View, read};
@@ -38,7 +38,7 @@ pub fn asked_of(plant: &Plant, event: &Event) -> Option<Asked>
 
 /// What comes of a message with this answer.
 fn told_of(alloc: Global, bytes: &[u8], answer: &Answer) -> Result<Outs, Memory>
-    ensures { IfOk result (λ outs. outs ≡ told_of (message_of bytes.now) answer.now) }
+    ensures { IfOk result (λ outs. outs ≡ told_of (reading_of bytes.now) answer.now) }
 {
     let mut outs = Outs::new(alloc);
     let Answer::Local(ssn) = answer else {

@@ -1,1 +1,3 @@
 pub mod RowLemmas
+pub mod KeyLemmas
+pub mod LongestLemmas

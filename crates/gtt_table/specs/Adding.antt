@@ -1,5 +1,5 @@
 -- Which rows are added, and why the others aren't.
-use Rattle.std.specs.Prelude.{ℕ, ◌≡◌, nat_le, Bool, List, length, if◌then◌else◌, Option, Some, None, Ok, Err}
+use Rattle.std.specs.Prelude.{◌≡◌, nat_le, List, length, if◌then◌else◌, Option, Some, None, Ok, Err}
 use Rattle.std.specs.declared.result.Result.{Result}
 use Rattle.gtt_table.specs.declared.row.Row.{Row}
 use Rattle.gtt_table.specs.declared.table.AddFault.{AddFault}

@@ -1,5 +1,5 @@
 -- The rows of the translation as a list, in the order in which they were added.
-use Rattle.std.specs.Prelude.{ℕ, ◌==◌, ◌&&◌, nat_eq, not, Bool, List, filter}
+use Rattle.std.specs.Prelude.{ℕ, ◌≡◌, ◌==◌, ◌&&◌, nat_eq, not, Bool, false, List, filter, AllPairs}
 use Rattle.std.specs.List.{list_any, starts_with}
 use lib.Pointwise.{pointwise}
 use Rattle.sccp_address.specs.declared.address.Selector.{Selector}
@@ -19,6 +19,10 @@ has_key selector prefix row = is_same_selector row.selector selector && pointwis
 
 abbrev pub has_row : Selector → List ℕ → List Row → Bool
 has_row selector prefix rows = list_any (has_key selector prefix) rows
+
+-- no two rows stand under one selector and one prefix
+abbrev pub HasDistinctKeys : List Row → Type 0
+HasDistinctKeys rows = AllPairs (λ row later. has_key later.selector later.prefix row ≡ false) rows
 
 -- the rows under any other key
 abbrev pub without : Selector → List ℕ → List Row → List Row

@@ -1,6 +1,6 @@
 -- The row that translates digits: of those whose prefix begins them, the one with the most digits in its prefix
 -- (Q.714, global title translation).
-use Rattle.std.specs.Prelude.{ℕ, ◌≡◌, ◌≤◌, nat_lt, not, IsTrue, Bool, List, [], ◌∷◌, length, if◌then◌else◌, Option, Some, None, All, Contains}
+use Rattle.std.specs.Prelude.{ℕ, ◌≤◌, nat_lt, IsTrue, Bool, List, [], ◌∷◌, length, if◌then◌else◌, Option, Some, None, All, Contains}
 use Rattle.std.specs.List.{list_any}
 use Rattle.sccp_address.specs.declared.address.Selector.{Selector}
 use Rattle.gtt_table.specs.declared.row.Row.{Row}
@@ -18,6 +18,12 @@ abbrev pub seen_look : Look → Found
 seen_look look.NoSelector = no_selector
 seen_look look.NoPrefix = no_prefix
 seen_look (look.Row row) = found row.now
+
+-- the row that a search gave
+abbrev pub IfRow : Look → (Row → Type 0) → Type 0
+IfRow look.NoSelector P = Unit {0}
+IfRow look.NoPrefix P = Unit {0}
+IfRow (look.Row row) P = P row.now
 
 -- of two rows the one with the longer prefix
 abbrev pub longer : Option Row → Option Row → Option Row

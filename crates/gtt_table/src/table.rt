@@ -1,8 +1,8 @@
 //! The table of rows.
-ghost use Rattle.std.specs.Prelude.{◌≡◌, ◌∷◌, [], ◌++◌, false, ◌<◌, vec_len, IsTrue, IsOk, IfOk, OnOk, OnErr, Some, find};
+ghost use Rattle.std.specs.Prelude.{◌≡◌, ◌+◌, ◌∷◌, [], ◌++◌, true, false, ◌<◌, length, vec_len, IsTrue, IsOk, IfOk, OnOk, OnErr, Some, find};
 ghost use Rattle.std.specs.Option.{option_copied};
-ghost use Rattle.gtt_table.specs.Rows.{has_key, has_row, without};
-ghost use Rattle.gtt_table.specs.Translation.{seen_look, longer, longest_match, has_selector, translation_of};
+ghost use Rattle.gtt_table.specs.Rows.{has_key, has_row, without, HasDistinctKeys};
+ghost use Rattle.gtt_table.specs.Translation.{seen_look, IfRow, IsLongestMatch, longer, longest_match, has_selector, translation_of};
 ghost use Rattle.std.specs.Vec.{vec_capacity};
 ghost use Rattle.gtt_table.specs.Adding.{add_refusal, Refuses, HasMemory};
 
@@ -21,11 +21,13 @@ pub struct Table {
 impl Model for Table {
     ghost use Rattle.std.specs.Prelude.{nat_lt, vec_len};
     ghost use Rattle.std.specs.Vec.{vec_capacity};
-    ghost use Rattle.gtt_table.specs.Rows.{Rows};
+    ghost use Rattle.gtt_table.specs.Rows.{Rows, HasDistinctKeys};
 
     ghost Value = { Rows };
 
     ghost view = { λ t. record { rows = t.rows.items; has_room = nat_lt (vec_len t.rows) (vec_capacity t.rows) } };
+
+    ghost invariant = { λ t. HasDistinctKeys t.rows.items };
 }
 
 /// What a search gives: no row has the selector, no prefix begins the digits, or the row with the longest such prefix.
@@ -81,7 +83,8 @@ impl Table {
 
     /// Whether a row has this selector and this prefix.
     pub fn has_row(&self, selector: &Selector, prefix: &Digits) -> bool
-        ensures { result ≡ has_row selector.now prefix.now self.now.rows }
+        ensures value { result ≡ has_row selector.now prefix.now self.now.rows }
+        ensures distinct { HasDistinctKeys self.now.rows }
     {
         self.rows.iter().any(|row| row.has_key(selector, prefix))
     }
@@ -126,16 +129,18 @@ impl Table {
     }
 
     fn drop_key(&mut self, selector: &Selector, prefix: &Digits)
-        ensures { self.new.rows ≡ without selector.now prefix.now self.old.rows }
+        ensures value { self.new.rows ≡ without selector.now prefix.now self.old.rows }
+        ensures one { has_row selector.now prefix.now self.old.rows ≡ true → length self.new.rows + 1 ≡ length self.old.rows }
     {
         self.rows.retain(|row| !row.has_key(selector, prefix));
     }
 
     /// Takes the row with this selector and prefix away.
-    #[tactic(auto, using(crate::proofs::RowLemmas::none_found))]
+    #[tactic(auto, using(crate::proofs::RowLemmas::searches))]
     pub fn remove(&mut self, selector: &Selector, prefix: &Digits) -> Result<Row, NoSuchRow>
         ensures ok { IfOk result (λ row. find (has_key selector.now prefix.now) self.old.rows ≡ Some row) }
         ensures rest { OnOk result (self.new.rows ≡ without selector.now prefix.now self.old.rows) }
+        ensures one { OnOk result (length self.new.rows + 1 ≡ length self.old.rows) }
         ensures err { OnErr result (has_row selector.now prefix.now self.old.rows ≡ false) }
         ensures same { OnErr result (self.new.rows ≡ self.old.rows) }
     {
@@ -170,7 +175,8 @@ impl Table {
     /// The row that translates these digits.
     #[tactic(auto, unfolding(crate::specs::Translation::translation_of))]
     pub fn look(&self, selector: &Selector, digits: &Digits) -> Look<'_>
-        ensures { seen_look result ≡ translation_of self.now.rows selector.now digits.now }
+        ensures value { seen_look result ≡ translation_of self.now.rows selector.now digits.now }
+        ensures longest { IfRow result (λ row. IsLongestMatch self.now.rows selector.now digits.now row) }
     {
         if !self.has_selector(selector) {
             return Look::NoSelector;

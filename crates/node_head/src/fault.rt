@@ -4,6 +4,7 @@ ghost use Rattle.node_head.specs.declared.fault.HeadRefused.TheVariants.{Memory}
 
 use relay_base::Octets;
 use std::alloc::{AllocError, AllocFailed};
+use thiserror::Error;
 
 /// What is wrong with a key.
 #[derive(Clone, Copy, Debug, PartialEq, Eq)]
@@ -17,16 +18,19 @@ pub enum HeadKind {
 }
 
 /// What is wrong with a head, and at which key.
-#[derive(Debug, PartialEq, Eq, Drop)]
+#[derive(Debug, PartialEq, Eq, Drop, Error)]
+#[error("{kind:?} at {key:?}")]
 pub struct HeadFault {
     pub kind: HeadKind,
     pub key: Octets,
 }
 
 /// Why a head is not read.
-#[derive(Debug, PartialEq, Eq, Drop)]
+#[derive(Debug, PartialEq, Eq, Drop, Error)]
 pub enum HeadRefused {
+    #[error(transparent)]
     Fault(HeadFault),
+    #[error("memory")]
     Memory,
 }
 

@@ -1,13 +1,15 @@
 //! The head of an input.
 ghost use Rattle.std.specs.Prelude.{◌≡◌, ◌<◌, ◌^◌, [], length, IsTrue, IfOk, option_map, codes};
 ghost use Rattle.node_head.specs.Addable.{are_addable};
-ghost use Rattle.node_head.specs.Head.{Reads, Refuses, fault, begun, head_of};
+ghost use Rattle.node_head.specs.Head.{begun, head_of};
+ghost use Rattle.node_head.specs.Refusals.{Reads};
 ghost use Rattle.node_head.specs.Lines.{lines, halves, extended};
 
 use crate::fault::{HeadKind, HeadRefused};
 use crate::head::Head;
 use crate::lines::take_text;
-use crate::table::{head_of_text, refuse};
+use crate::section::refuse;
+use crate::table::head_of_text;
 use bstr::{ByteSlice, Lines};
 use std::alloc::Global;
 

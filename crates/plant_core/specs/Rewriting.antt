@@ -1,4 +1,4 @@
--- The called address as it leaves.
+-- The called address as it leaves (Q.714, global title translation).
 use Rattle.std.specs.Prelude.{ℕ, Option, Some, None}
 use Rattle.sccp_address.specs.Form.{Form}
 use Rattle.plant_core.specs.declared.answer.Rewrite.{Rewrite}

@@ -1,7 +1,6 @@
 -- Routing control (Q.714, SCCP routing control): the answer of the whole routing data for a called address, a hop counter and an origin.
-use Rattle.std.specs.Prelude.{ℕ, ◌+◌, ◌-◌, ◌==◌, ◌||◌, ◌&&◌, nat_le, nat_lt, not, Bool, true, false, List, if◌then◌else◌, Option, Some, None, Ok, Err, unwrap_or, is_ok}
+use Rattle.std.specs.Prelude.{ℕ, ◌-◌, ◌==◌, ◌||◌, ◌&&◌, nat_lt, not, Bool, false, List, if◌then◌else◌, Option, Some, None, Ok, Err, unwrap_or, is_ok}
 use Rattle.std.specs.declared.result.Result.{Result}
-use Rattle.std.specs.List.{list_any}
 use Rattle.sccp_address.specs.Form.{Form, TitleForm}
 use Rattle.sccp_address.specs.Titles.{dialled_of}
 use Rattle.sccp_address.specs.declared.address.Selector.{Selector}
@@ -15,7 +14,7 @@ use Rattle.plant_core.specs.declared.answer.Origin.{Origin}
 use Rattle.plant_core.specs.declared.answer.Origin.TheVariants.{Network, User as FromUser}
 use Rattle.plant_core.specs.declared.answer.RouteCause.{RouteCause}
 use Rattle.plant_core.specs.declared.answer.RouteCause.TheVariants.{NoNature, NoAddress, PointBarred, SubsystemBarred, Unequipped, Hop}
-use Rattle.plant_core.specs.Plant.{RoutingData, is_among, is_barred_subsystem, is_in_service}
+use Rattle.plant_core.specs.Plant.{RoutingData, is_among, is_barred_subsystem}
 
 -- a subsystem of this node
 unfoldable pub local_answer : RoutingData → ℕ → Answer
@@ -24,19 +23,20 @@ local_answer p ssn =
     else if is_among ssn p.out_of_service then Refused SubsystemBarred (Some ssn)
     else Local ssn
 
--- the subsystem is named, and barred
+-- a subsystem of another point that is named, and barred
 abbrev pub is_barred_at : RoutingData → ℕ → Option ℕ → Bool
 is_barred_at p point None = false
 is_barred_at p point (Some ssn) = is_barred_subsystem p point ssn
 
--- an address that routes on its subsystem number: a user's to another point goes there unchanged, and every other is local,
--- to subsystem 0 where none is named
+-- a subsystem of another point, to which the address goes unchanged
 abbrev pub remote_answer : RoutingData → ℕ → Option ℕ → Option ℕ → Answer
 remote_answer p point ssn hop =
     if is_among point p.barred_points then Refused PointBarred None
     else if is_barred_at p point ssn then Refused SubsystemBarred None
     else Forward point Keep hop
 
+-- an address that routes on its subsystem number: a user's to another point goes there, and every other is local,
+-- to subsystem 0 where none is named
 unfoldable pub ssn_answer : RoutingData → Form → Option ℕ → Origin → Answer
 ssn_answer p a hop Network = local_answer p (unwrap_or a.ssn 0)
 ssn_answer p a hop FromUser = from_user a.point
@@ -46,7 +46,8 @@ ssn_answer p a hop FromUser = from_user a.point
     from_user (Some point) =
         if point == p.own then local_answer p (unwrap_or a.ssn 0) else remote_answer p point a.ssn hop
 
--- whether an entity is available, and else why not
+-- whether an entity is available, and else why not: one at the own point is where it names a user that is in service,
+-- another where neither its point nor, where it routes on it, its subsystem is barred
 abbrev pub own_entity : RoutingData → Option ℕ → Result (Unit {0}) RouteCause
 own_entity p None = Err Unequipped
 own_entity p (Some ssn) =

@@ -1,4 +1,4 @@
-use Rattle.std.proofs.Common.{arith, sym, ap, ◌∙◌}
+use Rattle.std.proofs.Common.{sym, ap, ◌∙◌}
 use Rattle.std.specs.Option.{option_copied}
 use Rattle.gtt_table.proofs.RowLemmas.{match_taken, match_passed}
 use Rattle.gtt_table.proofs.table.Table.longest_match.Goals as goal

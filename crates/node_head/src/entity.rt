@@ -1,0 +1,152 @@
+//! The texts of a row: the digits of a prefix, and where a translation leads.
+ghost use Rattle.std.specs.Prelude.{◌≡◌, ◌==◌, length, position, option_map};
+ghost use Rattle.std.specs.Char.{is_ascii_digit};
+ghost use Rattle.std.specs.List.{list_all};
+ghost use Rattle.node_head.specs.Entity.{hex_digit, digits_of, is_number, number_of, number_below, optional_subsystem, parted, leading, entity_of};
+
+use gtt_table::Entity;
+use relay_base::{Digit, Digits, Pc, Ssn};
+
+/// The value of a hex digit of either case.
+fn hex_digit(octet: u8) -> Option<Digit>
+    ensures { result ≡ hex_digit octet }
+{
+    match octet {
+        b'0'..=b'9' => Digit::new(u32::from(octet - b'0')),
+        b'a'..=b'f' => Digit::new(u32::from(octet - b'a') + 10),
+        b'A'..=b'F' => Digit::new(u32::from(octet - b'A') + 10),
+        _ => None,
+    }
+}
+
+/// The digits that a text writes: at most 24 hex digits. None for any other text.
+#[tactic(auto, unfolding(crate::specs::Entity::digits_of))]
+pub fn digits_of(text: &[u8]) -> Option<Digits>
+    ensures { result ≡ digits_of text.now }
+{
+    if text.len() > 24 {
+        return None;
+    }
+    let mut digits = Digits::new();
+    for octet in text {
+        digits.push(hex_digit(*octet)?);
+    }
+    Some(digits)
+}
+
+fn all_digits(word: &[u8]) -> bool
+    ensures { result ≡ list_all is_ascii_digit word.now }
+{
+    word.iter().all(|d| d.is_ascii_digit())
+}
+
+/// Whether a word is a number: 1 to 10 digits.
+fn is_number(word: &[u8]) -> bool
+    ensures { result ≡ is_number word.now }
+{
+    if word.is_empty() || word.len() > 10 {
+        return false;
+    }
+    all_digits(word)
+}
+
+/// The number that a word writes: 1 to 10 decimal digits.
+#[tactic(auto, unfolding(crate::specs::Entity::number_of))]
+fn number_of(word: &[u8]) -> Option<u64>
+    ensures { result ≡ number_of word.now }
+{
+    if !is_number(word) {
+        return None;
+    }
+    let mut number = 0u64;
+    for digit in word {
+        number = 10 * number + u64::from(*digit - b'0');
+    }
+    Some(number)
+}
+
+fn point_of(word: &[u8]) -> Option<Pc>
+    ensures { result ≡ number_below 16384 word.now }
+{
+    match u32::try_from(number_of(word)?) {
+        Ok(number) => Pc::new(number),
+        Err(_) => None,
+    }
+}
+
+fn subsystem_of(word: &[u8]) -> Option<Ssn>
+    ensures { result ≡ number_below 256 word.now }
+{
+    match u32::try_from(number_of(word)?) {
+        Ok(number) => Ssn::new(number),
+        Err(_) => None,
+    }
+}
+
+/// The subsystem that a word names, or none where it is a dash.
+fn optional_subsystem(word: &[u8]) -> Option<Option<Ssn>>
+    ensures { result ≡ optional_subsystem word.now }
+{
+    if word == b"-".as_slice() {
+        return Some(None);
+    }
+    match subsystem_of(word) {
+        Some(ssn) => Some(Some(ssn)),
+        None => None,
+    }
+}
+
+fn slash(text: &[u8]) -> Option<usize>
+    ensures { result ≡ position (λ b. b == 47) text.now }
+{
+    text.iter().position(|b| *b == b'/')
+}
+
+/// What stands before the first slash, and what behind it.
+fn parted(text: &[u8]) -> Option<(&[u8], &[u8])>
+    ensures { option_map (λ p. (p.0.now, p.1.now)) result ≡ parted text.now }
+{
+    match slash(text) {
+        Some(n) => Some((&text[..n], &text[n + 1..])),
+        None => None,
+    }
+}
+
+/// The entity at a point, of the words for its subsystem and for what the address goes on routing on.
+fn leading(own: Pc, point: Pc, ssn: &[u8], way: &[u8]) -> Option<Entity>
+    ensures { result ≡ leading own point ssn.now way.now }
+{
+    if way == b"s".as_slice() {
+        return match subsystem_of(ssn) {
+            Some(ssn) => Some(Entity {
+                point,
+                ssn: Some(ssn),
+                on_ssn: true,
+            }),
+            None => None,
+        };
+    }
+    if way != b"g".as_slice() || point == own {
+        return None;
+    }
+    match optional_subsystem(ssn) {
+        Some(ssn) => Some(Entity {
+            point,
+            ssn,
+            on_ssn: false,
+        }),
+        None => None,
+    }
+}
+
+/// The entity that a text writes: `point/subsystem/s`, `point/subsystem/g` or `point/-/g`, where an entity at the own point has the
+/// first of these forms. The point is 0 to 16,383, the subsystem 0 to 255. None for any other text.
+#[tactic(auto, unfolding(crate::specs::Entity::entity_of))]
+pub fn entity_of(own: Pc, text: &[u8]) -> Option<Entity>
+    ensures { result ≡ entity_of own text.now }
+{
+    let (point, rest) = parted(text)?;
+    let (ssn, way) = parted(rest)?;
+    let point = point_of(point)?;
+    leading(own, point, ssn, way)
+}

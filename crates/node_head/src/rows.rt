@@ -1,0 +1,185 @@
+//! The rows of a head.
+ghost use Rattle.std.specs.Prelude.{◌≡◌, ◌∷◌, [], ◌++◌, ◌≤◌, false, IsTrue, length, map, option_map, IfOk, IfSome};
+ghost use Rattle.toml.specs.View.{view, table_view, items_view};
+ghost use Rattle.gtt_table.specs.Rows.{has_row};
+ghost use Rattle.node_head.specs.Addable.{are_addable};
+ghost use Rattle.node_head.specs.Keys.{members_of};
+ghost use Rattle.node_head.specs.Refusals.{Reads};
+ghost use Rattle.node_head.specs.Rows.{indicator_at, selector_at, new_prefix, prefix_at, entity_at, second_at, row_of, rows_after, tables_after, rows_value};
+
+use crate::entity::{digits_of, entity_of};
+use crate::fault::{HeadKind, HeadRefused};
+use crate::head::RowList;
+use crate::section::{Bounds, Place, Section, refuse};
+use gtt_table::{Entity, Row};
+use relay_base::{Digits, Pc};
+use sccp_address::Selector;
+use std::alloc::{AllocError, Global};
+use toml::value::Array;
+use toml::{Table, Value};
+
+/// The most rows of a head.
+const MOST_ROWS: usize = 4096;
+
+fn has_row(found: &[Row], selector: &Selector, prefix: &Digits) -> bool
+    ensures { result ≡ has_row selector.now prefix.now found.now }
+{
+    found.iter().any(|row| row.has_key(selector, prefix))
+}
+
+/// The digits that a text writes, where no row was found with them and this selector.
+fn new_prefix(found: &[Row], selector: &Selector, text: &[u8]) -> Option<Digits>
+    ensures value { result ≡ new_prefix found.now selector.now text.now }
+    ensures apart { IfSome result (λ digits. has_row selector.now digits found.now ≡ false) }
+{
+    let digits = digits_of(text)?;
+    if has_row(found, selector, &digits) {
+        None
+    } else {
+        Some(digits)
+    }
+}
+
+impl Section<'_> {
+    #[tactic(auto, using(crate::proofs::HeadLemmas::failures), unfolding(crate::specs::Rows::indicator_at))]
+    fn indicator(&self, alloc: Global) -> Result<u8, HeadRefused>
+        ensures { Reads (λ n. n) result (indicator_at self.now.place (members_of self.now)) }
+    {
+        let gti = self.octet(alloc, "gti", &Bounds::required(1, 4))?;
+        if gti == 2 {
+            return Err(self.refuse(alloc, HeadKind::Range, "gti"));
+        }
+        Ok(gti)
+    }
+
+    #[tactic(auto, using(crate::proofs::HeadLemmas::failures), unfolding(crate::specs::Rows::selector_at))]
+    fn selector(&self, alloc: Global) -> Result<Selector, HeadRefused>
+        ensures { Reads (λ s. s) result (selector_at self.now.place (members_of self.now)) }
+    {
+        let gti = self.indicator(alloc)?;
+        let tt = self.octet(
+            alloc,
+            "tt",
+            &Bounds::usual(0, 0, if gti == 1 { 0 } else { 255 }),
+        )?;
+        let np = self.octet(
+            alloc,
+            "np",
+            &Bounds::usual(0, 0, if gti == 1 { 0 } else { 15 }),
+        )?;
+        let nai = self.octet(
+            alloc,
+            "nai",
+            &Bounds::usual(0, 0, if gti == 3 { 0 } else { 127 }),
+        )?;
+        Ok(Selector { gti, tt, np, nai })
+    }
+
+    #[tactic(auto, using(crate::proofs::HeadLemmas::failures), unfolding(crate::specs::Rows::prefix_at))]
+    fn prefix(
+        &self,
+        alloc: Global,
+        found: &[Row],
+        selector: &Selector,
+    ) -> Result<Digits, HeadRefused>
+        ensures value { Reads (λ d. d) result (prefix_at found.now selector.now self.now.place (members_of self.now)) }
+        ensures apart { IfOk result (λ d. has_row selector.now d found.now ≡ false) }
+    {
+        let text = self.text(alloc, "digits")?;
+        match new_prefix(found, selector, text.as_bytes()) {
+            Some(prefix) => Ok(prefix),
+            None => Err(self.refuse(alloc, HeadKind::Range, "digits")),
+        }
+    }
+
+    #[tactic(auto, using(crate::proofs::HeadLemmas::failures), unfolding(crate::specs::Rows::entity_at))]
+    fn entity(&self, alloc: Global, own: Pc, key: &str) -> Result<Entity, HeadRefused>
+        ensures { Reads (λ e. e) result (entity_at own self.now.place (members_of self.now) key.now) }
+    {
+        let text = self.text(alloc, key)?;
+        match entity_of(own, text.as_bytes()) {
+            Some(entity) => Ok(entity),
+            None => Err(self.refuse(alloc, HeadKind::Range, key)),
+        }
+    }
+
+    #[tactic(auto, using(crate::proofs::HeadLemmas::failures), unfolding(crate::specs::Rows::second_at))]
+    fn second(&self, alloc: Global, own: Pc) -> Result<Option<Entity>, HeadRefused>
+        ensures { Reads (λ e. e) result (second_at own self.now.place (members_of self.now)) }
+    {
+        if self.value("second").is_none() {
+            return Ok(None);
+        }
+        let entity = self.entity(alloc, own, "second")?;
+        Ok(Some(entity))
+    }
+
+    #[tactic(auto, using(crate::proofs::HeadLemmas::failures), unfolding(crate::specs::Rows::row_of))]
+    fn row(&self, alloc: Global, own: Pc, found: &[Row]) -> Result<Row, HeadRefused>
+        ensures value { Reads (λ r. r) result (row_of own found.now self.now.place (members_of self.now)) }
+        ensures apart { IfOk result (λ r. has_row r.selector r.prefix found.now ≡ false) }
+    {
+        let selector = self.selector(alloc)?;
+        let prefix = self.prefix(alloc, found, &selector)?;
+        let first = self.entity(alloc, own, "first")?;
+        let second = self.second(alloc, own)?;
+        Ok(Row {
+            selector,
+            prefix,
+            first,
+            second,
+        })
+    }
+}
+
+/// The tables of an array, where each item is one.
+fn tables<'a>(alloc: Global, array: &'a Array) -> Result<Option<Vec<&'a Table>>, AllocError>
+    ensures { IfOk result (λ found. option_map (λ v. map (λ t. table_view t.now) v.items) found ≡ tables_after [] (items_view array.now.items)) }
+{
+    let mut found = Vec::new(alloc);
+    for value in array {
+        match value.as_table() {
+            Some(table) => found.push(table)?,
+            None => return Ok(None),
+        }
+    }
+    Ok(Some(found))
+}
+
+fn rows(alloc: Global, own: Pc, tables: &[&Table]) -> Result<RowList, HeadRefused>
+    requires { length tables.now ≤ 4096 }
+    ensures value { Reads (λ l. l) result (rows_after own [] (map (λ t. table_view t.now) tables.now)) }
+    ensures addable { IfOk result (λ l. IsTrue (are_addable [] l)) }
+{
+    let mut found = RowList::new(alloc);
+    for table in tables {
+        let section = Section {
+            place: Place::NthRow(found.len() + 1),
+            table: Some(*table),
+        };
+        let row = section.row(alloc, own, found.as_slice())?;
+        found.push(row)?;
+    }
+    Ok(found)
+}
+
+/// The rows of an array of tables, none where the key is absent.
+#[tactic(auto, using(crate::proofs::HeadLemmas::failures), unfolding(crate::specs::Rows::rows_value))]
+pub fn rows_of(alloc: Global, own: Pc, value: Option<&Value>) -> Result<RowList, HeadRefused>
+    ensures value { Reads (λ l. l) result (rows_value own (option_map (λ v. view v.now) value.entry)) }
+    ensures addable { IfOk result (λ l. IsTrue (are_addable [] l)) }
+{
+    let Some(value) = value else {
+        return Ok(RowList::new(alloc));
+    };
+    let Some(array) = value.as_array() else {
+        return Err(refuse(alloc, HeadKind::Kind, "row"));
+    };
+    let Some(tables) = tables(alloc, array)? else {
+        return Err(refuse(alloc, HeadKind::Kind, "row"));
+    };
+    if tables.len() > MOST_ROWS {
+        return Err(refuse(alloc, HeadKind::Range, "row"));
+    }
+    rows(alloc, own, tables.as_slice())
+}

@@ -1,0 +1,114 @@
+//! The timers of a head.
+ghost use Rattle.std.specs.Prelude.{◌≡◌, ◌≤◌, IfOk, option_map};
+ghost use Rattle.toml.specs.View.{view};
+ghost use Rattle.node_head.specs.Keys.{members_of};
+ghost use Rattle.node_head.specs.Refusals.{Reads};
+ghost use Rattle.node_head.specs.Timers.{ticks_at, connection_ticks, release_ticks, waiting_ticks, management_ticks, ticks_of, timers_value};
+
+use crate::fault::{HeadKind, HeadRefused};
+use crate::section::{Bounds, Place, Section, refuse};
+use plant_core::Ticks;
+use std::alloc::Global;
+use toml::Value;
+
+/// The greatest number of ticks.
+const MOST_TICKS: u32 = 65_535;
+
+impl Section<'_> {
+    /// The ticks at a key.
+    #[tactic(auto, unfolding(crate::specs::Timers::ticks_at))]
+    fn ticks(&self, alloc: Global, key: &str, default: u32, least: u32) -> Result<u32, HeadRefused>
+        requires { default ≤ 65535 }
+        ensures value { Reads (λ n. n) result (ticks_at self.now.place (members_of self.now) key.now default least) }
+        ensures most { IfOk result (λ n. n ≤ 65535) }
+    {
+        self.number(alloc, key, &Bounds::usual(default, least, MOST_TICKS))
+    }
+
+    /// T(conn est), T(ias) and T(iar).
+    #[tactic(auto, using(crate::proofs::HeadLemmas::failures), unfolding(crate::specs::Timers::connection_ticks))]
+    fn connection_ticks(&self, alloc: Global) -> Result<(u32, u32, u32), HeadRefused>
+        ensures { Reads (λ t. t) result (connection_ticks self.now.place (members_of self.now)) }
+    {
+        let connect = self.ticks(alloc, "connect", 90, 1)?;
+        let ias = self.ticks(alloc, "ias", 420, 60)?;
+        let iar = self.ticks(alloc, "iar", 900, 1)?;
+        Ok((connect, ias, iar))
+    }
+
+    /// T(rel), T(repeat rel) and T(int).
+    #[tactic(auto, using(crate::proofs::HeadLemmas::failures), unfolding(crate::specs::Timers::release_ticks))]
+    fn release_ticks(&self, alloc: Global) -> Result<(u32, u32, u32), HeadRefused>
+        ensures { Reads (λ t. t) result (release_ticks self.now.place (members_of self.now)) }
+    {
+        let rel = self.ticks(alloc, "rel", 15, 1)?;
+        let repeat = self.ticks(alloc, "repeat", 15, 5)?;
+        let int = self.ticks(alloc, "int", 60, 1)?;
+        Ok((rel, repeat, int))
+    }
+
+    /// T(reset), T(reassembly), and how long a local reference is frozen.
+    #[tactic(auto, using(crate::proofs::HeadLemmas::failures), unfolding(crate::specs::Timers::waiting_ticks))]
+    fn waiting_ticks(&self, alloc: Global) -> Result<(u32, u32, u32), HeadRefused>
+        ensures { Reads (λ t. t) result (waiting_ticks self.now.place (members_of self.now)) }
+    {
+        let reset = self.ticks(alloc, "reset", 15, 1)?;
+        let reassembly = self.ticks(alloc, "reassembly", 15, 1)?;
+        let freeze = self.ticks(alloc, "freeze", 60, 1)?;
+        Ok((reset, reassembly, freeze))
+    }
+
+    /// T(stat info) at first and at most, and T(coord chg).
+    #[tactic(auto, using(crate::proofs::HeadLemmas::failures), unfolding(crate::specs::Timers::management_ticks))]
+    fn management_ticks(&self, alloc: Global) -> Result<(u32, u32, u32), HeadRefused>
+        ensures { Reads (λ t. t) result (management_ticks self.now.place (members_of self.now)) }
+    {
+        let status = self.ticks(alloc, "status", 30, 1)?;
+        let status_max = self.ticks(alloc, "status_max", status.max(600), status)?;
+        let coord = self.ticks(alloc, "coord", 90, 1)?;
+        Ok((status, status_max, coord))
+    }
+
+    #[tactic(auto, using(crate::proofs::HeadLemmas::failures), unfolding(crate::specs::Timers::ticks_of))]
+    fn all_ticks(&self, alloc: Global) -> Result<Ticks, HeadRefused>
+        ensures { Reads (λ t. t) result (ticks_of self.now.place (members_of self.now)) }
+    {
+        let (connect, ias, iar) = self.connection_ticks(alloc)?;
+        let (rel, repeat, int) = self.release_ticks(alloc)?;
+        let (reset, reassembly, freeze) = self.waiting_ticks(alloc)?;
+        let (status, status_max, coord) = self.management_ticks(alloc)?;
+        Ok(Ticks {
+            connect,
+            ias,
+            iar,
+            rel,
+            repeat,
+            int,
+            reset,
+            reassembly,
+            freeze,
+            status,
+            status_max,
+            coord,
+        })
+    }
+}
+
+/// The timers of a table, all with their defaults where there is none.
+#[tactic(auto, using(crate::proofs::HeadLemmas::failures), unfolding(crate::specs::Timers::timers_value))]
+pub fn timers_of(alloc: Global, value: Option<&Value>) -> Result<Ticks, HeadRefused>
+    ensures { Reads (λ t. t) result (timers_value (option_map (λ v. view v.now) value.entry)) }
+{
+    let place = Place::Timers;
+    let Some(value) = value else {
+        return Section { place, table: None }.all_ticks(alloc);
+    };
+    match value.as_table() {
+        Some(table) => Section {
+            place,
+            table: Some(table),
+        }
+        .all_ticks(alloc),
+        None => Err(refuse(alloc, HeadKind::Kind, "timers")),
+    }
+}

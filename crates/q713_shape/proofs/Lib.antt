@@ -1,0 +1,9 @@
+pub mod Fronts
+pub mod Variables
+pub mod Taking
+pub mod Scanning
+pub mod Whole
+pub mod Drops
+pub mod Counting
+pub mod Pointing
+pub mod Ranges

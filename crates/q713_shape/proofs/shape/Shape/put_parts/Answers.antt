@@ -1,0 +1,20 @@
+use Rattle.std.proofs.Common.{◌∙◌}
+use Rattle.q713_shape.specs.Parts.{format_of, values_seen}
+use Rattle.q713_shape.proofs.Ranges.{in_range-lengths, in_range-options, octets_of-written}
+use Rattle.q713_shape.proofs.shape.Shape.put_parts.Goals as goal
+
+pub variables_len-before-requires-clause-lengths : goal.variables_len-before-requires-clause-lengths
+variables_len-before-requires-clause-lengths g c = in_range-lengths (format_of c.args.self.now) (values_seen c.args.parts.now) c.requires
+
+pub put_pointers-requires-clause-lengths : goal.put_pointers-requires-clause-lengths
+put_pointers-requires-clause-lengths g c = in_range-lengths (format_of c.args.self.now) (values_seen c.args.parts.now) c.requires
+
+pub put_optional_pointer-requires-clause-options : goal.put_optional_pointer-requires-clause-options
+put_optional_pointer-requires-clause-options g c = in_range-options (format_of c.args.self.now) (values_seen c.args.parts.now) c.requires
+
+pub put_optional_part-requires-clause-options : goal.put_optional_part-requires-clause-options
+put_optional_part-requires-clause-options g c = in_range-options (format_of c.args.self.now) (values_seen c.args.parts.now) c.requires
+
+pub returns : goal.returns
+returns g c =
+    c.from.ensures ∙ octets_of-written (format_of c.args.self.now) (values_seen c.args.parts.now) c.variables_len-before.result c.count.result c.in_ok-out.out.items c.push.new.self.items c.extend_from_slice.new.self.items c.put_pointers.new.out.items c.put_optional_pointer.new.out.items c.put_variables.new.out.items c.put_optional_part.new.out.items c.variables_len-before.ensures.value c.count.ensures c.in_ok-out.ensures.items c.in_ok-push.ensures.items c.in_ok-extend_from_slice.ensures.items c.in_ok-put_pointers.ensures c.in_ok-put_optional_pointer.ensures c.in_ok-put_variables.ensures c.in_ok-put_optional_part.ensures

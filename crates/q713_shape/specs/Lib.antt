@@ -1,0 +1,6 @@
+pub mod Rules
+pub mod Format
+pub mod Reading
+pub mod Writing
+pub mod Parts
+pub mod Taking

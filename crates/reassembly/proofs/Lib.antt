@@ -1,0 +1,9 @@
+pub mod Alone
+pub mod Bounds
+pub mod Changes
+pub mod Ending
+pub mod Hearing
+pub mod Keys
+pub mod Later
+pub mod Places
+pub mod Within

@@ -1,0 +1,14 @@
+//! Reassembly of messages that came in segments (Q.714, connectionless service).
+#![tactic(auto)]
+
+mod bench;
+mod laws;
+mod piece;
+mod process;
+mod processes;
+#[cfg(test)]
+mod tests;
+
+pub use bench::Bench;
+pub use laws::{hears_its_key_alone, stays_within_bounds};
+pub use piece::{Now, Piece, PieceList, Taken};
