@@ -6,4 +6,4 @@ use Rattle.sccp_cli.proofs.run.take_phases.Goals as goal
 
 pub loop-phase-preserved : goal.loop-phase-preserved
 loop-phase-preserved c =
-    goes-more c.args.plant.now.routing (λ (lists : List Stamped). flat_map (λ events. events) lists) c.as_slice.result.now c.loop-phase.phase-index c.phase-item.result c.args.lane.now c.loop-phase.lane c.take_phase.new.lane c.loop-phase-test.true c.phase-item.is c.loop-phase.invariant c.in_ok-take_phase.ensures
+    goes-more c.args.plant.now.routing (λ (lists : List Stamped). flat_map (λ events. events) lists) c.as_slice-phase-items.result.now c.loop-phase.phase-index c.phase-item.result c.args.lane.now c.loop-phase.lane c.take_phase.new.lane c.loop-phase-test.true c.phase-item.is c.loop-phase.invariant c.in_ok-take_phase.ensures
