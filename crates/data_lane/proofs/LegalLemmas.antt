@@ -1,26 +1,78 @@
 -- A legal journal goes on with a legal entry.
-use Rattle.std.proofs.Common.{◌≡◌, ℕ, List, [], ◌∷◌, ◌++◌, append_assoc, append-nil, sym, subst, refl, Option, Some, None}
+use Rattle.std.proofs.Common.{◌≡◌, ℕ, ◌+◌, List, [], ◌∷◌, ◌++◌, if◌then◌else◌, refl, sym, ap, ◌∙◌, subst, Option, Some, None}
 use Rattle.std.specs.Prelude.{is_some}
 use Rattle.relay_base.specs.declared.words.Event.{Event}
 use Rattle.relay_base.specs.declared.words.Stamp.{Stamp}
 use Rattle.plant_core.specs.Plant.{PlantState, RoutingData}
+use Rattle.plant_core.specs.declared.entry.Asked.{Asked}
 use Rattle.plant_core.specs.declared.entry.Entry.{Entry}
 use Rattle.plant_core.specs.declared.terms.LaneHead.{LaneHead}
-use Rattle.data_lane.specs.Legal.{IsLegalEntry, LegalAfter, IsDataJournal, Question, question_of, asked_at, entry_of}
+use Rattle.reassembly.specs.Laws.{IsWithinBounds}
+use Rattle.reassembly.specs.Reassembly.{Reassemblies}
+use Rattle.connectionless.specs.Asking.{Question, matter_of}
+use Rattle.data_lane.specs.declared.turn.Turn.{Turn}
+use Rattle.data_lane.specs.Legal.{State, at_first, Step, step_of, step_by, joined, worked, turn_by, ticks_of, IsLegalEntry, LegalFrom, IsDataJournal, entry_after, state_after, question_of, asked_at, asked_of, answer_in}
+use Rattle.data_lane.specs.Lane.{reduced, IsLane}
+use Rattle.data_lane.proofs.CountLemmas.{reduced-add, turn-reduced}
 
-legal-push : (head : LaneHead) (number : ℕ) (before journal : List Entry) (entry : Entry) → LegalAfter head number before journal → IsLegalEntry head number (before ++ journal) entry
-    → LegalAfter head number before (journal ++ entry ∷ [])
-legal-push head number before [] entry h e = (subst (λ b. IsLegalEntry head number b entry) (append-nil before) e, tt)
-legal-push head number before (first ∷ more) entry h e =
-    (h.0, legal-push head number (before ++ first ∷ []) more entry h.1 (subst (λ b. IsLegalEntry head number b entry) (sym (append_assoc before (first ∷ []) more)) e))
+legal-push : (head : LaneHead) (number : ℕ) (s : State) (journal : List Entry) (entry : Entry) → LegalFrom head number s journal → IsLegalEntry head number (state_after head number s journal) entry
+    → LegalFrom head number s (journal ++ entry ∷ [])
+legal-push head number s [] entry h e = (e, tt)
+legal-push head number s (first ∷ more) entry h e = (h.0, legal-push head number (entry_after head number s first) more entry h.1 e)
 
-pub journal-push : (head : LaneHead) (number : ℕ) (journal : List Entry) (entry : Entry) → IsDataJournal head number journal → IsLegalEntry head number journal entry
-    → IsDataJournal head number (journal ++ entry ∷ [])
-journal-push head number journal entry h e = legal-push head number [] journal entry h e
+state-push : (head : LaneHead) (number : ℕ) (s : State) (journal : List Entry) (entry : Entry) → state_after head number s (journal ++ entry ∷ []) ≡ entry_after head number (state_after head number s journal) entry
+state-push head number s [] entry = refl
+state-push head number s (first ∷ more) entry = state-push head number (entry_after head number s first) more entry
 
 asks_so : (edition : ℕ) (routing : RoutingData) (asks : Option Question) → is_some (asked_at edition routing asks) ≡ is_some asks
 asks_so edition routing None = refl
 asks_so edition routing (Some q) = refl
 
-pub entry-legal : (head : LaneHead) (number : ℕ) (before : List Entry) (plant : PlantState) (stamp : Stamp) (e : Event) → IsLegalEntry head number before (entry_of plant stamp e)
-entry-legal head number before plant stamp e = record { routed = asks_so plant.edition plant.routing (question_of e); outputs = refl }
+-- what an event gives by its turn
+step-turn : (head : LaneHead) (number : ℕ) (s : State) (e : Event) (asked : Option Asked) (turn : Turn) → turn ≡ turn_by head number (reduced s.cut) (matter_of e) (answer_in asked)
+    → step_of head number s e (answer_in asked) ≡ joined s.cut turn (worked head.terms.own (ticks_of head) s.processes turn.work)
+unfolding step_of
+step-turn head number s e asked turn t = ap (step_by head s) (sym (t ∙ turn-reduced head number s.cut (matter_of e) (answer_in asked)))
+
+-- the entry of an event with its turn
+abbrev pub entry_with : LaneHead → Reassemblies → Stamp → Event → Option Asked → Turn → Entry
+entry_with head bench stamp e asked turn =
+    record { stamp = stamp; event = e; asked = asked; outs = turn.outs ++ (worked head.terms.own bench.ticks bench.processes turn.work).outs }
+
+-- such an entry, and the work done by the reassemblies
+pub record IsWritten (head : LaneHead) (number : ℕ) (plant : PlantState) (e : Event) (count : ℕ) (bench after : Reassemblies) (turn : Turn) (entry : Entry) : Type 0 where
+  pub of_event : entry.event ≡ e
+  pub asked : entry.asked ≡ asked_of plant e
+  pub by : turn ≡ turn_by head number count (matter_of e) (answer_in entry.asked)
+  pub outs : entry.outs ≡ turn.outs ++ (worked head.terms.own bench.ticks bench.processes turn.work).outs
+  pub processes : after.processes ≡ (worked head.terms.own bench.ticks bench.processes turn.work).processes
+  pub ticks : after.ticks ≡ bench.ticks
+  pub bounds : IsWithinBounds after.processes
+
+-- so the lane goes on
+pub lane-goes : (head : LaneHead) (number : ℕ) (journal : List Entry) (plant : PlantState) (e : Event) (count : ℕ) (bench after : Reassemblies) (turn : Turn) (entry : Entry)
+    → IsLane head number journal count bench → IsWritten head number plant e count bench after turn entry
+    → IsLane head number (journal ++ entry ∷ []) (reduced (reduced count + (if turn.is_cut then 1 else 0))) after
+lane-goes head number journal plant e count bench after turn entry lane written =
+    let s = state_after head number at_first journal in
+    let routed : is_some entry.asked ≡ is_some (question_of entry.event) =
+    ap is_some written.asked ∙ asks_so plant.edition plant.routing (question_of e) ∙ ap (λ f. is_some (question_of f)) (sym written.of_event) in
+    let by : turn ≡ turn_by head number (reduced s.cut) (matter_of entry.event) (answer_in entry.asked) =
+    written.by ∙ ap (λ n. turn_by head number n (matter_of e) (answer_in entry.asked)) lane.cut ∙ ap (λ f. turn_by head number (reduced s.cut) (matter_of f) (answer_in entry.asked)) (sym written.of_event) in
+    let same : worked head.terms.own bench.ticks bench.processes turn.work ≡ worked head.terms.own (ticks_of head) s.processes turn.work =
+    ap (λ n. worked head.terms.own n bench.processes turn.work) lane.ticks ∙ ap (λ p. worked head.terms.own (ticks_of head) p turn.work) lane.processes in
+    let step : step_of head number s entry.event (answer_in entry.asked) ≡ joined s.cut turn (worked head.terms.own (ticks_of head) s.processes turn.work) =
+    step-turn head number s entry.event entry.asked turn by in
+    let legal : IsLegalEntry head number s entry = record {
+      routed = routed;
+      outputs = written.outs ∙ ap (λ w. turn.outs ++ w.outs) same ∙ sym (ap (λ (x : Step). x.outs) step);
+    } in
+    let left : state_after head number at_first (journal ++ entry ∷ []) ≡ (joined s.cut turn (worked head.terms.own (ticks_of head) s.processes turn.work)).after =
+    state-push head number at_first journal entry ∙ ap (λ (x : Step). x.after) step in
+    record {
+      legal = legal-push head number at_first journal entry lane.legal legal;
+      cut = ap (λ n. reduced (reduced n + (if turn.is_cut then 1 else 0))) lane.cut ∙ reduced-add s.cut (if turn.is_cut then 1 else 0) ∙ sym (ap (λ (x : State). reduced x.cut) left);
+      processes = written.processes ∙ ap (λ w. w.processes) same ∙ sym (ap (λ (x : State). x.processes) left);
+      ticks = written.ticks ∙ lane.ticks;
+      bounds = written.bounds;
+    }

@@ -1,47 +1,38 @@
--- A legal data journal: what an event asks of routing, and what comes of it, entry by entry.
-use Rattle.std.specs.Prelude.{◌≡◌, ℕ, ◌%◌, List, [], ◌∷◌, ◌++◌, if◌then◌else◌, Option, Some, None, option_map, is_some, Ok, Err}
-use Rattle.std.specs.declared.result.Result.{Result}
+-- A legal data journal: what each event asks of routing, and what comes of it by the answer and by what the entries before it left.
+use Rattle.std.specs.Prelude.{◌≡◌, ℕ, ◌+◌, ◌/◌, ◌%◌, ◌==◌, Bool, true, false, List, [], ◌∷◌, ◌++◌, map, slice_index, if◌then◌else◌, Option, Some, None, option_map, is_some}
 use Rattle.relay_base.specs.declared.words.Event.{Event}
-use Rattle.relay_base.specs.declared.words.Event.TheVariants as event
 use Rattle.relay_base.specs.declared.words.Stamp.{Stamp}
 use Rattle.relay_base.specs.declared.words.Output.{Output}
-use Rattle.relay_base.specs.declared.words.Output.TheVariants.{Told}
+use Rattle.relay_base.specs.declared.words.Output.TheVariants.{Told, Lost as Dropped}
+use Rattle.relay_base.specs.declared.words.Lost.TheVariants.{Segment as SegmentLost}
 use Rattle.relay_base.specs.declared.words.Tell.TheVariants.{Unit as UnitTold}
-use Rattle.relay_base.specs.declared.words.ReadFault.{ReadFault}
-use Rattle.q713_codec.specs.declared.message.Message.{Message}
-use Rattle.q713_codec.specs.declared.message.Message.TheVariants.{Udt}
-use Rattle.q713_codec.specs.Reading.{reading_of}
-use Rattle.sccp_address.specs.Form.{Form}
-use Rattle.sccp_address.specs.Parsing.{address_of}
-use Rattle.sccp_address.specs.declared.address.AddressFault.{AddressFault}
 use Rattle.plant_core.specs.Plant.{RoutingData, PlantState}
 use Rattle.plant_core.specs.Routing.{route_of}
 use Rattle.plant_core.specs.declared.answer.Answer.{Answer}
-use Rattle.plant_core.specs.declared.answer.Answer.TheVariants.{Local}
-use Rattle.plant_core.specs.declared.answer.Origin.{Origin}
-use Rattle.plant_core.specs.declared.answer.Origin.TheVariants.{Network}
 use Rattle.plant_core.specs.declared.entry.Asked.{Asked}
 use Rattle.plant_core.specs.declared.entry.Entry.{Entry}
 use Rattle.plant_core.specs.declared.terms.LaneHead.{LaneHead}
-
--- what routing is asked
-pub record Question : Type 0 where
-  pub called : Form
-  pub hop : Option ℕ
-  pub origin : Origin
-
-abbrev pub addressed : Result Form AddressFault → Option Question
-addressed (Ok called) = Some (record { called = called; hop = None; origin = Network })
-addressed (Err f) = None
-
-abbrev pub message_question : Result Message ReadFault → Option Question
-message_question (Ok (Udt class called calling body)) = addressed (address_of called)
-message_question _ = None
+use Rattle.reassembly.specs.Reassembly.{takes, ended_by_tick, after_tick}
+use Rattle.reassembly.specs.declared.piece.Piece.{Piece}
+use Rattle.reassembly.specs.declared.piece.Now.{Now}
+use Rattle.reassembly.specs.declared.piece.Now.TheVariants.{Waiting, Whole, NoRoom, Orphan, Broken}
+use Rattle.reassembly.specs.declared.piece.Taken.{Taken}
+use Rattle.reassembly.specs.declared.process.Process.{Process}
+use Rattle.connectionless.specs.declared.segment.Segment.{Segment}
+use Rattle.connectionless.specs.declared.segment.Next.{Next}
+use Rattle.connectionless.specs.declared.segment.Next.TheVariants.{Done, Gather}
+use Rattle.connectionless.specs.Unitdata.{unitdata_of}
+use Rattle.connectionless.specs.Returning.{refusal_output, unit_in}
+use Rattle.connectionless.specs.Routed.{Outcome, outcome_of}
+use Rattle.connectionless.specs.Given.{Sending, given_of, sending_of, reference_after}
+use Rattle.connectionless.specs.Asking.{Question, Matter, from_network, from_user, settled, of_tick, matter_of, question_in}
+use Rattle.data_lane.specs.declared.turn.Turn.{Turn}
+use Rattle.data_lane.specs.declared.turn.Work.{Work}
+use Rattle.data_lane.specs.declared.turn.Work.TheVariants as work
 
 -- what an event asks of routing
 abbrev pub question_of : Event → Option Question
-question_of (event.Message opc sls bytes) = message_question (reading_of bytes)
-question_of _ = None
+question_of e = question_in (matter_of e)
 
 abbrev pub answer_to : RoutingData → Question → Answer
 answer_to routing q = route_of routing q.called q.hop q.origin
@@ -50,50 +41,144 @@ answer_to routing q = route_of routing q.called q.hop q.origin
 abbrev pub asked_at : ℕ → RoutingData → Option Question → Option Asked
 asked_at edition routing asks = option_map (λ q. record { edition = edition; answer = answer_to routing q }) asks
 
-abbrev pub message_asked : PlantState → List ℕ → Option Asked
-message_asked plant bytes = asked_at plant.edition plant.routing (message_question (reading_of bytes))
-
 -- the routing that an event asks, at the edition of these routing data
 abbrev pub asked_of : PlantState → Event → Option Asked
 asked_of plant e = asked_at plant.edition plant.routing (question_of e)
 
-abbrev pub told_of : Result Message ReadFault → Answer → List Output
-told_of (Ok (Udt class called calling body)) (Local ssn) = Told ssn (UnitTold (class % 16) called calling body) ∷ []
-told_of _ _ = []
-
-abbrev pub message_outputs : List ℕ → Option Answer → List Output
-message_outputs bytes None = []
-message_outputs bytes (Some answer) = told_of (reading_of bytes) answer
-
-abbrev pub event_outputs : Event → Option Answer → List Output
-event_outputs (event.Message opc sls bytes) answer = message_outputs bytes answer
-event_outputs _ answer = []
-
--- what comes of an event, with the answer to what it asked, after these entries
-abbrev pub outputs_of : LaneHead → ℕ → List Entry → Event → Option Answer → List Output
-outputs_of head number before e answer = event_outputs e answer
-
 abbrev pub answer_in : Option Asked → Option Answer
 answer_in asked = option_map (λ a. a.answer) asked
 
--- the entry of an event, with these routing data
-abbrev pub entry_of : PlantState → Stamp → Event → Entry
-entry_of plant stamp e =
-    let asked = asked_of plant e in
-    record { stamp = stamp; event = e; asked = asked; outs = event_outputs e (answer_in asked) }
+-- What comes of an event before the reassemblies have it.
 
--- an entry after these: it asked where its event asks, and has the outputs of its event and answer
-pub record IsLegalEntry (head : LaneHead) (number : ℕ) (before : List Entry) (entry : Entry) : Type 0 where
+-- a segment for a local subsystem
+abbrev pub piece_of : Segment → ℕ → Piece
+piece_of s ssn = record {
+  opc = s.opc;
+  sls = s.sls;
+  class_octet = s.class_octet;
+  called = s.called;
+  calling = s.calling;
+  body = s.body;
+  segmentation = s.segmentation;
+  importance = s.importance;
+  ssn = ssn;
+}
+
+abbrev pub work_of : Next → Work
+work_of Done = work.Nothing
+work_of (Gather segment ssn) = work.Segment (piece_of segment ssn)
+
+abbrev pub turn_with : List Output → Work → Turn
+turn_with outs todo = record { outs = outs; is_cut = false; work = todo }
+
+abbrev pub of_outcome : Outcome → Turn
+of_outcome x = turn_with x.outs (work_of x.next)
+
+abbrev pub of_sending : Sending → Turn
+of_sending x = record { outs = x.outs; is_cut = x.is_cut; work = work.Nothing }
+
+-- by the answer to what was asked, in the lane of this number after so many users' units that were cut
+abbrev pub turn_by : LaneHead → ℕ → ℕ → Matter → Option Answer → Turn
+turn_by head number cut (from_network opc sls message q) (Some answer) = of_outcome (outcome_of head.terms.own opc sls (unitdata_of message) answer)
+turn_by head number cut (from_user ssn request q) (Some answer) = of_sending (sending_of (given_of ssn request) answer (reference_after number cut))
+turn_by head number cut (settled outs) answer = turn_with outs work.Nothing
+turn_by head number cut of_tick answer = turn_with [] work.Tick
+turn_by head number cut (from_network opc sls message q) None = turn_with [] work.Nothing
+turn_by head number cut (from_user ssn request q) None = turn_with [] work.Nothing
+
+-- What comes of the reassemblies (Q.714): a failed one is returned with cause 0E hex, and one without room with cause 9.
+
+abbrev pub failure : ℕ → ℕ → Piece → Output
+failure own cause p = refusal_output own p.opc p.sls cause (unit_in p)
+
+abbrev pub failures : ℕ → Option Piece → List Output
+failures own None = []
+failures own (Some p) = failure own 0x0E p ∷ []
+
+-- bit 7 of the segmentation's first octet
+abbrev pub class_bit : Piece → ℕ
+class_bit p = slice_index p.segmentation 0 / 64 % 2
+
+-- a whole one is told to its user, in the class of its first segment
+abbrev pub whole_told : Piece → Output
+whole_told p = Told p.ssn (UnitTold (class_bit p) p.called p.calling p.body)
+
+abbrev pub of_now : ℕ → Now → List Output
+of_now own Waiting = []
+of_now own Orphan = Dropped SegmentLost ∷ []
+of_now own Broken = Dropped SegmentLost ∷ []
+of_now own (NoRoom p) = failure own 0x09 p ∷ []
+of_now own (Whole p) = whole_told p ∷ []
+
+abbrev pub is_no_room : Now → Bool
+is_no_room (NoRoom p) = true
+is_no_room _ = false
+
+-- The reassemblies after their work, and its outputs.
+pub record Worked : Type 0 where
+  pub processes : List Process
+  pub outs : List Output
+
+abbrev pub taken_outs : ℕ → Taken → List Output
+taken_outs own taken = failures own taken.failed ++ of_now own taken.now
+
+abbrev pub of_taken : ℕ → List Process × Taken → Worked
+of_taken own x = record { processes = x.0; outs = taken_outs own x.1 }
+
+-- a reassembly has at least one tick
+abbrev pub ticks_of : LaneHead → ℕ
+ticks_of head = if head.reassembly == 0 then 1 else head.reassembly
+
+abbrev pub worked : ℕ → ℕ → List Process → Work → Worked
+worked own ticks processes work.Nothing = record { processes = processes; outs = [] }
+worked own ticks processes (work.Segment piece) = of_taken own (takes ticks processes piece)
+worked own ticks processes work.Tick = record { processes = after_tick processes; outs = map (failure own 0x0E) (ended_by_tick processes) }
+
+-- What the entries before leave: how many of them cut a user's unit into segments, and the reassemblies under way.
+pub record State : Type 0 where
+  pub cut : ℕ
+  pub processes : List Process
+
+abbrev pub at_first : State
+at_first = record { cut = 0; processes = [] }
+
+-- The outputs of an event, and what it leaves.
+pub record Step : Type 0 where
+  pub outs : List Output
+  pub after : State
+
+abbrev pub joined : ℕ → Turn → Worked → Step
+joined cut turn done = record { outs = turn.outs ++ done.outs; after = record { cut = cut + (if turn.is_cut then 1 else 0); processes = done.processes } }
+
+abbrev pub step_by : LaneHead → State → Turn → Step
+step_by head s turn = joined s.cut turn (worked head.terms.own (ticks_of head) s.processes turn.work)
+
+unfoldable pub step_of : LaneHead → ℕ → State → Event → Option Answer → Step
+step_of head number s e answer = step_by head s (turn_by head number s.cut (matter_of e) answer)
+
+-- The journal.
+
+-- an entry: it asked where its event asks, and has the outputs of its event and answer
+pub record IsLegalEntry (head : LaneHead) (number : ℕ) (s : State) (entry : Entry) : Type 0 where
   pub routed : is_some entry.asked ≡ is_some (question_of entry.event)
-  pub outputs : entry.outs ≡ outputs_of head number before entry.event (answer_in entry.asked)
+  pub outputs : entry.outs ≡ (step_of head number s entry.event (answer_in entry.asked)).outs
 
-abbrev pub LegalAfter : LaneHead → ℕ → List Entry → List Entry → Type 0
-LegalAfter head number before [] = Unit {0}
-LegalAfter head number before (entry ∷ more) = IsLegalEntry head number before entry × LegalAfter head number (before ++ entry ∷ []) more
+-- what an entry leaves
+abbrev pub entry_after : LaneHead → ℕ → State → Entry → State
+entry_after head number s entry = (step_of head number s entry.event (answer_in entry.asked)).after
+
+-- what entries leave, one after another
+abbrev pub state_after : LaneHead → ℕ → State → List Entry → State
+state_after head number s [] = s
+state_after head number s (entry ∷ more) = state_after head number (entry_after head number s entry) more
+
+abbrev pub LegalFrom : LaneHead → ℕ → State → List Entry → Type 0
+LegalFrom head number s [] = Unit {0}
+LegalFrom head number s (entry ∷ more) = IsLegalEntry head number s entry × LegalFrom head number (entry_after head number s entry) more
 
 -- the journal of the data lane of this number
 abbrev pub IsDataJournal : LaneHead → ℕ → List Entry → Type 0
-IsDataJournal head number journal = LegalAfter head number [] journal
+IsDataJournal head number journal = LegalFrom head number at_first journal
 
 -- what a data lane is seen as
 pub record LaneState : Type 0 where

@@ -1,12 +1,20 @@
 //! The data lane.
-ghost use Rattle.std.specs.Prelude.{◌≡◌, ◌<◌, ◌≤◌, [], IfOk, OnOk, OnErr};
-ghost use Rattle.data_lane.specs.Legal.{entry_of};
+ghost use Rattle.std.specs.Prelude.{◌≡◌, ◌+◌, ◌++◌, ◌∷◌, [],  if◌then◌else◌, IfOk, OnOk, OnErr};
+ghost use Rattle.reassembly.specs.Laws.{IsWithinBounds};
+ghost use Rattle.data_lane.specs.Legal.{ticks_of, worked};
+ghost use Rattle.data_lane.specs.Lane.{reduced};
 
-use crate::units::{asked_of, outputs_of};
+use crate::gathering::work_off;
+use crate::turn::{Setting, Work};
 use plant_core::{Entry, EntryList, LaneHead, Plant};
-use relay_base::{Event, Memory, Stamp};
+use reassembly::Bench;
+use relay_base::{Event, Memory, Pc, Stamp};
 use std::alloc::{AllocError, Global};
 use std::marker::Model;
+use std::mem;
+
+/// How many references of segments a lane has (Q.713, segmentation local reference: 24 bits, of which four are the lane's number).
+const REFERENCES: u32 = 1_048_576;
 
 /// The units of one lane. Its journal is a legal one at all times.
 #[derive(Drop)]
@@ -15,16 +23,20 @@ pub struct DataLane {
     head: LaneHead,
     number: u8,
     journal: EntryList,
+    /// How many users' units were cut into segments, as far as references tell them apart.
+    cut: u32,
+    bench: Bench,
 }
 
 impl Model for DataLane {
-    ghost use Rattle.data_lane.specs.Legal.{LaneState, IsDataJournal};
+    ghost use Rattle.data_lane.specs.Legal.{LaneState};
+    ghost use Rattle.data_lane.specs.Lane.{IsLane};
 
     ghost Value = { LaneState };
 
     ghost view = { λ l. record { head = l.head; number = l.number; journal = l.journal } };
 
-    ghost invariant = { λ l. IsDataJournal l.head l.number l.journal };
+    ghost invariant = { λ l. IsLane l.head l.number l.journal l.cut l.bench };
 }
 
 fn copy_of(event: &Event) -> Result<Event, AllocError>
@@ -33,18 +45,57 @@ fn copy_of(event: &Event) -> Result<Event, AllocError>
     event.clone()
 }
 
-/// The entry of an event, with these routing data.
-fn entry_of(alloc: Global, plant: &Plant, stamp: Stamp, event: &Event) -> Result<Entry, Memory>
-    ensures { IfOk result (λ entry. entry ≡ entry_of plant.now stamp event.now) }
+/// The ticks of a reassembly, at least one.
+fn ticks_of(head: &LaneHead) -> u32
+    ensures { result ≡ ticks_of head.now }
 {
-    let asked = asked_of(plant, event);
-    let outs = outputs_of(alloc, event, &asked)?;
-    Ok(Entry {
+    if head.reassembly == 0 {
+        1
+    } else {
+        head.reassembly
+    }
+}
+
+/// The count after one more event.
+fn count_after(cut: u32, is_cut: bool) -> u32
+    ensures { result ≡ reduced (reduced cut + (if is_cut then 1 else 0)) }
+{
+    (cut % REFERENCES + u32::from(is_cut)) % REFERENCES
+}
+
+/// Does what is left to do with the reassemblies, and puts the entry at the end of the journal, with what comes of that. After `Memory`
+/// both are as before.
+fn write(
+    alloc: Global,
+    own: Pc,
+    bench: &mut Bench,
+    journal: &mut Vec<Entry>,
+    entry: Entry,
+    work: Work,
+) -> Result<(), Memory>
+    requires { IsWithinBounds bench.old.processes }
+    ensures entry { OnOk result (journal.new.items ≡ journal.old.items ++ record entry { outs = entry.outs ++ (worked own bench.old.ticks bench.old.processes work).outs } ∷ []) }
+    ensures processes { OnOk result (bench.new.processes ≡ (worked own bench.old.ticks bench.old.processes work).processes) }
+    ensures ticks { bench.new.ticks ≡ bench.old.ticks }
+    ensures journal { OnErr result (journal.new.items ≡ journal.old.items) }
+    ensures bench { OnErr result (bench.new ≡ bench.old) }
+    ensures bounds { IsWithinBounds bench.new.processes }
+{
+    journal.reserve(1)?;
+    let Entry {
         stamp,
-        event: copy_of(event)?,
+        event,
         asked,
         outs,
-    })
+    } = entry;
+    let outs = work_off(alloc, own, bench, work, outs)?;
+    journal.push_reserved(Entry {
+        stamp,
+        event,
+        asked,
+        outs,
+    });
+    Ok(())
 }
 
 impl DataLane {
@@ -59,6 +110,8 @@ impl DataLane {
             head: *head,
             number,
             journal: EntryList::new(alloc),
+            cut: 0,
+            bench: Bench::new(alloc, ticks_of(head)),
         })
     }
 
@@ -67,8 +120,26 @@ impl DataLane {
         ensures ok { OnOk result (Takes plant.now stamp event.now self.old self.new) }
         ensures err { OnErr result (self.new ≡ self.old) }
     {
-        let entry = entry_of(self.alloc, plant, stamp, event)?;
-        self.journal.push(entry)?;
+        let setting = Setting {
+            alloc: self.alloc,
+            head: self.head,
+            number: self.number,
+            cut: self.cut,
+            plant,
+        };
+        let (asked, turn) = setting.turn_of(event)?;
+        let entry = Entry {
+            stamp,
+            event: copy_of(event)?,
+            asked,
+            outs: turn.outs,
+        };
+        let own = self.head.terms.own;
+        let mut journal = mem::replace(&mut self.journal, EntryList::new(self.alloc)).into_vec();
+        let written = write(self.alloc, own, &mut self.bench, &mut journal, entry, turn.work);
+        self.journal = EntryList::from(journal);
+        written?;
+        self.cut = count_after(self.cut, turn.is_cut);
         Ok(())
     }
 

@@ -1,7 +1,8 @@
-//! A data lane: the units that one lane takes, and the journal of what came of them.
+//! A data lane: the units that one lane takes, the messages that it puts together of segments, and the journal of what came of them.
 #![tactic(auto)]
 
+mod gathering;
 mod lane;
-mod units;
+mod turn;
 
 pub use lane::DataLane;

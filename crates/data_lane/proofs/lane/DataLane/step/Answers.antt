@@ -1,22 +1,41 @@
-use Rattle.std.proofs.Common.{◌≡◌, ◌∙◌, ◌++◌, ◌∷◌, [], sym, ap, subst, refl}
-use Rattle.data_lane.specs.Legal.{IsDataJournal, IsLegalEntry, LaneState}
-use Rattle.data_lane.proofs.LegalLemmas.{journal-push, entry-legal}
+use Rattle.std.proofs.Common.{◌≡◌, ◌+◌, ◌∙◌, ◌++◌, ◌∷◌, [], if◌then◌else◌, sym, ap, subst, refl}
+use Rattle.plant_core.specs.declared.entry.Entry.{Entry}
+use Rattle.data_lane.specs.Legal.{LaneState}
+use Rattle.data_lane.specs.Lane.{IsLane, reduced}
+use Rattle.data_lane.proofs.LegalLemmas.{entry_with, IsWritten, lane-goes}
 use Rattle.data_lane.proofs.lane.DataLane.step.Goals as goal
 
 pub invariant_of-self-2 : goal.invariant_of-self-2
 invariant_of-self-2 c =
     let lane = c.self.inside in
-    let legal : IsLegalEntry lane.head lane.number lane.journal c.in_ok-entry.entry =
-    subst (IsLegalEntry lane.head lane.number lane.journal) (sym c.in_ok-entry.ensures) (entry-legal lane.head lane.number lane.journal c.args.plant.now c.args.stamp c.args.event.now) in
-    subst (IsDataJournal lane.head lane.number) (sym c.in_ok-push.ensures.ok) (journal-push lane.head lane.number lane.journal c.in_ok-entry.entry c.self.invariant legal)
+    let after = c.write-written.new.bench in
+    let turn = c.in_ok-asked.turn in
+    let entry = entry_with lane.head lane.bench c.args.stamp c.in_ok-copy_of.field-0 c.in_ok-asked.asked turn in
+    let written : IsWritten lane.head lane.number c.args.plant.now c.args.event.now lane.cut lane.bench after turn entry = record {
+      of_event = c.in_ok-copy_of.ensures;
+      asked = c.in_ok-asked.ensures.asked;
+      by = c.in_ok-asked.ensures.turn;
+      outs = refl;
+      processes = c.in_ok-written.ensures.processes;
+      ticks = c.write-written.ensures.ticks;
+      bounds = c.write-written.ensures.bounds;
+    } in
+    let journal : c.from.result ≡ lane.journal ++ entry ∷ [] =
+    c.from.ensures ∙ c.in_ok-written.ensures.entry ∙ ap (λ l. l ++ entry ∷ []) (c.into_vec-journal.ensures ∙ c.replace.ensures.value) in
+    let goes = lane-goes lane.head lane.number lane.journal c.args.plant.now c.args.event.now lane.cut lane.bench after turn entry c.self.invariant written in
+    subst (λ n. IsLane lane.head lane.number c.from.result n after) (sym c.count_after-self-inside.ensures)
+    (subst (λ l. IsLane lane.head lane.number l (reduced (reduced lane.cut + (if turn.is_cut then 1 else 0))) after) (sym journal) goes)
 
 pub returns-clause-ok : goal.returns-clause-ok
-returns-clause-ok c = record {
-  entry = c.in_ok-entry.entry;
-  journal = c.in_ok-push.ensures.ok ∙ ap (λ (l : LaneState). l.journal ++ c.in_ok-entry.entry ∷ []) c.self.view_is;
-  stamped = ap (λ e. e.stamp) c.in_ok-entry.ensures;
-  of_event = ap (λ e. e.event) c.in_ok-entry.ensures;
-  answered = ap (λ e. e.asked) c.in_ok-entry.ensures;
-  head = ap (λ (l : LaneState). l.head) c.self.view_is;
-  number = ap (λ (l : LaneState). l.number) c.self.view_is;
-}
+returns-clause-ok c =
+    let lane = c.self.inside in
+    let entry = entry_with lane.head lane.bench c.args.stamp c.in_ok-copy_of.field-0 c.in_ok-asked.asked c.in_ok-asked.turn in
+    record {
+      entry = entry;
+      journal = c.from.ensures ∙ c.in_ok-written.ensures.entry ∙ ap (λ l. l ++ entry ∷ []) (c.into_vec-journal.ensures ∙ c.replace.ensures.value) ∙ ap (λ (l : LaneState). l.journal ++ entry ∷ []) c.self.view_is;
+      stamped = refl;
+      of_event = c.in_ok-copy_of.ensures;
+      answered = c.in_ok-asked.ensures.asked;
+      head = ap (λ (l : LaneState). l.head) c.self.view_is;
+      number = ap (λ (l : LaneState). l.number) c.self.view_is;
+    }

@@ -1,0 +1,3 @@
+pub mod AddressLengths
+pub mod Ranges
+pub mod Routable

@@ -1,0 +1,48 @@
+-- The units that a user gives may be written.
+use Rattle.std.proofs.Common.{◌≡◌, ℕ, ◌+◌, ◌≤◌, List, [], ◌∷◌, ◌++◌, length, Bool, true, false, refl, arith, take, drop, length-take, length-append}
+use Rattle.std.specs.Prelude.{◌&&◌, not, nat_le, IsTrue, Some, None}
+use Rattle.std.proofs.lemmas.Bool.{leb-true}
+use Rattle.std.proofs.lemmas.Bool.Decides.{nat_tests}
+use Rattle.connectionless.specs.Routed.{called_onward}
+use Rattle.connectionless.specs.Given.{Given, IsInRange, IsShort, is_cut}
+use Rattle.connectionless.proofs.AddressLengths.{length-called_onward}
+use Rattle.plant_core.specs.declared.answer.Rewrite.{Rewrite}
+use Rattle.q713_shape.specs.Writing.{are_in_range}
+use Rattle.q713_codec.specs.Writing.{is_in_range}
+use Rattle.q713_codec.specs.declared.message.Message.TheVariants.{Udt, Xudt}
+
+pub segment-in_range : (first hop : ℕ) (called calling body segmentation : List ℕ) → length called + length calling + length body ≤ 251 → length segmentation ≡ 4
+    → IsTrue (is_in_range (Xudt first hop called calling body (Some segmentation) None))
+unfolding is_in_range are_in_range
+segment-in_range first hop called calling body segmentation few four =
+    grind (arith, nat_tests, length-append {A = ℕ})
+
+pub whole-in_range : (first : ℕ) (called calling body : List ℕ) → length called + length calling ≤ 252 → length body ≤ 255
+    → IsTrue (is_in_range (Udt first called calling body))
+unfolding is_in_range are_in_range
+whole-in_range first called calling body few short = grind (arith, nat_tests)
+
+pub status-in_range : (ssn low high : ℕ) → IsTrue (is_in_range (Udt 0 (0x42 ∷ 0x01 ∷ []) (0x42 ∷ 0x01 ∷ []) (0x02 ∷ ssn ∷ low ∷ high ∷ 0x00 ∷ [])))
+unfolding is_in_range are_in_range
+status-in_range ssn low high = refl
+
+-- what one UDT holds is short
+uncut : (short few : Bool) → not (short && few) ≡ false → short ≡ true
+uncut true few e = refl
+uncut false few e = cc
+
+pub uncut-body : (g : Given) (called : List ℕ) → is_cut g called ≡ false → length g.body ≤ 255
+uncut-body g called e =
+    leb-true (length g.body) 255 (uncut (nat_le (length g.body) 255) (nat_le (8 + length called + length g.calling + length g.body) 268) e)
+
+-- a part of the data
+pub length-part : (size start : ℕ) (body part : List ℕ) → part ≡ take size (drop start body) → length part ≤ size
+length-part size start body part e = rw e (omega (arith, length-take size (drop start body)))
+
+-- a unit in its ranges goes on with at most one octet more
+pub short : (g : Given) (rewrite : Rewrite) (called : List ℕ) → IsInRange g → called ≡ called_onward rewrite g.called → IsShort g called
+short g rewrite called range e = record {
+  class = range.class;
+  addresses = rw e (omega (arith, range.called_size, range.calling_size, length-called_onward rewrite g.called));
+  body_size = range.body_size;
+}

@@ -1,0 +1,114 @@
+-- What a unit asks of routing, or why it is lost (Q.714, connectionless service).
+use Rattle.std.specs.Prelude.{ℕ, ◌==◌, ◌||◌, ◌&&◌, nat_lt, not, Bool, List, [], ◌∷◌, length, slice_index, if◌then◌else◌, Option, Some, None, Ok, Err}
+use Rattle.std.specs.declared.result.Result.{Result}
+use Rattle.relay_base.specs.declared.words.Event.{Event}
+use Rattle.relay_base.specs.declared.words.Event.TheVariants.{Message as Arrived, Asked as Requested, Tick}
+use Rattle.relay_base.specs.declared.words.Request.{Request}
+use Rattle.relay_base.specs.declared.words.Request.TheVariants.{Unit as UnitRequest}
+use Rattle.relay_base.specs.declared.words.Lost.{Lost}
+use Rattle.relay_base.specs.declared.words.Lost.TheVariants.{Long, Read, Address, Class}
+use Rattle.relay_base.specs.declared.words.ReadFault.{ReadFault}
+use Rattle.relay_base.specs.declared.words.Output.{Output}
+use Rattle.relay_base.specs.declared.words.Output.TheVariants.{Lost as Dropped}
+use Rattle.sccp_address.specs.Form.{Form, seen}
+use Rattle.sccp_address.specs.Parsing.{address_of}
+use Rattle.sccp_address.specs.declared.address.AddressFault.{AddressFault}
+use Rattle.plant_core.specs.declared.answer.Ask.{Ask}
+use Rattle.plant_core.specs.declared.answer.Origin.{Origin}
+use Rattle.plant_core.specs.declared.answer.Origin.TheVariants.{Network, User as FromUser}
+use Rattle.q713_codec.specs.declared.message.Message.{Message}
+use Rattle.q713_codec.specs.Reading.{reading_of}
+use Rattle.connectionless.specs.Unitdata.{Unitdata, unitdata_of, class_of}
+use Rattle.connectionless.specs.Given.{is_unit_request}
+
+-- What routing is asked: a called address, a hop counter, and who asks.
+pub record Question : Type 0 where
+  pub called : Form
+  pub hop : Option ℕ
+  pub origin : Origin
+
+abbrev pub seen_ask : Ask → Question
+seen_ask ask = record { called = seen ask.called; hop = ask.hop; origin = ask.origin }
+
+-- a unit whose class is above 1
+abbrev pub is_of_wrong_class : Unitdata → Bool
+is_of_wrong_class x = not x.is_service && nat_lt 1 (class_of x)
+
+abbrev pub asked_by : Result Form AddressFault → Unitdata → Result Question Lost
+asked_by (Err fault) x = Err Address
+asked_by (Ok a) x = if is_of_wrong_class x then Err Class else Ok (record { called = a; hop = x.hop; origin = Network })
+
+-- what a unit or a service message from the network asks, or the first reason to lose it
+unfoldable pub question_of : Unitdata → Result Question Lost
+question_of x = asked_by (address_of x.called) x
+
+-- longer than a message may be that isn't LUDT or LUDTS
+abbrev pub is_too_long : List ℕ → Bool
+is_too_long bytes = nat_lt 268 (length bytes) && not (slice_index bytes 0 == 0x13 || slice_index bytes 0 == 0x14)
+
+-- the message that octets from the network are, or why they are lost
+abbrev pub message_by : Result Message ReadFault → Result Message Lost
+message_by (Ok message) = Ok message
+message_by (Err fault) = Err (Read fault)
+
+unfoldable pub message_in : List ℕ → Result Message Lost
+message_in bytes = if is_too_long bytes then Err Long else message_by (reading_of bytes)
+
+-- what a message asks, if it is of the connectionless service, or why it is lost
+abbrev pub some_question : Result Question Lost → Result (Option Question) Lost
+some_question (Ok question) = Ok (Some question)
+some_question (Err lost) = Err lost
+
+abbrev pub unit_question : Option Unitdata → Result (Option Question) Lost
+unit_question None = Ok None
+unit_question (Some x) = some_question (question_of x)
+
+unfoldable pub message_question : Message → Result (Option Question) Lost
+message_question message = unit_question (unitdata_of message)
+
+-- what a user's unit asks
+abbrev pub user_question_by : Result Form AddressFault → Option Question
+user_question_by (Err fault) = None
+user_question_by (Ok a) = Some (record { called = a; hop = None; origin = FromUser })
+
+abbrev pub request_question : Request → Option Question
+request_question (UnitRequest sls class ret called calling body) = user_question_by (address_of called)
+request_question _ = None
+
+unfoldable pub user_question : Request → Option Question
+user_question request = if is_unit_request request then request_question request else None
+
+-- What an event is to the connectionless service: a message with its question, a user's unit with its question, outputs that no
+-- routing decides, or a tick.
+pub data Matter : Type 0 where
+  from_network : ℕ → ℕ → Message → Question → Matter
+  from_user : ℕ → Request → Question → Matter
+  settled : List Output → Matter
+  of_tick : Matter
+
+-- a message of another service has no outputs
+abbrev pub matter_by_question : ℕ → ℕ → Message → Result (Option Question) Lost → Matter
+matter_by_question opc sls message (Ok (Some question)) = from_network opc sls message question
+matter_by_question opc sls message (Ok None) = settled []
+matter_by_question opc sls message (Err lost) = settled (Dropped lost ∷ [])
+
+abbrev pub matter_by_message : ℕ → ℕ → Result Message Lost → Matter
+matter_by_message opc sls (Ok message) = matter_by_question opc sls message (message_question message)
+matter_by_message opc sls (Err lost) = settled (Dropped lost ∷ [])
+
+-- a request that isn't a unit in its ranges has no outputs
+abbrev pub matter_by_request : ℕ → Request → Option Question → Matter
+matter_by_request ssn request None = settled []
+matter_by_request ssn request (Some question) = from_user ssn request question
+
+unfoldable pub matter_of : Event → Matter
+matter_of (Arrived opc sls bytes) = matter_by_message opc sls (message_in bytes)
+matter_of (Requested ssn request) = matter_by_request ssn request (user_question request)
+matter_of Tick = of_tick
+
+-- the question that an event asks, if it asks one
+abbrev pub question_in : Matter → Option Question
+question_in (from_network opc sls message question) = Some question
+question_in (from_user ssn request question) = Some question
+question_in (settled outs) = None
+question_in of_tick = None

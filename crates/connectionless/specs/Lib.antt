@@ -1,0 +1,6 @@
+pub mod Unitdata
+pub mod Leaving
+pub mod Returning
+pub mod Routed
+pub mod Given
+pub mod Asking

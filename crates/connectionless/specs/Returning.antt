@@ -1,0 +1,58 @@
+-- The return of a unit (Q.714, return on error), and what else comes of a refusal.
+use Rattle.std.specs.Prelude.{ℕ, ◌/◌, ◌%◌, ◌==◌, ◌&&◌, nat_le, not, Bool, true, false, List, [], ◌∷◌, if◌then◌else◌, Option, Some, None, Ok, Err, unwrap_or}
+use Rattle.std.specs.declared.result.Result.{Result}
+use Rattle.relay_base.specs.declared.words.Output.{Output}
+use Rattle.relay_base.specs.declared.words.Output.TheVariants.{Sent, Lost as Dropped}
+use Rattle.relay_base.specs.declared.words.Lost.TheVariants.{Cause}
+use Rattle.sccp_address.specs.Form.{Form}
+use Rattle.sccp_address.specs.Parsing.{address_of}
+use Rattle.sccp_address.specs.declared.address.AddressFault.{AddressFault}
+use Rattle.q713_codec.specs.Writing.{spelling_of}
+use Rattle.q713_codec.specs.declared.message.Message.TheVariants.{Udt}
+use Rattle.reassembly.specs.declared.piece.Piece.{Piece}
+use Rattle.connectionless.specs.declared.unitdata.Kind.TheVariants.{Extended}
+use Rattle.connectionless.specs.Unitdata.{Unitdata, with_hop}
+use Rattle.connectionless.specs.Leaving.{leaving_octets, sent_or}
+
+-- Called and calling change places, the cause stands in the place of the class octet, and the hop counter is 15.
+abbrev pub returned : ℕ → Unitdata → Unitdata
+returned cause x = record x { is_service = true; first = cause; hop = Some 15; called = x.calling; calling = x.called }
+
+-- the point that an address names, where it routes on its subsystem number and the point isn't the own one
+abbrev pub point_named : ℕ → Form → Option ℕ
+point_named own a = if a.on_ssn && not (unwrap_or a.point own == own) then a.point else None
+
+abbrev pub point_in : ℕ → Result Form AddressFault → Option ℕ
+point_in own (Ok a) = point_named own a
+point_in own (Err fault) = None
+
+-- it goes to the point that the calling address names, or else to the origin
+abbrev pub return_point : ℕ → ℕ → List ℕ → ℕ
+return_point own opc calling = unwrap_or (point_in own (address_of calling)) opc
+
+-- a return that can't leave is lost
+abbrev pub return_output : ℕ → ℕ → ℕ → ℕ → Unitdata → Output
+return_output own opc sls cause x =
+    sent_or (return_point own opc x.calling) sls (Dropped (Cause cause)) (leaving_octets (returned cause x))
+
+-- bit 8 of the class octet asks for return
+abbrev pub asks_return : Unitdata → Bool
+asks_return x = not x.is_service && nat_le 128 x.first
+
+-- a refused unit is returned where it asked that, and else it is lost, as a service message is
+unfoldable pub refusal_output : ℕ → ℕ → ℕ → ℕ → Unitdata → Output
+refusal_output own opc sls cause x =
+    if asks_return x then return_output own opc sls cause x else Dropped (Cause cause)
+
+-- The origin is told by management that a local subsystem is prohibited (Q.714, subsystem prohibited test).
+abbrev pub prohibited_octets : ℕ → ℕ → List ℕ
+prohibited_octets own ssn =
+    spelling_of (Udt 0 (0x42 ∷ 0x01 ∷ []) (0x42 ∷ 0x01 ∷ []) (0x02 ∷ ssn ∷ own % 256 ∷ own / 256 ∷ 0x00 ∷ []))
+
+unfoldable pub status_outputs : ℕ → ℕ → ℕ → Option ℕ → List Output
+status_outputs own opc sls None = []
+status_outputs own opc sls (Some ssn) = Sent opc sls (prohibited_octets own ssn) ∷ []
+
+-- the unit that a segment is
+abbrev pub unit_in : Piece → Unitdata
+unit_in p = with_hop Extended false p.class_octet 15 p.called p.calling p.body (Some p.segmentation) p.importance

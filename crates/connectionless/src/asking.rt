@@ -1,0 +1,95 @@
+//! What a unit asks of routing, or why it is lost (Q.714, connectionless service).
+ghost use Rattle.std.specs.Prelude.{◌≡◌, is_some, IfOk, IsOk, OnOk, OnSome};
+ghost use Rattle.std.specs.Option.{option_map};
+ghost use Rattle.relay_base.specs.Giving.{Gives};
+ghost use Rattle.sccp_address.specs.Parsing.{address_of};
+ghost use Rattle.q713_codec.specs.Reading.{seen};
+ghost use Rattle.connectionless.specs.Unitdata.{seen_unit};
+ghost use Rattle.connectionless.specs.Routed.{IsRoutable};
+ghost use Rattle.connectionless.specs.Given.{is_unit_request};
+ghost use Rattle.connectionless.specs.Asking.{is_too_long, question_of, message_question, message_in, seen_ask, user_question};
+
+use crate::given::is_unit_request;
+use crate::leaving::LONGEST;
+use crate::unitdata::{UnitView, unit_of};
+use plant_core::{Ask, Origin};
+use q713_codec::{View, read};
+use relay_base::{Lost, Request};
+use sccp_address::parse;
+
+/// Whether octets are longer than a message may be that isn't LUDT or LUDTS.
+fn is_too_long(bytes: &[u8]) -> bool
+    ensures { result ≡ is_too_long bytes.now }
+{
+    bytes.len() > LONGEST && !(bytes[0] == 0x13 || bytes[0] == 0x14)
+}
+
+/// What a unit or a service message asks of routing, or the first reason to lose it.
+#[tactic(auto, unfolding(crate::specs::Asking::question_of))]
+fn asked<'a>(unit: &UnitView<'a>) -> Result<Ask<'a>, Lost>
+    ensures value { Gives seen_ask result (question_of (seen_unit unit.now)) }
+    ensures address { OnOk result (IsOk (address_of unit.now.called.now)) }
+{
+    match parse(unit.called) {
+        Err(_) => Err(Lost::Address),
+        Ok(_) if !unit.is_service && unit.first % 16 > 1 => Err(Lost::Class),
+        Ok(called) => Ok(Ask {
+            called,
+            hop: unit.hop,
+            origin: Origin::Network,
+        }),
+    }
+}
+
+/// What a message asks of routing where it is of the connectionless service (Q.714); None where it is of another one. `Address`: its
+/// called address doesn't read; else `Class`: it is a unit whose class is above 1.
+#[tactic(auto, using(crate::proofs::Routable::routable), unfolding(crate::specs::Asking::message_question))]
+pub fn message_ask<'a>(view: &View<'a>) -> Result<Option<Ask<'a>>, Lost>
+    ensures value { Gives (option_map seen_ask) result (message_question (seen view.now)) }
+    ensures routable { IfOk result (λ ask. OnSome ask (IsRoutable (seen view.now))) }
+{
+    let Some(unit) = unit_of(view) else {
+        return Ok(None);
+    };
+    match asked(&unit) {
+        Ok(ask) => Ok(Some(ask)),
+        Err(lost) => Err(lost),
+    }
+}
+
+/// The message that octets from the network are. `Long`: they are more than 268, and not LUDT or LUDTS; else `Read`: the first fault
+/// of reading.
+#[tactic(auto, unfolding(crate::specs::Asking::message_in))]
+pub fn message_in(bytes: &[u8]) -> Result<View<'_>, Lost>
+    ensures { Gives seen result (message_in bytes.now) }
+{
+    if is_too_long(bytes) {
+        return Err(Lost::Long);
+    }
+    match read(bytes) {
+        Ok(view) => Ok(view),
+        Err(fault) => Err(Lost::Read(fault)),
+    }
+}
+
+/// What a user's unit asks of routing; None where the request isn't a unit in its ranges.
+#[tactic(auto, unfolding(crate::specs::Asking::user_question))]
+pub fn user_ask(request: &Request) -> Option<Ask<'_>>
+    ensures value { option_map seen_ask result ≡ user_question request.now }
+    ensures unit { is_some result ≡ is_unit_request request.now }
+{
+    if !is_unit_request(request) {
+        return None;
+    }
+    let Request::Unit { called, .. } = request else {
+        return None;
+    };
+    match parse(called.as_slice()) {
+        Ok(called) => Some(Ask {
+            called,
+            hop: None,
+            origin: Origin::User,
+        }),
+        Err(_) => None,
+    }
+}

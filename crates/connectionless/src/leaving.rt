@@ -1,0 +1,59 @@
+//! What leaves the node.
+ghost use Rattle.std.specs.Prelude.{◌≡◌, ◌++◌, IfOk, OnOk, OnErr, IsTrue};
+ghost use Rattle.q713_codec.specs.Writing.{is_in_range};
+ghost use Rattle.connectionless.specs.Unitdata.{seen_unit, message_of};
+ghost use Rattle.connectionless.specs.Leaving.{leaving_by, leaving_octets, unit_octets};
+
+use crate::unitdata::{Kind, UnitView, message_of};
+use q713_codec::{Message, length, write};
+use relay_base::{Memory, Octets, Outs};
+use std::alloc::Global;
+use std::mem;
+
+/// The longest message that isn't LUDT or LUDTS, in octets.
+pub const LONGEST: usize = 268;
+
+/// The octets of a message that may leave.
+fn leaving_by(alloc: Global, kind: Kind, message: &Message) -> Result<Option<Octets>, Memory>
+    ensures { IfOk result (λ octets. octets ≡ leaving_by kind message.now) }
+{
+    if !message.in_range() {
+        return Ok(None);
+    }
+    if kind != Kind::Long && length(message) > LONGEST {
+        return Ok(None);
+    }
+    Ok(Some(write(alloc, message)?))
+}
+
+/// The octets of a unit that may leave: its lengths and pointers are in range, and it has at most 268 octets, unless it is LUDT or
+/// LUDTS.
+#[tactic(auto, unfolding(crate::specs::Leaving::leaving_octets))]
+pub fn leaving_octets(alloc: Global, unit: &UnitView<'_>) -> Result<Option<Octets>, Memory>
+    ensures { IfOk result (λ octets. octets ≡ leaving_octets (seen_unit unit.now)) }
+{
+    let message = message_of(alloc, unit)?;
+    leaving_by(alloc, unit.kind, &message)
+}
+
+/// The octets of a unit that is in range.
+pub fn octets_of(alloc: Global, unit: &UnitView<'_>) -> Result<Octets, Memory>
+    requires { IsTrue (is_in_range (message_of (seen_unit unit.now))) }
+    ensures { IfOk result (λ octets. octets ≡ unit_octets (seen_unit unit.now)) }
+{
+    let message = message_of(alloc, unit)?;
+    write(alloc, &message)
+}
+
+/// Puts outputs at the end. After `Memory` the list is as before.
+pub fn append(alloc: Global, outs: &mut Outs, more: Outs) -> Result<(), Memory>
+    ensures ok { OnOk result (outs.new ≡ outs.old ++ more) }
+    ensures err { OnErr result (outs.new ≡ outs.old) }
+{
+    let mut items = mem::replace(outs, Outs::new(alloc)).into_vec();
+    let mut added = more.into_vec();
+    let appended = items.append(&mut added);
+    *outs = Outs::from(items);
+    appended?;
+    Ok(())
+}

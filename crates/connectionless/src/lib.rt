@@ -1,0 +1,22 @@
+//! The connectionless service (Q.714): what comes of units and service messages, and of the units that users give.
+#![tactic(auto)]
+
+mod asking;
+mod delivery;
+mod forwarding;
+mod given;
+mod leaving;
+mod outgoing;
+mod returning;
+mod segment;
+#[cfg(test)]
+mod tests;
+mod unit;
+mod unitdata;
+mod user;
+
+pub use asking::{message_ask, message_in, user_ask};
+pub use returning::return_outs;
+pub use segment::{Next, Segment};
+pub use unit::unit_outs;
+pub use user::user_outs;

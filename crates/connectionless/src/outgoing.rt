@@ -1,0 +1,161 @@
+//! A user's unit that goes to another point, as one UDT or cut into segments (Q.714, segmenting).
+ghost use Rattle.std.specs.Prelude.{◌≡◌, ◌≤◌, ◌<◌, false, length, take, drop, map, IfOk};
+ghost use Rattle.std.specs.List.{range_with_len};
+ghost use Rattle.connectionless.specs.Given.{seen_given, IsShort, return_bit, is_cut, segment_size, segment_count, segmentation_octets, whole_output, segment_output, sending_to};
+
+use crate::given::GivenView;
+use crate::leaving::{LONGEST, octets_of};
+use crate::unitdata::{Kind, UnitView};
+use relay_base::{Memory, Output, Outs, Pc, Ref24};
+use std::alloc::Global;
+
+/// A user's unit, with its called address as it goes on, the point that it goes to, and the reference that its segments have.
+#[derive(Clone, Copy)]
+pub struct OutgoingUnit<'a> {
+    pub given: &'a GivenView<'a>,
+    pub called: &'a [u8],
+    pub point: Pc,
+    pub reference: Ref24,
+}
+
+fn return_bit(ret: bool) -> u8
+    ensures { result ≡ return_bit ret }
+{
+    if ret { 0x80 } else { 0 }
+}
+
+/// At most this many octets from a place on.
+fn part(body: &[u8], start: usize, size: usize) -> &[u8]
+    requires { start ≤ length body.now }
+    ensures { result.now ≡ take size (drop start body.now) }
+{
+    let rest = &body[start..];
+    &rest[..size.min(rest.len())]
+}
+
+impl OutgoingUnit<'_> {
+    /// Whether it is cut into segments.
+    fn is_cut(&self) -> bool
+        requires { IsShort (seen_given self.now.given.now) self.now.called.now }
+        ensures { result ≡ is_cut (seen_given self.now.given.now) self.now.called.now }
+    {
+        let given = self.given;
+        let size = 8 + self.called.len() + given.calling.len() + given.body.len();
+        !(given.body.len() <= 255 && size <= LONGEST)
+    }
+
+    /// The octets of data in a full segment.
+    fn segment_size(&self) -> usize
+        requires { IsShort (seen_given self.now.given.now) self.now.called.now }
+        ensures value { result ≡ segment_size (seen_given self.now.given.now) self.now.called.now }
+        ensures least { 170 ≤ result }
+    {
+        251 - self.called.len() - self.given.calling.len()
+    }
+
+    /// How many segments there are.
+    fn segment_count(&self) -> usize
+        requires { IsShort (seen_given self.now.given.now) self.now.called.now }
+        ensures value { result ≡ segment_count (seen_given self.now.given.now) self.now.called.now }
+        ensures most { result ≤ 16 }
+    {
+        let size = self.segment_size();
+        (self.given.body.len() + size - 1) / size
+    }
+
+    /// The segmentation of the segment at a place, from 0.
+    fn segmentation(&self, place: usize) -> [u8; 4]
+        requires short { IsShort (seen_given self.now.given.now) self.now.called.now }
+        requires place { place < segment_count (seen_given self.now.given.now) self.now.called.now }
+        ensures { result ≡ segmentation_octets (seen_given self.now.given.now) self.now.called.now self.now.reference place }
+    {
+        let first_bit = if place == 0 { 0x80 } else { 0 };
+        let remaining = (self.segment_count() - 1 - place) as u8;
+        let reference = self.reference.number();
+        [
+            first_bit + 64 * self.given.class + remaining,
+            (reference % 256) as u8,
+            (reference / 256 % 256) as u8,
+            (reference / 65_536 % 256) as u8,
+        ]
+    }
+
+    /// The segment at a place, from 0.
+    #[tactic(auto, unfolding(crate::specs::Given::segment_output))]
+    fn segment(&self, alloc: Global, place: usize) -> Result<Output, Memory>
+        requires short { IsShort (seen_given self.now.given.now) self.now.called.now }
+        requires place { place < segment_count (seen_given self.now.given.now) self.now.called.now }
+        ensures { IfOk result (λ output. output ≡ segment_output (seen_given self.now.given.now) self.now.called.now self.now.point self.now.reference place) }
+    {
+        let given = self.given;
+        let size = self.segment_size();
+        let unit = UnitView {
+            kind: Kind::Extended,
+            is_service: false,
+            first: 1 + return_bit(given.ret),
+            hop: Some(15),
+            called: self.called,
+            calling: given.calling,
+            body: part(given.body, size * place, size),
+            segmentation: Some(self.segmentation(place)),
+            importance: None,
+        };
+        Ok(Output::Sent {
+            point: self.point,
+            sls: given.sls,
+            bytes: octets_of(alloc, &unit)?,
+        })
+    }
+
+    /// All segments, in their order.
+    fn segments(&self, alloc: Global) -> Result<Outs, Memory>
+        requires { IsShort (seen_given self.now.given.now) self.now.called.now }
+        ensures { IfOk result (λ outs. outs ≡ map (segment_output (seen_given self.now.given.now) self.now.called.now self.now.point self.now.reference) (range_with_len 0 (segment_count (seen_given self.now.given.now) self.now.called.now))) }
+    {
+        let mut outs = Outs::new(alloc);
+        for place in 0..self.segment_count() {
+            outs.push(self.segment(alloc, place)?)?;
+        }
+        Ok(outs)
+    }
+
+    /// The unit as one UDT.
+    #[tactic(auto, unfolding(crate::specs::Given::whole_output))]
+    fn whole(&self, alloc: Global) -> Result<Output, Memory>
+        requires short { IsShort (seen_given self.now.given.now) self.now.called.now }
+        requires uncut { is_cut (seen_given self.now.given.now) self.now.called.now ≡ false }
+        ensures { IfOk result (λ output. output ≡ whole_output (seen_given self.now.given.now) self.now.called.now self.now.point) }
+    {
+        let given = self.given;
+        let unit = UnitView {
+            kind: Kind::Basic,
+            is_service: false,
+            first: given.class + return_bit(given.ret),
+            hop: None,
+            called: self.called,
+            calling: given.calling,
+            body: given.body,
+            segmentation: None,
+            importance: None,
+        };
+        Ok(Output::Sent {
+            point: self.point,
+            sls: given.sls,
+            bytes: octets_of(alloc, &unit)?,
+        })
+    }
+
+    /// What leaves, and whether it was cut into segments.
+    #[tactic(auto, unfolding(crate::specs::Given::sent_outputs))]
+    pub fn sending(&self, alloc: Global) -> Result<(Outs, bool), Memory>
+        requires { IsShort (seen_given self.now.given.now) self.now.called.now }
+        ensures { IfOk result (λ x. record { outs = x.0; is_cut = x.1 } ≡ sending_to (seen_given self.now.given.now) self.now.called.now self.now.point self.now.reference) }
+    {
+        if self.is_cut() {
+            return Ok((self.segments(alloc)?, true));
+        }
+        let mut outs = Outs::new(alloc);
+        outs.push(self.whole(alloc)?)?;
+        Ok((outs, false))
+    }
+}
