@@ -2,7 +2,7 @@
 use Rattle.std.specs.Prelude.{ℕ, ◌&&◌, is_none, Bool, true, false, List, [], ◌∷◌, if◌then◌else◌, Option, Some, None, Ok, Err, IsSome, IfSome, IsOk}
 use Rattle.std.specs.declared.result.Result.{Result}
 use Rattle.relay_base.specs.declared.words.Output.{Output}
-use Rattle.relay_base.specs.declared.words.Output.TheVariants.{Sent, Told}
+use Rattle.relay_base.specs.declared.words.Output.TheVariants.{Told}
 use Rattle.relay_base.specs.declared.words.Tell.{Tell}
 use Rattle.relay_base.specs.declared.words.Tell.TheVariants.{Unit as UnitTold, Notice}
 use Rattle.sccp_address.specs.Form.{Form}

@@ -3,6 +3,7 @@ ghost use Rattle.std.specs.Prelude.{◌≡◌};
 ghost use Rattle.q713_shape.specs.Parts.{values_seen};
 ghost use Rattle.q713_codec.specs.Names.{Cr, Cc, Cref, Rlsd, Rlc, Dt1, Dt2, Ak, Udt, Udts, Ed, Ea, Rsr, Rsc, Error, It, Xudt, Xudts, Ludt, Ludts};
 ghost use Rattle.q713_codec.specs.Messages.{values_of_message};
+ghost use Rattle.q713_codec.specs.Types.{HasTypes};
 
 use crate::values::{four, high, low, middle, octet, octets};
 use q713_shape::Parts;
@@ -19,7 +20,8 @@ pub fn cr_parts<'a>(
     hop: &'a Option<u8>,
     importance: &'a Option<u8>,
 ) -> Parts<'a, 4, 1>
-    ensures { values_seen result ≡ values_of_message (Cr slr class_octet called.now credit.now calling.now body.now hop.now importance.now) }
+    ensures values { values_seen result ≡ values_of_message (Cr slr class_octet called.now credit.now calling.now body.now hop.now importance.now) }
+    ensures types { HasTypes (Cr slr class_octet called.now credit.now calling.now body.now hop.now importance.now) }
 {
     Parts {
         fixed: [low(slr), middle(slr), high(slr), class_octet],
@@ -44,7 +46,8 @@ pub fn cc_parts<'a>(
     body: &'a Option<Octets>,
     importance: &'a Option<u8>,
 ) -> Parts<'a, 7, 0>
-    ensures { values_seen result ≡ values_of_message (Cc dlr slr class_octet credit.now called.now body.now importance.now) }
+    ensures values { values_seen result ≡ values_of_message (Cc dlr slr class_octet credit.now called.now body.now importance.now) }
+    ensures types { HasTypes (Cc dlr slr class_octet credit.now called.now body.now importance.now) }
 {
     Parts {
         fixed: [
@@ -75,7 +78,8 @@ pub fn cref_parts<'a>(
     body: &'a Option<Octets>,
     importance: &'a Option<u8>,
 ) -> Parts<'a, 4, 0>
-    ensures { values_seen result ≡ values_of_message (Cref dlr cause called.now body.now importance.now) }
+    ensures values { values_seen result ≡ values_of_message (Cref dlr cause called.now body.now importance.now) }
+    ensures types { HasTypes (Cref dlr cause called.now body.now importance.now) }
 {
     Parts {
         fixed: [low(dlr), middle(dlr), high(dlr), cause],
@@ -92,7 +96,8 @@ pub fn rlsd_parts<'a>(
     body: &'a Option<Octets>,
     importance: &'a Option<u8>,
 ) -> Parts<'a, 7, 0>
-    ensures { values_seen result ≡ values_of_message (Rlsd dlr slr cause body.now importance.now) }
+    ensures values { values_seen result ≡ values_of_message (Rlsd dlr slr cause body.now importance.now) }
+    ensures types { HasTypes (Rlsd dlr slr cause body.now importance.now) }
 {
     Parts {
         fixed: [
@@ -111,7 +116,8 @@ pub fn rlsd_parts<'a>(
 
 /// A message of the type release complete (05).
 pub fn rlc_parts(dlr: Ref24, slr: Ref24) -> Parts<'static, 6, 0>
-    ensures { values_seen result ≡ values_of_message (Rlc dlr slr) }
+    ensures values { values_seen result ≡ values_of_message (Rlc dlr slr) }
+    ensures types { HasTypes (Rlc dlr slr) }
 {
     Parts {
         fixed: [
@@ -129,7 +135,8 @@ pub fn rlc_parts(dlr: Ref24, slr: Ref24) -> Parts<'static, 6, 0>
 
 /// A message of the type data form 1 (06).
 pub fn dt1_parts<'a>(dlr: Ref24, segmenting: u8, body: &'a Octets) -> Parts<'a, 4, 1>
-    ensures { values_seen result ≡ values_of_message (Dt1 dlr segmenting body.now) }
+    ensures values { values_seen result ≡ values_of_message (Dt1 dlr segmenting body.now) }
+    ensures types { HasTypes (Dt1 dlr segmenting body.now) }
 {
     Parts {
         fixed: [low(dlr), middle(dlr), high(dlr), segmenting],
@@ -140,7 +147,8 @@ pub fn dt1_parts<'a>(dlr: Ref24, segmenting: u8, body: &'a Octets) -> Parts<'a, 
 
 /// A message of the type data form 2 (07).
 pub fn dt2_parts<'a>(dlr: Ref24, sequencing: [u8; 2], body: &'a Octets) -> Parts<'a, 5, 1>
-    ensures { values_seen result ≡ values_of_message (Dt2 dlr sequencing body.now) }
+    ensures values { values_seen result ≡ values_of_message (Dt2 dlr sequencing body.now) }
+    ensures types { HasTypes (Dt2 dlr sequencing body.now) }
 {
     Parts {
         fixed: [
@@ -157,7 +165,8 @@ pub fn dt2_parts<'a>(dlr: Ref24, sequencing: [u8; 2], body: &'a Octets) -> Parts
 
 /// A message of the type data acknowledgement (08).
 pub fn ak_parts(dlr: Ref24, receive: u8, credit: u8) -> Parts<'static, 5, 0>
-    ensures { values_seen result ≡ values_of_message (Ak dlr receive credit) }
+    ensures values { values_seen result ≡ values_of_message (Ak dlr receive credit) }
+    ensures types { HasTypes (Ak dlr receive credit) }
 {
     Parts {
         fixed: [low(dlr), middle(dlr), high(dlr), receive, credit],
@@ -173,7 +182,8 @@ pub fn udt_parts<'a>(
     calling: &'a Octets,
     body: &'a Octets,
 ) -> Parts<'a, 1, 3>
-    ensures { values_seen result ≡ values_of_message (Udt class_octet called.now calling.now body.now) }
+    ensures values { values_seen result ≡ values_of_message (Udt class_octet called.now calling.now body.now) }
+    ensures types { HasTypes (Udt class_octet called.now calling.now body.now) }
 {
     Parts {
         fixed: [class_octet],
@@ -189,7 +199,8 @@ pub fn udts_parts<'a>(
     calling: &'a Octets,
     body: &'a Octets,
 ) -> Parts<'a, 1, 3>
-    ensures { values_seen result ≡ values_of_message (Udts cause called.now calling.now body.now) }
+    ensures values { values_seen result ≡ values_of_message (Udts cause called.now calling.now body.now) }
+    ensures types { HasTypes (Udts cause called.now calling.now body.now) }
 {
     Parts {
         fixed: [cause],
@@ -200,7 +211,8 @@ pub fn udts_parts<'a>(
 
 /// A message of the type expedited data (0B).
 pub fn ed_parts<'a>(dlr: Ref24, body: &'a Octets) -> Parts<'a, 3, 1>
-    ensures { values_seen result ≡ values_of_message (Ed dlr body.now) }
+    ensures values { values_seen result ≡ values_of_message (Ed dlr body.now) }
+    ensures types { HasTypes (Ed dlr body.now) }
 {
     Parts {
         fixed: [low(dlr), middle(dlr), high(dlr)],
@@ -211,7 +223,8 @@ pub fn ed_parts<'a>(dlr: Ref24, body: &'a Octets) -> Parts<'a, 3, 1>
 
 /// A message of the type expedited data acknowledgement (0C).
 pub fn ea_parts(dlr: Ref24) -> Parts<'static, 3, 0>
-    ensures { values_seen result ≡ values_of_message (Ea dlr) }
+    ensures values { values_seen result ≡ values_of_message (Ea dlr) }
+    ensures types { HasTypes (Ea dlr) }
 {
     Parts {
         fixed: [low(dlr), middle(dlr), high(dlr)],
@@ -222,7 +235,8 @@ pub fn ea_parts(dlr: Ref24) -> Parts<'static, 3, 0>
 
 /// A message of the type reset request (0D).
 pub fn rsr_parts(dlr: Ref24, slr: Ref24, cause: u8) -> Parts<'static, 7, 0>
-    ensures { values_seen result ≡ values_of_message (Rsr dlr slr cause) }
+    ensures values { values_seen result ≡ values_of_message (Rsr dlr slr cause) }
+    ensures types { HasTypes (Rsr dlr slr cause) }
 {
     Parts {
         fixed: [
@@ -241,7 +255,8 @@ pub fn rsr_parts(dlr: Ref24, slr: Ref24, cause: u8) -> Parts<'static, 7, 0>
 
 /// A message of the type reset confirmation (0E).
 pub fn rsc_parts(dlr: Ref24, slr: Ref24) -> Parts<'static, 6, 0>
-    ensures { values_seen result ≡ values_of_message (Rsc dlr slr) }
+    ensures values { values_seen result ≡ values_of_message (Rsc dlr slr) }
+    ensures types { HasTypes (Rsc dlr slr) }
 {
     Parts {
         fixed: [
@@ -259,7 +274,8 @@ pub fn rsc_parts(dlr: Ref24, slr: Ref24) -> Parts<'static, 6, 0>
 
 /// A message of the type protocol data unit error (0F).
 pub fn err_parts(dlr: Ref24, cause: u8) -> Parts<'static, 4, 0>
-    ensures { values_seen result ≡ values_of_message (Error dlr cause) }
+    ensures values { values_seen result ≡ values_of_message (Error dlr cause) }
+    ensures types { HasTypes (Error dlr cause) }
 {
     Parts {
         fixed: [low(dlr), middle(dlr), high(dlr), cause],
@@ -276,7 +292,8 @@ pub fn it_parts(
     sequencing: [u8; 2],
     credit: u8,
 ) -> Parts<'static, 10, 0>
-    ensures { values_seen result ≡ values_of_message (It dlr slr class_octet sequencing credit) }
+    ensures values { values_seen result ≡ values_of_message (It dlr slr class_octet sequencing credit) }
+    ensures types { HasTypes (It dlr slr class_octet sequencing credit) }
 {
     Parts {
         fixed: [
@@ -306,7 +323,8 @@ pub fn xudt_parts<'a>(
     segmentation: &'a Option<[u8; 4]>,
     importance: &'a Option<u8>,
 ) -> Parts<'a, 2, 3>
-    ensures { values_seen result ≡ values_of_message (Xudt class_octet hop called.now calling.now body.now segmentation.now importance.now) }
+    ensures values { values_seen result ≡ values_of_message (Xudt class_octet hop called.now calling.now body.now segmentation.now importance.now) }
+    ensures types { HasTypes (Xudt class_octet hop called.now calling.now body.now segmentation.now importance.now) }
 {
     Parts {
         fixed: [class_octet, hop],
@@ -325,7 +343,8 @@ pub fn xudts_parts<'a>(
     segmentation: &'a Option<[u8; 4]>,
     importance: &'a Option<u8>,
 ) -> Parts<'a, 2, 3>
-    ensures { values_seen result ≡ values_of_message (Xudts cause hop called.now calling.now body.now segmentation.now importance.now) }
+    ensures values { values_seen result ≡ values_of_message (Xudts cause hop called.now calling.now body.now segmentation.now importance.now) }
+    ensures types { HasTypes (Xudts cause hop called.now calling.now body.now segmentation.now importance.now) }
 {
     Parts {
         fixed: [cause, hop],
@@ -344,7 +363,8 @@ pub fn ludt_parts<'a>(
     segmentation: &'a Option<[u8; 4]>,
     importance: &'a Option<u8>,
 ) -> Parts<'a, 2, 3>
-    ensures { values_seen result ≡ values_of_message (Ludt class_octet hop called.now calling.now body.now segmentation.now importance.now) }
+    ensures values { values_seen result ≡ values_of_message (Ludt class_octet hop called.now calling.now body.now segmentation.now importance.now) }
+    ensures types { HasTypes (Ludt class_octet hop called.now calling.now body.now segmentation.now importance.now) }
 {
     Parts {
         fixed: [class_octet, hop],
@@ -363,7 +383,8 @@ pub fn ludts_parts<'a>(
     segmentation: &'a Option<[u8; 4]>,
     importance: &'a Option<u8>,
 ) -> Parts<'a, 2, 3>
-    ensures { values_seen result ≡ values_of_message (Ludts cause hop called.now calling.now body.now segmentation.now importance.now) }
+    ensures values { values_seen result ≡ values_of_message (Ludts cause hop called.now calling.now body.now segmentation.now importance.now) }
+    ensures types { HasTypes (Ludts cause hop called.now calling.now body.now segmentation.now importance.now) }
 {
     Parts {
         fixed: [cause, hop],

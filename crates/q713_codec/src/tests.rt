@@ -1,6 +1,7 @@
-//! Messages of the worked examples, read, owned and written again, and the faults of a unitdata message.
-use crate::{length, own, read, write};
-use relay_base::ReadFault;
+//! Messages of the worked examples, read, owned and written again, the faults of changed messages, and the bounds of a pointer.
+use crate::{Message, length, own, read, write};
+use relay_base::{Octets, ReadFault};
+use std::alloc::Global;
 use std::test::Fail;
 
 /// Each message is written as it was read.
@@ -78,4 +79,189 @@ fn faults_are_the_first_ones(rt: HostRuntime) {
         fault(b"\x0b\x10\x00\x00\x01\x00"),
         Some(ReadFault::ValueLength(0x0F))
     );
+}
+
+/// A pointer out of the message.
+const fn out(place: u16) -> Option<ReadFault> {
+    Some(ReadFault::PointerOut(place))
+}
+
+/// The fault of a message of so many octets, among the places from which on a cut message has a fault.
+fn fault_of_cut(cuts: &[(u16, Option<ReadFault>)], len: usize) -> Option<ReadFault> {
+    let mut found = if len == 0 {
+        Some(ReadFault::Empty)
+    } else {
+        Some(ReadFault::Short)
+    };
+    for (from, fault) in cuts {
+        if usize::from(*from) <= len {
+            found = *fault;
+        }
+    }
+    found
+}
+
+/// The first length at which a cut message has another fault.
+fn wrong_cut(octets: &[u8], cuts: &[(u16, Option<ReadFault>)]) -> Option<usize> {
+    for len in 0..=octets.len() {
+        if fault(&octets[..len]) != fault_of_cut(cuts, len) {
+            return Some(len);
+        }
+    }
+    None
+}
+
+/// Octets with each octet of the pointer at a place changed: in the types 13 and 14 it has two.
+fn with_pointer(alloc: Global, octets: &[u8], place: usize, value: u8) -> Result<Vec<u8>, Fail> {
+    let mut changed = Vec::from_slice(alloc, octets)?;
+    let width = if octets.first() >= Some(&0x13) { 2 } else { 1 };
+    for octet in changed.iter_mut().skip(place).take(width) {
+        *octet = value;
+    }
+    Ok(changed)
+}
+
+/// The first place of a pointer that has another fault as 0, or isn't out of the message with ff in each octet.
+fn wrong_pointer(
+    alloc: Global,
+    octets: &[u8],
+    pointers: &[(u16, Option<ReadFault>)],
+) -> Result<Option<u16>, Fail> {
+    for (place, wanted) in pointers {
+        let zero = with_pointer(alloc, octets, usize::from(*place), 0x00)?;
+        let ones = with_pointer(alloc, octets, usize::from(*place), 0xFF)?;
+        if fault(&zero) != *wanted || fault(&ones) != out(*place) {
+            return Ok(Some(*place));
+        }
+    }
+    Ok(None)
+}
+
+/// For each type the message with empty addresses, the least data and no optional parameter: the fault of its first octets, as the
+/// places from which on it is another one than the one before, and each pointer with the fault that it has as 0; with ff in each
+/// octet it is out of the message.
+#[test]
+fn least_messages_have_their_faults(rt: HostRuntime) -> Result<(), Fail> {
+    let rows: [(
+        &[u8],
+        &[(u16, Option<ReadFault>)],
+        &[(u16, Option<ReadFault>)],
+    ); 20] = [
+        (
+            b"\x01\x01\x02\x03\x04\x02\x00\x00",
+            &[(7, out(5)), (8, None)],
+            &[(5, out(5)), (6, None)],
+        ),
+        (
+            b"\x02\x01\x02\x03\x04\x05\x06\x07\x00",
+            &[(9, None)],
+            &[(8, None)],
+        ),
+        (b"\x03\x01\x02\x03\x04\x00", &[(6, None)], &[(5, None)]),
+        (
+            b"\x04\x01\x02\x03\x04\x05\x06\x07\x00",
+            &[(9, None)],
+            &[(8, None)],
+        ),
+        (b"\x05\x01\x02\x03\x04\x05\x06", &[(7, None)], &[]),
+        (
+            b"\x06\x01\x02\x03\x04\x01\x01\xaa",
+            &[(6, out(5)), (7, Some(ReadFault::Short)), (8, None)],
+            &[(5, out(5))],
+        ),
+        (
+            b"\x07\x01\x02\x03\x04\x05\x01\x01\xaa",
+            &[(7, out(6)), (8, Some(ReadFault::Short)), (9, None)],
+            &[(6, out(6))],
+        ),
+        (b"\x08\x01\x02\x03\x04\x05", &[(6, None)], &[]),
+        (
+            b"\x09\x01\x03\x03\x03\x00\x00\x00",
+            &[(5, out(2)), (6, out(3)), (7, out(4)), (8, None)],
+            &[(2, out(2)), (3, out(3)), (4, out(4))],
+        ),
+        (
+            b"\x0a\x01\x03\x03\x03\x00\x00\x00",
+            &[(5, out(2)), (6, out(3)), (7, out(4)), (8, None)],
+            &[(2, out(2)), (3, out(3)), (4, out(4))],
+        ),
+        (
+            b"\x0b\x01\x02\x03\x01\x01\xaa",
+            &[(5, out(4)), (6, Some(ReadFault::Short)), (7, None)],
+            &[(4, out(4))],
+        ),
+        (b"\x0c\x01\x02\x03", &[(4, None)], &[]),
+        (b"\x0d\x01\x02\x03\x04\x05\x06\x07", &[(8, None)], &[]),
+        (b"\x0e\x01\x02\x03\x04\x05\x06", &[(7, None)], &[]),
+        (b"\x0f\x01\x02\x03\x04", &[(5, None)], &[]),
+        (
+            b"\x10\x01\x02\x03\x04\x05\x06\x07\x08\x09\x0a",
+            &[(11, None)],
+            &[],
+        ),
+        (
+            b"\x11\x01\x02\x04\x04\x04\x00\x00\x00\x00",
+            &[(7, out(3)), (8, out(4)), (9, out(5)), (10, None)],
+            &[(3, out(3)), (4, out(4)), (5, out(5)), (6, None)],
+        ),
+        (
+            b"\x12\x01\x02\x04\x04\x04\x00\x00\x00\x00",
+            &[(7, out(3)), (8, out(4)), (9, out(5)), (10, None)],
+            &[(3, out(3)), (4, out(4)), (5, out(5)), (6, None)],
+        ),
+        (
+            b"\x13\x01\x02\x07\x00\x06\x00\x05\x00\x00\x00\x00\x00\x00\x00",
+            &[
+                (11, out(3)),
+                (12, out(5)),
+                (13, out(7)),
+                (14, Some(ReadFault::Short)),
+                (15, None),
+            ],
+            &[(3, out(3)), (5, out(5)), (7, out(7)), (9, None)],
+        ),
+        (
+            b"\x14\x01\x02\x07\x00\x06\x00\x05\x00\x00\x00\x00\x00\x00\x00",
+            &[
+                (11, out(3)),
+                (12, out(5)),
+                (13, out(7)),
+                (14, Some(ReadFault::Short)),
+                (15, None),
+            ],
+            &[(3, out(3)), (5, out(5)), (7, out(7)), (9, None)],
+        ),
+    ];
+    for (octets, cuts, pointers) in rows {
+        assert_eq!(rt; wrong_cut(octets, cuts), None, "{octets:?}");
+        assert_eq!(rt;
+            wrong_pointer(rt.alloc(), octets, pointers)?,
+            None,
+            "{octets:?}"
+        );
+    }
+    Ok(())
+}
+
+/// A unitdata message with addresses of so many octets may be written where each of its pointers is at most 255.
+#[test]
+fn long_addresses_may_not_be_written(rt: HostRuntime) -> Result<(), Fail> {
+    let octets = [0x42; 255];
+    let rows = [
+        (255, 255, false),
+        (253, 0, false),
+        (252, 0, true),
+        (127, 126, false),
+        (126, 126, true),
+    ];
+    for (called, calling, wanted) in rows {
+        let message = Message::Udt {
+            class_octet: 0,
+            called: Octets::from_slice(rt.alloc(), &octets[..called])?,
+            calling: Octets::from_slice(rt.alloc(), &octets[..calling])?,
+            body: Octets::from_slice(rt.alloc(), &octets[..255])?,
+        };
+        assert_eq!(rt; message.in_range(), wanted);
+    }
+    Ok(())
 }

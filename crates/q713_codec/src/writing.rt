@@ -1,5 +1,6 @@
 //! Writing a message, how long it is, and whether it may be written.
-ghost use Rattle.std.specs.Prelude.{◌≡◌, length, IfOk, IsTrue};
+ghost use Rattle.std.specs.Prelude.{◌≡◌, length, IfOk, IsTrue, Ok};
+ghost use Rattle.q713_codec.specs.Reading.{reading_of};
 ghost use Rattle.q713_codec.specs.Writing.{spelling_of, is_in_range, InRange};
 
 use crate::message::Message;
@@ -136,11 +137,12 @@ impl Message {
 }
 
 /// The canonical octets of a message (Q.713): its parameters stand in the order of the table, without gaps, and the optional part
-/// ends with 00; its pointer is 0 where it has no parameter.
+/// ends with 00; its pointer is 0 where it has no parameter. `read` gives the same message for them.
 #[tactic(auto, unfolding(crate::specs::Writing::spelling_of))]
 pub fn write(alloc: Global, message: &Message) -> Result<Octets, Memory>
     requires { InRange message.now }
-    ensures { IfOk result (λ o. o ≡ spelling_of message.now) }
+    ensures octets { IfOk result (λ o. o ≡ spelling_of message.now) }
+    ensures read_back { IfOk result (λ o. reading_of o ≡ Ok message.now) }
 {
     with_parts!(message, shape, parts => shape.put_parts(alloc, &parts))
 }

@@ -7,3 +7,4 @@ pub mod Drops
 pub mod Counting
 pub mod Pointing
 pub mod Ranges
+pub mod ReadBack

@@ -35,7 +35,7 @@ and_by : (t a b c : Bool) → a ≡ (b && c) → (t && a) ≡ ((t && b) && c)
 and_by true a b c e = e
 and_by false a b c e = refl
 
-list_all-append : (test : ℕ → Bool) (xs ys : List ℕ) → list_all test (xs ++ ys) ≡ (list_all test xs && list_all test ys)
+pub list_all-append : (test : ℕ → Bool) (xs ys : List ℕ) → list_all test (xs ++ ys) ≡ (list_all test xs && list_all test ys)
 list_all-append test [] ys = refl
 list_all-append test (x ∷ xs) ys = and_by (test x) (list_all test (xs ++ ys)) (list_all test xs) (list_all test ys) (list_all-append test xs ys)
 
@@ -45,25 +45,25 @@ are_in_range-pointers format values before p q e f b h k =
     rw (e, f, h, k, b) (list_all-append (fits_pointer format.wide) (skips (pointer_width format.wide) (option_count format.options) 0 (variables format.vars values.vars)) (option_skip format.options (length (concat (variables format.vars values.vars))) (optional_part format.options values.options)))
 
 -- the octets of the pointers
-length-number_octets : (wide : Bool) (n : ℕ) → length (number_octets wide n) ≡ pointer_width wide
+pub length-number_octets : (wide : Bool) (n : ℕ) → length (number_octets wide n) ≡ pointer_width wide
 length-number_octets true n = refl
 length-number_octets false n = refl
 
-concat-map-append : (f : ℕ → List ℕ) (xs ys : List ℕ) → concat (map f (xs ++ ys)) ≡ concat (map f xs) ++ concat (map f ys)
+pub concat-map-append : (f : ℕ → List ℕ) (xs ys : List ℕ) → concat (map f (xs ++ ys)) ≡ concat (map f xs) ++ concat (map f ys)
 concat-map-append f [] ys = refl
 concat-map-append f (x ∷ xs) ys = ap (λ r. f x ++ r) (concat-map-append f xs ys) ∙ sym (append_assoc (f x) (concat (map f xs)) (concat (map f ys)))
 
-length-pointer_octets : (wide : Bool) (xs : List ℕ) → length (concat (map (number_octets wide) xs)) ≡ pointer_width wide * length xs
+pub length-pointer_octets : (wide : Bool) (xs : List ℕ) → length (concat (map (number_octets wide) xs)) ≡ pointer_width wide * length xs
 length-pointer_octets true [] = refl
 length-pointer_octets false [] = refl
 length-pointer_octets true (x ∷ xs) = let e = length-pointer_octets true xs in omega (arith, e)
 length-pointer_octets false (x ∷ xs) = let e = length-pointer_octets false xs in omega (arith, e)
 
-length-skips : (width behind before : ℕ) (parts : List (List ℕ)) → length (skips width behind before parts) ≡ length parts
+pub length-skips : (width behind before : ℕ) (parts : List (List ℕ)) → length (skips width behind before parts) ≡ length parts
 length-skips width behind before [] = refl
 length-skips width behind before (part ∷ parts) = let e = length-skips width behind (before + length part) parts in omega (arith, e)
 
-length-option_skip : (names : Option (List ℕ)) (before : ℕ) (part : List ℕ) → length (option_skip names before part) ≡ option_count names
+pub length-option_skip : (names : Option (List ℕ)) (before : ℕ) (part : List ℕ) → length (option_skip names before part) ≡ option_count names
 length-option_skip None before part = refl
 length-option_skip (Some names) before part = refl
 
