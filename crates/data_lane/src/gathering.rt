@@ -13,6 +13,7 @@ use std::alloc::Global;
 
 /// The return causes of a reassembly that failed, and of one without room (Q.713).
 const FAILED: u8 = 0x0E;
+
 const NO_ROOM: u8 = 0x09;
 
 /// What a user is told of a message that is whole: it has the class of its first segment.

@@ -1,5 +1,5 @@
 //! The data lane.
-ghost use Rattle.std.specs.Prelude.{◌≡◌, ◌+◌, ◌++◌, ◌∷◌, [],  if◌then◌else◌, IfOk, OnOk, OnErr};
+ghost use Rattle.std.specs.Prelude.{◌≡◌, ◌+◌, ◌++◌, ◌∷◌, [], if◌then◌else◌, IfOk, OnOk, OnErr};
 ghost use Rattle.reassembly.specs.Laws.{IsWithinBounds};
 ghost use Rattle.data_lane.specs.Legal.{ticks_of, worked};
 ghost use Rattle.data_lane.specs.Lane.{reduced};
@@ -136,7 +136,14 @@ impl DataLane {
         };
         let own = self.head.terms.own;
         let mut journal = mem::replace(&mut self.journal, EntryList::new(self.alloc)).into_vec();
-        let written = write(self.alloc, own, &mut self.bench, &mut journal, entry, turn.work);
+        let written = write(
+            self.alloc,
+            own,
+            &mut self.bench,
+            &mut journal,
+            entry,
+            turn.work,
+        );
         self.journal = EntryList::from(journal);
         written?;
         self.cut = count_after(self.cut, turn.is_cut);
