@@ -3,6 +3,8 @@
 
 mod gathering;
 mod lane;
+#[cfg(test)]
+mod tests;
 mod turn;
 
 pub use lane::DataLane;
