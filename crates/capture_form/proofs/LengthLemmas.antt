@@ -1,5 +1,5 @@
 -- How many lines an input has.
-use Rattle.std.proofs.Common.{◌≡◌, ℕ, zero, suc, ◌+◌, ◌≤◌, ◌<◌, Bool, true, false, cond, List, [], ◌∷◌, length, drop, map, Option, Some, None, option_map, Result, Ok, Err, refl, sym, ap, ◌∙◌, subst, arith}
+use Rattle.std.proofs.Common.{◌≡◌, ℕ, zero, suc, ◌+◌, ◌≤◌, ◌<◌, Bool, true, false, cond, List, [], ◌∷◌, length, drop, Option, Some, None, option_map, Result, Ok, Err, ap, subst, arith}
 use Rattle.std.proofs.lemmas.List.{length-map}
 use Rattle.bstr.specs.Text.{lines_from, lines_of, line_len, without_terminator}
 use Rattle.relay_base.specs.Giving.{◌>>=◌}

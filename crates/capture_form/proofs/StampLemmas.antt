@@ -1,5 +1,5 @@
 -- The events of a capture stand under the phases and links of their stamps.
-use Rattle.std.proofs.Common.{◌≡◌, ℕ, zero, suc, ◌+◌, ◌≤◌, ◌==◌, nat_lt, nat_le, IfOk, Bool, true, false, cond, List, [], ◌∷◌, ◌++◌, length, get_or, replicate, Result, Ok, Err, refl, sym, ap, ◌∙◌, subst, arith, length-append}
+use Rattle.std.proofs.Common.{◌≡◌, ℕ, zero, suc, ◌+◌, ◌==◌, nat_lt, nat_le, IfOk, Bool, true, false, cond, List, [], ◌∷◌, ◌++◌, length, get_or, replicate, Result, Ok, Err, refl, ◌∙◌, subst, arith, length-append}
 use Rattle.std.proofs.lemmas.List.{length-replicate, length-set}
 use Rattle.std.proofs.Math.ListN.{set}
 use Rattle.std.specs.List.{AllByRecursion}
@@ -9,17 +9,15 @@ use Rattle.relay_base.specs.declared.words.Stamp.{Stamp}
 use Rattle.node_head.specs.Lines.{lines, halves}
 use Rattle.node_head.specs.Head.{begun}
 use Rattle.node_head.specs.declared.head.Head.{Head}
-use Rattle.node_head.specs.declared.fault.HeadFault.{HeadFault}
 use Rattle.capture_form.specs.Text.{words}
 use Rattle.capture_form.specs.Line.{Linked, event_of}
-use Rattle.capture_form.specs.declared.fault.LineKind.{LineKind}
 use Rattle.capture_form.specs.declared.fault.LineKind.TheVariants.{Words}
-use Rattle.capture_form.specs.declared.fault.Limit.TheVariants.{Bytes, Lines, Barriers}
+use Rattle.capture_form.specs.declared.fault.Limit.TheVariants.{Lines, Barriers}
 use Rattle.capture_form.specs.declared.fault.CaptureFault.{CaptureFault}
 use Rattle.capture_form.specs.declared.fault.CaptureFault.TheVariants as refused
 use Rattle.capture_form.specs.declared.reading.Reading.{Reading}
 use Rattle.capture_form.specs.declared.capture.Capture.{Capture}
-use Rattle.capture_form.specs.Capture.{Stamped, AreOfLinks, AreOfPhases, IsStamped, empty_phase, phase_ended, event_added, barrier_taken, event_taken, words_taken, line_taken, lines_taken, reading_from, phases_of, at_line, at_head, capture_from, capture_within, is_skipped, is_barrier, Reads}
+use Rattle.capture_form.specs.Capture.{Stamped, AreOfLinks, AreOfPhases, IsStamped, phase_ended, event_added, barrier_taken, event_taken, words_taken, line_taken, lines_taken, reading_from, phases_of, at_line, at_head, capture_from, capture_within, is_skipped, is_barrier, Reads}
 
 -- what was read so far stands so
 record Stands (head : Head) (r : Reading) : Type 0 where

@@ -1,5 +1,5 @@
 -- What the words of a line state, or what is wrong with a word.
-use Rattle.std.specs.Prelude.{ℕ, ◌==◌, ◌&&◌, nat_lt, nat_le, codes, Bool, true, false, List, [], length, if◌then◌else◌, Option, Some, None, Ok, Err, is_ok}
+use Rattle.std.specs.Prelude.{ℕ, ◌==◌, ◌&&◌, nat_lt, nat_le, codes, Bool, true, false, List, length, if◌then◌else◌, Option, Some, None, Ok, Err, is_ok}
 use Rattle.std.specs.List.{list_any}
 use Rattle.std.specs.declared.result.Result.{Result}
 use Rattle.relay_base.specs.Giving.{◌>>=◌}

@@ -1,5 +1,5 @@
 -- A count that is reduced to the references of a lane gives the same ones.
-use Rattle.std.proofs.Common.{◌≡◌, ℕ, ◌+◌, ◌*◌, ◌%◌, ◌^◌, arith, refl, ap, Option, Some, None}
+use Rattle.std.proofs.Common.{◌≡◌, ℕ, ◌+◌, arith, refl, ap, Option, Some, None}
 use Rattle.plant_core.specs.declared.answer.Answer.{Answer}
 use Rattle.plant_core.specs.declared.terms.LaneHead.{LaneHead}
 use Rattle.connectionless.specs.Given.{reference_after, given_of, sending_of}

@@ -1,5 +1,5 @@
 -- A legal journal goes on with a legal entry.
-use Rattle.std.proofs.Common.{◌≡◌, ℕ, ◌+◌, List, [], ◌∷◌, ◌++◌, if◌then◌else◌, refl, sym, ap, ◌∙◌, subst, Option, Some, None}
+use Rattle.std.proofs.Common.{◌≡◌, ℕ, ◌+◌, List, [], ◌∷◌, ◌++◌, if◌then◌else◌, refl, sym, ap, ◌∙◌, Option, Some, None}
 use Rattle.std.specs.Prelude.{is_some}
 use Rattle.relay_base.specs.declared.words.Event.{Event}
 use Rattle.relay_base.specs.declared.words.Stamp.{Stamp}
@@ -11,7 +11,7 @@ use Rattle.reassembly.specs.Laws.{IsWithinBounds}
 use Rattle.reassembly.specs.Reassembly.{Reassemblies}
 use Rattle.connectionless.specs.Asking.{Question, matter_of}
 use Rattle.data_lane.specs.declared.turn.Turn.{Turn}
-use Rattle.data_lane.specs.Legal.{State, at_first, Step, step_of, step_by, joined, worked, turn_by, ticks_of, IsLegalEntry, LegalFrom, IsDataJournal, entry_after, state_after, question_of, asked_at, asked_of, answer_in}
+use Rattle.data_lane.specs.Legal.{State, at_first, Step, step_of, step_by, joined, worked, turn_by, ticks_of, IsLegalEntry, LegalFrom, entry_after, state_after, question_of, asked_at, asked_of, answer_in}
 use Rattle.data_lane.specs.Lane.{reduced, IsLane}
 use Rattle.data_lane.proofs.CountLemmas.{reduced-add, turn-reduced}
 

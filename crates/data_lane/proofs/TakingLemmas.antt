@@ -1,13 +1,12 @@
 -- What a segment and a tick leave.
-use Rattle.std.proofs.Common.{◌≡◌, ℕ, ◌+◌, ◌<◌, ◌≤◌, ◌==◌, Bool, true, false, List, [], ◌∷◌, ◌++◌, length, drop, slice_get, map, filter, not, refl, sym, ap, ◌∙◌, ⊎_elim, arith, append_assoc, Result, Ok, Err, IfOk, OnErr, Some, None, Option, zero, suc, add-one, append-nil}
-use Rattle.std.specs.List.{find}
+use Rattle.std.proofs.Common.{◌≡◌, ℕ, ◌+◌, ◌<◌, ◌≤◌, ◌==◌, Bool, true, false, List, [], ◌∷◌, ◌++◌, length, drop, slice_get, map, filter, refl, sym, ap, ◌∙◌, ⊎_elim, arith, append_assoc, Result, Ok, Err, IfOk, OnErr, Some, None, Option, zero, suc, add-one, append-nil}
 use Rattle.std.proofs.lemmas.Bool.{cases_Bool}
 use Rattle.std.proofs.lemmas.List.{length-map}
 use Rattle.relay_base.specs.declared.errors.Memory.{Memory}
 use Rattle.relay_base.specs.declared.words.Output.{Output}
 use Rattle.reassembly.specs.Segments.{key_of, is_first, remaining}
 use Rattle.reassembly.specs.Laws.{IsWithinBounds}
-use Rattle.reassembly.specs.Reassembly.{is_of, is_due, has_no_room, live, reassembly_after, takes, ended_by_tick, Reassemblies}
+use Rattle.reassembly.specs.Reassembly.{is_due, has_no_room, live, reassembly_after, takes, ended_by_tick, Reassemblies}
 use Rattle.reassembly.specs.declared.piece.Piece.{Piece}
 use Rattle.reassembly.specs.declared.piece.Taken.{Taken}
 use Rattle.reassembly.specs.declared.process.Process.{Process}

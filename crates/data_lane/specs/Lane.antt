@@ -4,7 +4,7 @@ use Rattle.plant_core.specs.declared.entry.Entry.{Entry}
 use Rattle.plant_core.specs.declared.terms.LaneHead.{LaneHead}
 use Rattle.reassembly.specs.Laws.{IsWithinBounds}
 use Rattle.reassembly.specs.Reassembly.{Reassemblies}
-use Rattle.data_lane.specs.Legal.{State, at_first, state_after, ticks_of, IsDataJournal}
+use Rattle.data_lane.specs.Legal.{at_first, state_after, ticks_of, IsDataJournal}
 
 -- A count of units that were cut, as far as references tell them apart: 2 ^ 20 of them are in each lane.
 abbrev pub reduced : ℕ → ℕ

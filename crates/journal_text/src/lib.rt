@@ -3,5 +3,7 @@
 
 mod book;
 mod tell;
+#[cfg(test)]
+mod tests;
 
 pub use book::{Book, print_book};

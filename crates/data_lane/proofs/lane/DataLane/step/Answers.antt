@@ -1,5 +1,4 @@
 use Rattle.std.proofs.Common.{◌≡◌, ◌+◌, ◌∙◌, ◌++◌, ◌∷◌, [], if◌then◌else◌, sym, ap, subst, refl}
-use Rattle.plant_core.specs.declared.entry.Entry.{Entry}
 use Rattle.data_lane.specs.Legal.{LaneState}
 use Rattle.data_lane.specs.Lane.{IsLane, reduced}
 use Rattle.data_lane.proofs.LegalLemmas.{entry_with, IsWritten, lane-goes}

@@ -1,0 +1,447 @@
+//! The print of journals, against texts that follow from its rules alone.
+ghost use Rattle.std.specs.Prelude.{◌<◌};
+
+use crate::{Book, print_book};
+use plant_core::{
+    Answer, Asked, Change, ControlEntry, ControlEvent, ControlList, Entry, EntryList, Rewrite,
+    RouteCause,
+};
+use relay_base::{
+    Event, Lost, Memory, Octets, Output, Outs, Pc, ReadFault, Reason, Ref24, Sls, Ssn, Stamp, Tell,
+};
+use std::alloc::Global;
+use std::test::Fail;
+
+/// A change that was published and two that had no effect, lanes with and without entries, routings of each kind,
+/// messages that were sent, and the greatest numbers.
+const JOURNALS: &str = "\
+= control
+1.1.4 new e1
+ < 8 state 8 100 out
+ > 200 0 -
+1.2.5
+ . duplicate
+1.2.6
+ . no-row
+= conn 0
+= conn 1
+1.2.7
+= data 0
+1.2.8 e0 local 8
+1.2.9 e2 to 300
+1.2.10 e1 no nature
+1.2.11 e1 no address
+1.2.12 e1 no point
+1.2.13 e1 no subsystem
+1.2.14 e1 no unequipped
+1.2.15 e1 no hop
+4294967295.255.4294967295 e18446744073709551615 to 16383
+ > 16383 15 090003050702420802420601aa
+ > 0 0 00ff
+= data 1
+";
+
+/// Each loss, and what users are told, each once; the lists that are empty or absent are dashes.
+const OUTPUTS: &str = "\
+= control
+= conn 0
+1.2.3
+ . read 1
+ . read 2 200
+ . read 3
+ . read 4 260
+ . read 5 15
+ . long
+ . address
+ . class
+ . point
+ . state
+ . stray
+ . segment
+ . manage
+ . cause 255
+ . same
+ . duplicate
+ . rows-full
+ . no-row
+1.2.4
+ < 8 unit 1 4208 4206 aa
+ < 8 notice 12 4206 - -
+ < 8 conn 16777215 3 127 4208 4206 0b
+ < 8 conn 16 2 0 4208 - -
+ < 8 ref 65535 16
+ < 8 not-made 0 255
+ < 8 confirm 16 3 7 4208 -
+ < 8 confirm 17 2 0 - 0c
+ < 8 text 16 0d0e
+ < 8 ed 16 0f
+ < 8 reset 16 2
+ < 8 reset-done 16
+ < 8 disc 16 13 -
+ < 8 disc 0 3 a0
+1.2.5
+ < 8 state 6 200 in
+ < 8 state 254 16383 out
+ < 8 point 200 in
+ < 8 point 200 out
+ < 8 coord 200
+ < 8 granted 200
+ < 8 denied 200
+ < 8 no owner
+ < 8 no state
+ < 8 no class
+ < 8 no full
+ < 8 no expedited
+ < 8 no unknown
+ < 8 no replicate
+";
+
+fn point(number: u32) -> Pc
+    requires { number < 16384 }
+{
+    Pc::new(number).unwrap()
+}
+
+fn reference(number: u32) -> Ref24
+    requires { number < 16777216 }
+{
+    Ref24::new(number).unwrap()
+}
+
+fn put_sent(alloc: Global, outs: &mut Outs, dpc: u32, sls: u32, bytes: &[u8]) -> Result<(), Memory>
+    requires point { dpc < 16384 }
+    requires selection { sls < 16 }
+{
+    outs.push(Output::Sent {
+        point: point(dpc),
+        sls: Sls::new(sls).unwrap(),
+        bytes: Octets::from_slice(alloc, bytes)?,
+    })
+}
+
+/// What user 8 is told.
+fn put_told(outs: &mut Outs, tell: Tell) -> Result<(), Memory> {
+    let ssn = Ssn::from(8);
+    outs.push(Output::Told { ssn, tell })
+}
+
+/// An entry of the first phase and the second link.
+fn put_entry(
+    lane: &mut EntryList,
+    line: u32,
+    asked: Option<Asked>,
+    outs: Outs,
+) -> Result<(), Memory> {
+    lane.push(Entry {
+        stamp: Stamp {
+            phase: 1,
+            link: 2,
+            line,
+        },
+        event: Event::Tick,
+        asked,
+        outs,
+    })
+}
+
+/// A control entry that published nothing.
+fn put_refusal(
+    alloc: Global,
+    control: &mut ControlList,
+    line: u32,
+    lost: Lost,
+) -> Result<(), Memory> {
+    let mut outs = Outs::new(alloc);
+    outs.push(Output::Lost(lost))?;
+    control.push(ControlEntry {
+        stamp: Stamp {
+            phase: 1,
+            link: 2,
+            line,
+        },
+        event: ControlEvent::Plain(Event::Tick),
+        published: None,
+        outs,
+    })
+}
+
+/// User 8 goes out of service, which is published; then two changes have no effect.
+fn put_controls(alloc: Global, control: &mut ControlList) -> Result<(), Memory> {
+    let ssn = Ssn::from(8);
+    let mut outs = Outs::new(alloc);
+    put_told(
+        &mut outs,
+        Tell::State {
+            ssn,
+            point: point(100),
+            up: false,
+        },
+    )?;
+    put_sent(alloc, &mut outs, 200, 0, &[])?;
+    control.push(ControlEntry {
+        stamp: Stamp {
+            phase: 1,
+            link: 1,
+            line: 4,
+        },
+        event: ControlEvent::Change(Change::LocalDown(ssn)),
+        published: Some(1),
+        outs,
+    })?;
+    for (line, lost) in [(5, Lost::Duplicate), (6, Lost::NoRow)] {
+        put_refusal(alloc, control, line, lost)?;
+    }
+    Ok(())
+}
+
+fn refused(cause: RouteCause) -> Answer {
+    Answer::Refused { cause, local: None }
+}
+
+fn forward(number: u32) -> Answer
+    requires { number < 16384 }
+{
+    Answer::Forward {
+        dpc: point(number),
+        rewrite: Rewrite::Keep,
+        hop: Some(14),
+    }
+}
+
+fn put_routings(alloc: Global, lane: &mut EntryList) -> Result<(), Memory> {
+    for (line, edition, answer) in [
+        (8, 0, Answer::Local(Ssn::from(8))),
+        (9, 2, forward(300)),
+        (10, 1, refused(RouteCause::NoNature)),
+        (11, 1, refused(RouteCause::NoAddress)),
+        (12, 1, refused(RouteCause::PointBarred)),
+        (13, 1, refused(RouteCause::SubsystemBarred)),
+        (14, 1, refused(RouteCause::Unequipped)),
+        (15, 1, refused(RouteCause::Hop)),
+    ] {
+        let asked = Some(Asked { edition, answer });
+        put_entry(lane, line, asked, Outs::new(alloc))?;
+    }
+    Ok(())
+}
+
+/// An entry of the greatest numbers.
+fn put_greatest(alloc: Global, lane: &mut EntryList) -> Result<(), Memory> {
+    let mut outs = Outs::new(alloc);
+    let unit = b"\x09\x00\x03\x05\x07\x02\x42\x08\x02\x42\x06\x01\xaa";
+    put_sent(alloc, &mut outs, 16383, 15, unit)?;
+    put_sent(alloc, &mut outs, 0, 0, b"\x00\xff")?;
+    lane.push(Entry {
+        stamp: Stamp {
+            phase: u32::MAX,
+            link: u8::MAX,
+            line: u32::MAX,
+        },
+        event: Event::Tick,
+        asked: Some(Asked {
+            edition: u64::MAX,
+            answer: forward(16383),
+        }),
+        outs,
+    })
+}
+
+fn put_losses(outs: &mut Outs) -> Result<(), Memory> {
+    for lost in [
+        Lost::Read(ReadFault::Empty),
+        Lost::Read(ReadFault::UnknownType(200)),
+        Lost::Read(ReadFault::Short),
+        Lost::Read(ReadFault::PointerOut(260)),
+        Lost::Read(ReadFault::ValueLength(15)),
+        Lost::Long,
+        Lost::Address,
+        Lost::Class,
+        Lost::Point,
+        Lost::State,
+        Lost::Stray,
+        Lost::Segment,
+        Lost::Manage,
+        Lost::Cause(255),
+        Lost::Same,
+        Lost::Duplicate,
+        Lost::RowsFull,
+        Lost::NoRow,
+    ] {
+        outs.push(Output::Lost(lost))?;
+    }
+    Ok(())
+}
+
+fn put_units(alloc: Global, outs: &mut Outs) -> Result<(), Memory> {
+    let unit = Tell::Unit {
+        class: 1,
+        called: Octets::from_slice(alloc, b"\x42\x08")?,
+        calling: Octets::from_slice(alloc, b"\x42\x06")?,
+        body: Octets::from_slice(alloc, b"\xaa")?,
+    };
+    put_told(outs, unit)?;
+    let notice = Tell::Notice {
+        cause: 12,
+        called: Octets::from_slice(alloc, b"\x42\x06")?,
+        calling: Octets::new(alloc),
+        body: Octets::new(alloc),
+    };
+    put_told(outs, notice)
+}
+
+fn put_openings(alloc: Global, outs: &mut Outs) -> Result<(), Memory> {
+    let whole = Tell::Conn {
+        mine: reference(16_777_215),
+        class: 3,
+        credit: 127,
+        called: Octets::from_slice(alloc, b"\x42\x08")?,
+        calling: Some(Octets::from_slice(alloc, b"\x42\x06")?),
+        body: Some(Octets::from_slice(alloc, b"\x0b")?),
+    };
+    put_told(outs, whole)?;
+    let bare = Tell::Conn {
+        mine: reference(16),
+        class: 2,
+        credit: 0,
+        called: Octets::from_slice(alloc, b"\x42\x08")?,
+        calling: None,
+        body: Some(Octets::new(alloc)),
+    };
+    put_told(outs, bare)
+}
+
+fn put_answers(alloc: Global, outs: &mut Outs) -> Result<(), Memory> {
+    let mine = reference(16);
+    put_told(outs, Tell::Named { tag: 65535, mine })?;
+    put_told(outs, Tell::NotMade { tag: 0, cause: 255 })?;
+    let named = Tell::Confirm {
+        mine,
+        class: 3,
+        credit: 7,
+        called: Some(Octets::from_slice(alloc, b"\x42\x08")?),
+        body: None,
+    };
+    put_told(outs, named)?;
+    let filled = Tell::Confirm {
+        mine: reference(17),
+        class: 2,
+        credit: 0,
+        called: None,
+        body: Some(Octets::from_slice(alloc, b"\x0c")?),
+    };
+    put_told(outs, filled)
+}
+
+fn put_transfers(alloc: Global, outs: &mut Outs) -> Result<(), Memory> {
+    let mine = reference(16);
+    let body = Octets::from_slice(alloc, b"\x0d\x0e")?;
+    put_told(outs, Tell::Text { mine, body })?;
+    let body = Octets::from_slice(alloc, b"\x0f")?;
+    put_told(outs, Tell::Expedited { mine, body })?;
+    put_told(outs, Tell::Renewed { mine, cause: 2 })?;
+    put_told(outs, Tell::ResetDone { mine })?;
+    let bare = Tell::Disc {
+        mine,
+        cause: 13,
+        body: None,
+    };
+    put_told(outs, bare)?;
+    let filled = Tell::Disc {
+        mine: reference(0),
+        cause: 3,
+        body: Some(Octets::from_slice(alloc, b"\xa0")?),
+    };
+    put_told(outs, filled)
+}
+
+fn put_states(outs: &mut Outs) -> Result<(), Memory> {
+    let (point, greatest) = (point(200), point(16383));
+    let allowed = Tell::State {
+        ssn: Ssn::from(6),
+        point,
+        up: true,
+    };
+    put_told(outs, allowed)?;
+    let prohibited = Tell::State {
+        ssn: Ssn::from(254),
+        point: greatest,
+        up: false,
+    };
+    put_told(outs, prohibited)?;
+    put_told(outs, Tell::Point { point, up: true })?;
+    put_told(outs, Tell::Point { point, up: false })?;
+    put_told(outs, Tell::Coord { point })?;
+    put_told(outs, Tell::Granted { point })?;
+    put_told(outs, Tell::Denied { point })
+}
+
+fn put_reasons(outs: &mut Outs) -> Result<(), Memory> {
+    for reason in [
+        Reason::Owner,
+        Reason::State,
+        Reason::Class,
+        Reason::Full,
+        Reason::Expedited,
+        Reason::Unknown,
+        Reason::Replicate,
+    ] {
+        put_told(outs, Tell::No(reason))?;
+    }
+    Ok(())
+}
+
+/// A lane that has an entry of losses, one of what comes of units and connections, and one of management and refusals.
+fn lane_of_outputs(alloc: Global) -> Result<EntryList, Memory> {
+    let mut lane = EntryList::new(alloc);
+    let mut outs = Outs::new(alloc);
+    put_losses(&mut outs)?;
+    put_entry(&mut lane, 3, None, outs)?;
+    let mut outs = Outs::new(alloc);
+    put_units(alloc, &mut outs)?;
+    put_openings(alloc, &mut outs)?;
+    put_answers(alloc, &mut outs)?;
+    put_transfers(alloc, &mut outs)?;
+    put_entry(&mut lane, 4, None, outs)?;
+    let mut outs = Outs::new(alloc);
+    put_states(&mut outs)?;
+    put_reasons(&mut outs)?;
+    put_entry(&mut lane, 5, None, outs)?;
+    Ok(lane)
+}
+
+/// The lanes in their order, with all forms of an entry.
+#[test]
+fn prints_journals(rt: HostRuntime) -> Result<(), Fail> {
+    let alloc = rt.alloc();
+    let mut book = Book::new(alloc);
+    assert!(rt; book.is_empty());
+    assert_eq!(rt;
+        print_book(alloc, &book)?.as_slice(),
+        b"= control\n".as_slice()
+    );
+    put_controls(alloc, &mut book.control)?;
+    assert!(rt; !book.is_empty());
+    book.conns.push(EntryList::new(alloc))?;
+    let mut lane = EntryList::new(alloc);
+    put_entry(&mut lane, 7, None, Outs::new(alloc))?;
+    book.conns.push(lane)?;
+    let mut lane = EntryList::new(alloc);
+    put_routings(alloc, &mut lane)?;
+    put_greatest(alloc, &mut lane)?;
+    book.units.push(lane)?;
+    book.units.push(EntryList::new(alloc))?;
+    let print = print_book(alloc, &book)?;
+    assert_eq!(rt; print.as_slice(), JOURNALS.as_bytes());
+    Ok(())
+}
+
+/// Each loss and each tell.
+#[test]
+fn prints_outputs(rt: HostRuntime) -> Result<(), Fail> {
+    let alloc = rt.alloc();
+    let mut book = Book::new(alloc);
+    book.conns.push(lane_of_outputs(alloc)?)?;
+    let print = print_book(alloc, &book)?;
+    assert_eq!(rt; print.as_slice(), OUTPUTS.as_bytes());
+    Ok(())
+}
