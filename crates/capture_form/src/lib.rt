@@ -9,6 +9,8 @@ mod note;
 mod reading;
 mod refused;
 mod steps;
+#[cfg(test)]
+mod tests;
 mod text;
 mod words;
 
