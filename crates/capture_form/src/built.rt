@@ -10,11 +10,7 @@ use sccp_address::parse;
 fn is_later_type(code: u8) -> bool
     ensures { result ≡ is_later_type code }
 {
-    code == 0x02
-        || code == 0x03
-        || code == 0x07
-        || code == 0x08
-        || (code >= 0x0B && code <= 0x10)
+    code == 0x02 || code == 0x03 || code == 0x07 || code == 0x08 || (code >= 0x0B && code <= 0x10)
 }
 
 /// Whether a called address routes on the subsystem number of management.

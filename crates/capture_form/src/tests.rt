@@ -282,6 +282,22 @@ fn limit_of_barriers(rt: HostRuntime) {
     }
 }
 
+/// 200,000 event lines, whatever their form; empty lines, comments and barriers are none.
+#[test]
+fn limit_of_event_lines(rt: HostRuntime) {
+    let cases = [
+        ("# none\n\nw", None),
+        ("x", Some(CaptureFault::TooLong(Limit::Lines))),
+    ];
+    for (after, fault) in cases {
+        assert_eq!(rt;
+            fault_of_many(rt.alloc(), "", "m 1 200 5 -\n", 200_000, after),
+            fault,
+            "{after}"
+        );
+    }
+}
+
 fn stamp(phase: u32, line: u32) -> Stamp {
     Stamp {
         phase,
