@@ -73,90 +73,139 @@ fn plant(alloc: Global) -> Result<Plant, Memory> {
     Plant::start(alloc, Pc::new(100).ok_or(Memory)?, &[Ssn::from(8)])
 }
 
-/// A step in the first phase; it gives the outputs of its entry.
-fn step<'a>(
-    lane: &'a mut DataLane,
-    plant: &Plant,
-    event: &Event,
-) -> Result<Option<&'a Outs>, Memory> {
-    let stamp = Stamp {
-        phase: 1,
-        link: 1,
-        line: 4,
+/// The octets with 55 octets of data in the last segment of a unit of 300 octets.
+const LAST_SEGMENT: usize = 78;
+
+/// A user's unit of so many octets for subsystem 8 of point 300.
+fn unit(alloc: Global, size: usize) -> Result<Event, Memory> {
+    let body = Vec::from_elem(alloc, 0x61, size)?;
+    let called = Octets::from_slice(alloc, b"\x43\x2c\x01\x08")?;
+    let request = Request::Unit {
+        sls: Sls::new(5).ok_or(Memory)?,
+        class: 0,
+        ret: false,
+        called,
+        calling: None,
+        body: Octets::from(body),
     };
-    lane.step(plant, stamp, event)?;
-    Ok(lane.journal().as_slice().last().map(|entry| &entry.outs))
+    Ok(Event::Asked {
+        ssn: Ssn::from(8),
+        request,
+    })
 }
 
-/// Whether the last entry has no outputs.
-fn is_quiet(lane: &DataLane) -> bool {
-    match lane.journal().as_slice().last() {
-        Some(entry) => entry.outs.is_empty(),
-        None => true,
+/// A lane, and the routing data that it asks.
+#[derive(Drop)]
+struct Scene {
+    alloc: Global,
+    plant: Plant,
+    lane: DataLane,
+}
+
+impl Scene {
+    fn new(alloc: Global, number: u8) -> Result<Scene, Memory> {
+        let plant = plant(alloc)?;
+        let head = lane_head()?;
+        let lane = DataLane::new(alloc, &head, number)?;
+        Ok(Scene { alloc, plant, lane })
+    }
+
+    fn step(&mut self, event: &Event) -> Result<(), Memory> {
+        let stamp = Stamp {
+            phase: 1,
+            link: 1,
+            line: 4,
+        };
+        self.lane.step(&self.plant, stamp, event)
+    }
+
+    /// Whether the last entry has no outputs.
+    fn is_quiet(&self) -> bool {
+        match self.lane.journal().as_slice().last() {
+            Some(entry) => entry.outs.is_empty(),
+            None => true,
+        }
+    }
+
+    /// Whether the last entry returns the segments of these references with a cause, in this order.
+    fn returns(&self, cause: u8, first: u16, end: u16) -> Result<bool, Memory> {
+        let mut outs = Outs::new(self.alloc);
+        for reference in first..end {
+            outs.push(returned(self.alloc, cause, reference)?)?;
+        }
+        Ok(match self.lane.journal().as_slice().last() {
+            Some(entry) => entry.outs == outs,
+            None => false,
+        })
+    }
+
+    /// Takes 256 first segments of different references; whether nothing came of them.
+    fn fill(&mut self) -> Result<bool, Memory> {
+        let mut is_quiet = true;
+        for reference in 0..256 {
+            let event = segment(self.alloc, reference)?;
+            self.step(&event)?;
+            is_quiet = is_quiet && self.is_quiet();
+        }
+        Ok(is_quiet)
+    }
+
+    /// Takes one more; whether it was returned for want of room.
+    fn refuses_one(&mut self) -> Result<bool, Memory> {
+        let event = segment(self.alloc, 256)?;
+        self.step(&event)?;
+        self.returns(0x09, 256, 257)
+    }
+
+    /// Lets 14 ticks go by; whether nothing came of them.
+    fn waits(&mut self) -> Result<bool, Memory> {
+        let mut is_quiet = true;
+        for _ in 0..14 {
+            self.step(&Event::Tick)?;
+            is_quiet = is_quiet && self.is_quiet();
+        }
+        Ok(is_quiet)
+    }
+
+    /// Lets one tick go by; whether all were returned as failed, in the order in which they came.
+    fn fails(&mut self) -> Result<bool, Memory> {
+        self.step(&Event::Tick)?;
+        self.returns(0x0E, 0, 256)
+    }
+
+    /// The lowest octet of the reference of the last segment, where a unit of 300 octets was cut.
+    fn last_reference(&self) -> Option<u8> {
+        let entry = self.lane.journal().as_slice().last()?;
+        let Some(Output::Sent { bytes, .. }) = entry.outs.as_slice().last() else {
+            return None;
+        };
+        if bytes.len() == LAST_SEGMENT {
+            Some(bytes.as_slice()[74])
+        } else {
+            None
+        }
     }
 }
 
 #[test]
 fn fails_in_the_order_of_beginning(rt: HostRuntime) -> Result<(), Fail> {
-    let alloc = rt.alloc();
-    let plant = plant(alloc)?;
-    let mut lane = DataLane::new(alloc, &lane_head()?, 0)?;
-    for reference in 0..256 {
-        step(&mut lane, &plant, &segment(alloc, reference)?)?;
-        assert!(rt; is_quiet(&lane), "{reference}");
-    }
-    let mut refused = Outs::new(alloc);
-    refused.push(returned(alloc, 0x09, 256)?)?;
-    let last = step(&mut lane, &plant, &segment(alloc, 256)?)?;
-    assert!(rt; last == Some(&refused));
-    for _ in 0..14 {
-        step(&mut lane, &plant, &Event::Tick)?;
-        assert!(rt; is_quiet(&lane));
-    }
-    let mut failed = Outs::new(alloc);
-    for reference in 0..256 {
-        failed.push(returned(alloc, 0x0E, reference)?)?;
-    }
-    let last = step(&mut lane, &plant, &Event::Tick)?;
-    assert!(rt; last == Some(&failed));
-    assert_eq!(rt; lane.into_journal().len(), 272);
+    let mut scene = Scene::new(rt.alloc(), 0)?;
+    let fills = scene.fill()?;
+    let refuses = scene.refuses_one()?;
+    let waits = scene.waits()?;
+    let fails = scene.fails()?;
+    assert_eq!(rt; [fills, refuses, waits, fails], [true; 4]);
     Ok(())
-}
-
-/// The reference's lowest octet in a sent segment with 55 octets of data.
-fn last_reference(outs: &Outs) -> Option<u8> {
-    let Some(Output::Sent { bytes, .. }) = outs.as_slice().last() else {
-        return None;
-    };
-    let octets = bytes.as_slice();
-    if octets.len() == 78 {
-        Some(octets[74])
-    } else {
-        None
-    }
 }
 
 #[test]
 fn counts_what_it_cuts(rt: HostRuntime) -> Result<(), Fail> {
     let alloc = rt.alloc();
-    let plant = plant(alloc)?;
-    let mut lane = DataLane::new(alloc, &lane_head()?, 3)?;
+    let mut scene = Scene::new(alloc, 3)?;
     for (size, reference) in [(300, Some(3)), (200, None), (300, Some(19))] {
-        let body = Vec::from_elem(alloc, 0x61, size)?;
-        let request = Request::Unit {
-            sls: Sls::new(5).ok_or(Memory)?,
-            class: 0,
-            ret: false,
-            called: Octets::from_slice(alloc, b"\x43\x2c\x01\x08")?,
-            calling: None,
-            body: Octets::from(body),
-        };
-        let event = Event::Asked {
-            ssn: Ssn::from(8),
-            request,
-        };
-        let outs = step(&mut lane, &plant, &event)?;
-        assert_eq!(rt; outs.and_then(last_reference), reference);
+        let event = unit(alloc, size)?;
+        scene.step(&event)?;
+        assert_eq!(rt; scene.last_reference(), reference);
     }
     Ok(())
 }
