@@ -134,65 +134,67 @@ fn sizes(rt: HostRuntime) -> Result<(), Fail> {
     Ok(())
 }
 
+/// Messages by how they begin and how many octets 61 follow, and whether they are run.
+const MESSAGES: [(&str, usize, bool); 47] = [
+    // UDT, UDTS, XUDT without and with segmentation, XUDTS, LUDT, LUDTS.
+    ("090003050702420802420601aa", 0, true),
+    ("098203050702420802420601aa", 0, true),
+    ("0a0403050702420602420901aa", 0, true),
+    ("118001040c0e0008120800120494712102420601aa", 0, true),
+    ("11810f0406080902420802420601611004c201000000", 0, true),
+    ("120e0f0406080902420602420801611004c201000000", 0, true),
+    ("13000f07000800090000000242080242060200aabb", 0, true),
+    ("14000f07000800090000000242080242060200aabb", 0, true),
+    // Management: on its subsystem alone, with a point code or without, and in a UDT alone.
+    ("090003050702420102420601aa", 0, false),
+    ("09000307090443c8000102420601aa", 0, false),
+    ("090003050702020102420601aa", 0, true),
+    ("0900030406014002420601aa", 0, true),
+    ("0900030406014202420601aa", 0, true),
+    ("0a0403050702420102420901aa", 0, true),
+    ("11000f0406080002420102420601aa", 0, true),
+    // CR, RLSD, RLC and DT1, whole and cut.
+    ("01010000020200024208", 0, false),
+    ("01010000030200024208", 0, false),
+    ("041000000200000000", 0, false),
+    ("05100000010000", 0, false),
+    ("0610000000010161", 0, false),
+    ("01", 0, true),
+    ("041000000200", 0, true),
+    ("0510000001", 0, true),
+    ("06100000", 0, true),
+    // The other types of the connection-oriented service, whatever follows.
+    ("02", 0, false),
+    ("03", 0, false),
+    ("07", 0, false),
+    ("08", 0, false),
+    ("0B", 0, false),
+    ("0b1000000100", 0, false),
+    ("0c100000", 0, false),
+    ("0d10000007000006", 0, false),
+    ("0e", 0, false),
+    ("0f10000000", 0, false),
+    ("10", 0, false),
+    // What does not read.
+    ("-", 0, true),
+    ("00", 0, true),
+    ("15", 0, true),
+    ("77", 0, true),
+    ("0900ff050702420802420601aa", 0, true),
+    ("09000305090443c80001024206", 0, true),
+    // 268 and 269 octets.
+    ("77", 268, true),
+    ("061000000101ff", 261, false),
+    ("061000000101ff", 262, true),
+    ("0900030507024201024206ff", 256, false),
+    ("0900030507024201024206ff", 257, true),
+    ("0b1000000100", 263, false),
+];
+
 /// Which messages are run: all of the connectionless service but a UDT for management, and what is lost for its length or form.
 #[test]
 fn built(rt: HostRuntime) -> Result<(), Fail> {
-    let cases = [
-        // UDT, UDTS, XUDT without and with segmentation, XUDTS, LUDT, LUDTS.
-        ("090003050702420802420601aa", 0, true),
-        ("098203050702420802420601aa", 0, true),
-        ("0a0403050702420602420901aa", 0, true),
-        ("118001040c0e0008120800120494712102420601aa", 0, true),
-        ("11810f0406080902420802420601611004c201000000", 0, true),
-        ("120e0f0406080902420602420801611004c201000000", 0, true),
-        ("13000f07000800090000000242080242060200aabb", 0, true),
-        ("14000f07000800090000000242080242060200aabb", 0, true),
-        // Management: on its subsystem alone, with a point code or without, and in a UDT alone.
-        ("090003050702420102420601aa", 0, false),
-        ("09000307090443c8000102420601aa", 0, false),
-        ("090003050702020102420601aa", 0, true),
-        ("0900030406014002420601aa", 0, true),
-        ("0900030406014202420601aa", 0, true),
-        ("0a0403050702420102420901aa", 0, true),
-        ("11000f0406080002420102420601aa", 0, true),
-        // CR, RLSD, RLC and DT1, whole and cut.
-        ("01010000020200024208", 0, false),
-        ("01010000030200024208", 0, false),
-        ("041000000200000000", 0, false),
-        ("05100000010000", 0, false),
-        ("0610000000010161", 0, false),
-        ("01", 0, true),
-        ("041000000200", 0, true),
-        ("0510000001", 0, true),
-        ("06100000", 0, true),
-        // The other types of the connection-oriented service, whatever follows.
-        ("02", 0, false),
-        ("03", 0, false),
-        ("07", 0, false),
-        ("08", 0, false),
-        ("0B", 0, false),
-        ("0b1000000100", 0, false),
-        ("0c100000", 0, false),
-        ("0d10000007000006", 0, false),
-        ("0e", 0, false),
-        ("0f10000000", 0, false),
-        ("10", 0, false),
-        // What does not read.
-        ("-", 0, true),
-        ("00", 0, true),
-        ("15", 0, true),
-        ("77", 0, true),
-        ("0900ff050702420802420601aa", 0, true),
-        ("09000305090443c80001024206", 0, true),
-        // 268 and 269 octets.
-        ("77", 268, true),
-        ("061000000101ff", 261, false),
-        ("061000000101ff", 262, true),
-        ("0900030507024201024206ff", 256, false),
-        ("0900030507024201024206ff", 257, true),
-        ("0b1000000100", 263, false),
-    ];
-    for (start, count, is_run) in cases {
+    for (start, count, is_run) in MESSAGES {
         let rest = "61".repeat(rt.alloc(), count)?;
         let line = format!(in rt.alloc(); "m 1 200 5 {start}{rest}")?;
         let fault = if is_run {

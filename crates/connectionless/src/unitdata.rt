@@ -37,118 +37,49 @@ pub struct UnitView<'a> {
 pub fn unit_of<'a>(view: &View<'a>) -> Option<UnitView<'a>>
     ensures { option_map seen_unit result ≡ unitdata_of (seen view.now) }
 {
-    let unit = match *view {
-        View::Udt {
-            class_octet,
-            called,
-            calling,
-            body,
-        } => UnitView {
-            kind: Kind::Basic,
-            is_service: false,
-            first: class_octet,
-            hop: None,
-            called,
-            calling,
-            body,
-            segmentation: None,
-            importance: None,
-        },
-        View::Udts {
-            cause,
-            called,
-            calling,
-            body,
-        } => UnitView {
-            kind: Kind::Basic,
-            is_service: true,
-            first: cause,
-            hop: None,
-            called,
-            calling,
-            body,
-            segmentation: None,
-            importance: None,
-        },
-        View::Xudt {
-            class_octet,
-            hop,
-            called,
-            calling,
-            body,
-            segmentation,
-            importance,
-        } => UnitView {
-            kind: Kind::Extended,
-            is_service: false,
-            first: class_octet,
-            hop: Some(hop),
-            called,
-            calling,
-            body,
-            segmentation,
-            importance,
-        },
-        View::Xudts {
-            cause,
-            hop,
-            called,
-            calling,
-            body,
-            segmentation,
-            importance,
-        } => UnitView {
-            kind: Kind::Extended,
-            is_service: true,
-            first: cause,
-            hop: Some(hop),
-            called,
-            calling,
-            body,
-            segmentation,
-            importance,
-        },
-        View::Ludt {
-            class_octet,
-            hop,
-            called,
-            calling,
-            body,
-            segmentation,
-            importance,
-        } => UnitView {
-            kind: Kind::Long,
-            is_service: false,
-            first: class_octet,
-            hop: Some(hop),
-            called,
-            calling,
-            body,
-            segmentation,
-            importance,
-        },
-        View::Ludts {
-            cause,
-            hop,
-            called,
-            calling,
-            body,
-            segmentation,
-            importance,
-        } => UnitView {
-            kind: Kind::Long,
-            is_service: true,
-            first: cause,
-            hop: Some(hop),
-            called,
-            calling,
-            body,
-            segmentation,
-            importance,
-        },
-        _ => return None,
-    };
-    Some(unit)
+    // Of each message: its kind, whether it is a service message, and its first octet. Those of the second list have
+    // a hop counter and an optional part.
+    macro_rules! unit_in {
+        (
+            { $($short:ident $short_kind:ident $short_is_service:literal $short_first:ident),* }
+            { $($variant:ident $kind:ident $is_service:literal $first:ident),* }
+        ) => {
+            match *view {
+                $(View::$short { $short_first, called, calling, body } => UnitView {
+                    kind: Kind::$short_kind,
+                    is_service: $short_is_service,
+                    first: $short_first,
+                    hop: None,
+                    called,
+                    calling,
+                    body,
+                    segmentation: None,
+                    importance: None,
+                },)*
+                $(View::$variant { $first, hop, called, calling, body, segmentation, importance } => UnitView {
+                    kind: Kind::$kind,
+                    is_service: $is_service,
+                    first: $first,
+                    hop: Some(hop),
+                    called,
+                    calling,
+                    body,
+                    segmentation,
+                    importance,
+                },)*
+                _ => return None,
+            }
+        };
+    }
+    Some(unit_in! {
+        { Udt Basic false class_octet, Udts Basic true cause }
+        {
+            Xudt Extended false class_octet,
+            Xudts Extended true cause,
+            Ludt Long false class_octet,
+            Ludts Long true cause
+        }
+    })
 }
 
 /// The message that a unit or service message is.
@@ -162,55 +93,37 @@ pub fn message_of(alloc: Global, unit: &UnitView<'_>) -> Result<Message, Memory>
     let hop = unit.hop.unwrap_or(0);
     let segmentation = unit.segmentation;
     let importance = unit.importance;
-    let message = match (unit.kind, unit.is_service) {
-        (Kind::Basic, false) => Message::Udt {
-            class_octet: unit.first,
-            called,
-            calling,
-            body,
-        },
-        (Kind::Basic, true) => Message::Udts {
-            cause: unit.first,
-            called,
-            calling,
-            body,
-        },
-        (Kind::Extended, false) => Message::Xudt {
-            class_octet: unit.first,
-            hop,
-            called,
-            calling,
-            body,
-            segmentation,
-            importance,
-        },
-        (Kind::Extended, true) => Message::Xudts {
-            cause: unit.first,
-            hop,
-            called,
-            calling,
-            body,
-            segmentation,
-            importance,
-        },
-        (Kind::Long, false) => Message::Ludt {
-            class_octet: unit.first,
-            hop,
-            called,
-            calling,
-            body,
-            segmentation,
-            importance,
-        },
-        (Kind::Long, true) => Message::Ludts {
-            cause: unit.first,
-            hop,
-            called,
-            calling,
-            body,
-            segmentation,
-            importance,
-        },
-    };
-    Ok(message)
+    macro_rules! message_from {
+        (
+            { $($short:ident $short_kind:ident $short_is_service:literal $short_first:ident),* }
+            { $($variant:ident $kind:ident $is_service:literal $first:ident),* }
+        ) => {
+            match (unit.kind, unit.is_service) {
+                $((Kind::$short_kind, $short_is_service) => Message::$short {
+                    $short_first: unit.first,
+                    called,
+                    calling,
+                    body,
+                },)*
+                $((Kind::$kind, $is_service) => Message::$variant {
+                    $first: unit.first,
+                    hop,
+                    called,
+                    calling,
+                    body,
+                    segmentation,
+                    importance,
+                },)*
+            }
+        };
+    }
+    Ok(message_from! {
+        { Udt Basic false class_octet, Udts Basic true cause }
+        {
+            Xudt Extended false class_octet,
+            Xudts Extended true cause,
+            Ludt Long false class_octet,
+            Ludts Long true cause
+        }
+    })
 }

@@ -4,7 +4,7 @@ use Rattle.plant_core.specs.declared.answer.Answer.{Answer}
 use Rattle.plant_core.specs.declared.terms.LaneHead.{LaneHead}
 use Rattle.connectionless.specs.Given.{reference_after, given_of, sending_of}
 use Rattle.connectionless.specs.Asking.{Matter, from_network, from_user, settled, of_tick}
-use Rattle.data_lane.specs.Legal.{turn_by, of_sending}
+use Rattle.data_lane.specs.Legal.{effect_by, of_sending}
 use Rattle.data_lane.specs.Lane.{reduced}
 
 pub reference-reduced : (number n : ℕ) → reference_after number (reduced n) ≡ reference_after number n
@@ -13,10 +13,10 @@ reference-reduced number n = omega arith
 pub reduced-add : (n k : ℕ) → reduced (reduced (reduced n) + k) ≡ reduced (n + k)
 reduced-add n k = omega arith
 
-pub turn-reduced : (head : LaneHead) (number n : ℕ) (matter : Matter) (answer : Option Answer) → turn_by head number (reduced n) matter answer ≡ turn_by head number n matter answer
-turn-reduced head number n (from_network opc sls message q) (Some answer) = refl
-turn-reduced head number n (from_network opc sls message q) None = refl
-turn-reduced head number n (from_user ssn request q) (Some answer) = ap (λ reference. of_sending (sending_of (given_of ssn request) answer reference)) (reference-reduced number n)
-turn-reduced head number n (from_user ssn request q) None = refl
-turn-reduced head number n (settled outs) answer = refl
-turn-reduced head number n of_tick answer = refl
+pub effect-reduced : (head : LaneHead) (number n : ℕ) (matter : Matter) (answer : Option Answer) → effect_by head number (reduced n) matter answer ≡ effect_by head number n matter answer
+effect-reduced head number n (from_network opc sls message q) (Some answer) = refl
+effect-reduced head number n (from_network opc sls message q) None = refl
+effect-reduced head number n (from_user ssn request q) (Some answer) = ap (λ reference. of_sending (sending_of (given_of ssn request) answer reference)) (reference-reduced number n)
+effect-reduced head number n (from_user ssn request q) None = refl
+effect-reduced head number n (settled outs) answer = refl
+effect-reduced head number n of_tick answer = refl

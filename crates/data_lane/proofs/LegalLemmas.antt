@@ -10,10 +10,10 @@ use Rattle.plant_core.specs.declared.terms.LaneHead.{LaneHead}
 use Rattle.reassembly.specs.Laws.{IsWithinBounds}
 use Rattle.reassembly.specs.Reassembly.{Reassemblies}
 use Rattle.connectionless.specs.Asking.{Question, matter_of}
-use Rattle.data_lane.specs.declared.turn.Turn.{Turn}
-use Rattle.data_lane.specs.Legal.{State, at_first, Step, step_of, step_by, joined, worked, turn_by, ticks_of, IsLegalEntry, LegalFrom, entry_after, state_after, question_of, asked_at, asked_of, answer_in}
+use Rattle.data_lane.specs.declared.effect.Effect.{Effect}
+use Rattle.data_lane.specs.Legal.{State, at_first, Step, step_of, step_by, joined, worked, effect_by, ticks_of, IsLegalEntry, LegalFrom, entry_after, state_after, question_of, asked_at, asked_of, answer_in}
 use Rattle.data_lane.specs.Lane.{reduced, IsLane}
-use Rattle.data_lane.proofs.CountLemmas.{reduced-add, turn-reduced}
+use Rattle.data_lane.proofs.CountLemmas.{reduced-add, effect-reduced}
 
 legal-push : (head : LaneHead) (number : ℕ) (s : State) (journal : List Entry) (entry : Entry) → LegalFrom head number s journal → IsLegalEntry head number (state_after head number s journal) entry
     → LegalFrom head number s (journal ++ entry ∷ [])
@@ -28,50 +28,50 @@ asks_so : (edition : ℕ) (routing : RoutingData) (asks : Option Question) → i
 asks_so edition routing None = refl
 asks_so edition routing (Some q) = refl
 
--- what an event gives by its turn
-step-turn : (head : LaneHead) (number : ℕ) (s : State) (e : Event) (asked : Option Asked) (turn : Turn) → turn ≡ turn_by head number (reduced s.cut) (matter_of e) (answer_in asked)
-    → step_of head number s e (answer_in asked) ≡ joined s.cut turn (worked head.terms.own (ticks_of head) s.processes turn.work)
+-- what an event gives by its effect
+step-effect : (head : LaneHead) (number : ℕ) (s : State) (e : Event) (asked : Option Asked) (effect : Effect) → effect ≡ effect_by head number (reduced s.cut) (matter_of e) (answer_in asked)
+    → step_of head number s e (answer_in asked) ≡ joined s.cut effect (worked head.terms.own (ticks_of head) s.processes effect.work)
 unfolding step_of
-step-turn head number s e asked turn t = ap (step_by head s) (sym (t ∙ turn-reduced head number s.cut (matter_of e) (answer_in asked)))
+step-effect head number s e asked effect t = ap (step_by head s) (sym (t ∙ effect-reduced head number s.cut (matter_of e) (answer_in asked)))
 
--- the entry of an event with its turn
-abbrev pub entry_with : LaneHead → Reassemblies → Stamp → Event → Option Asked → Turn → Entry
-entry_with head bench stamp e asked turn =
-    record { stamp = stamp; event = e; asked = asked; outs = turn.outs ++ (worked head.terms.own bench.ticks bench.processes turn.work).outs }
+-- the entry of an event with its effect
+abbrev pub entry_with : LaneHead → Reassemblies → Stamp → Event → Option Asked → Effect → Entry
+entry_with head bench stamp e asked effect =
+    record { stamp = stamp; event = e; asked = asked; outs = effect.outs ++ (worked head.terms.own bench.ticks bench.processes effect.work).outs }
 
 -- such an entry, and the work done by the reassemblies
-pub record IsWritten (head : LaneHead) (number : ℕ) (plant : PlantState) (e : Event) (count : ℕ) (bench after : Reassemblies) (turn : Turn) (entry : Entry) : Type 0 where
+pub record IsWritten (head : LaneHead) (number : ℕ) (plant : PlantState) (e : Event) (count : ℕ) (bench after : Reassemblies) (effect : Effect) (entry : Entry) : Type 0 where
   pub of_event : entry.event ≡ e
   pub asked : entry.asked ≡ asked_of plant e
-  pub by : turn ≡ turn_by head number count (matter_of e) (answer_in entry.asked)
-  pub outs : entry.outs ≡ turn.outs ++ (worked head.terms.own bench.ticks bench.processes turn.work).outs
-  pub processes : after.processes ≡ (worked head.terms.own bench.ticks bench.processes turn.work).processes
+  pub by : effect ≡ effect_by head number count (matter_of e) (answer_in entry.asked)
+  pub outs : entry.outs ≡ effect.outs ++ (worked head.terms.own bench.ticks bench.processes effect.work).outs
+  pub processes : after.processes ≡ (worked head.terms.own bench.ticks bench.processes effect.work).processes
   pub ticks : after.ticks ≡ bench.ticks
   pub bounds : IsWithinBounds after.processes
 
 -- so the lane goes on
-pub lane-goes : (head : LaneHead) (number : ℕ) (journal : List Entry) (plant : PlantState) (e : Event) (count : ℕ) (bench after : Reassemblies) (turn : Turn) (entry : Entry)
-    → IsLane head number journal count bench → IsWritten head number plant e count bench after turn entry
-    → IsLane head number (journal ++ entry ∷ []) (reduced (reduced count + (if turn.is_cut then 1 else 0))) after
-lane-goes head number journal plant e count bench after turn entry lane written =
+pub lane-goes : (head : LaneHead) (number : ℕ) (journal : List Entry) (plant : PlantState) (e : Event) (count : ℕ) (bench after : Reassemblies) (effect : Effect) (entry : Entry)
+    → IsLane head number journal count bench → IsWritten head number plant e count bench after effect entry
+    → IsLane head number (journal ++ entry ∷ []) (reduced (reduced count + (if effect.is_cut then 1 else 0))) after
+lane-goes head number journal plant e count bench after effect entry lane written =
     let s = state_after head number at_first journal in
     let routed : is_some entry.asked ≡ is_some (question_of entry.event) =
     ap is_some written.asked ∙ asks_so plant.edition plant.routing (question_of e) ∙ ap (λ f. is_some (question_of f)) (sym written.of_event) in
-    let by : turn ≡ turn_by head number (reduced s.cut) (matter_of entry.event) (answer_in entry.asked) =
-    written.by ∙ ap (λ n. turn_by head number n (matter_of e) (answer_in entry.asked)) lane.cut ∙ ap (λ f. turn_by head number (reduced s.cut) (matter_of f) (answer_in entry.asked)) (sym written.of_event) in
-    let same : worked head.terms.own bench.ticks bench.processes turn.work ≡ worked head.terms.own (ticks_of head) s.processes turn.work =
-    ap (λ n. worked head.terms.own n bench.processes turn.work) lane.ticks ∙ ap (λ p. worked head.terms.own (ticks_of head) p turn.work) lane.processes in
-    let step : step_of head number s entry.event (answer_in entry.asked) ≡ joined s.cut turn (worked head.terms.own (ticks_of head) s.processes turn.work) =
-    step-turn head number s entry.event entry.asked turn by in
+    let by : effect ≡ effect_by head number (reduced s.cut) (matter_of entry.event) (answer_in entry.asked) =
+    written.by ∙ ap (λ n. effect_by head number n (matter_of e) (answer_in entry.asked)) lane.cut ∙ ap (λ f. effect_by head number (reduced s.cut) (matter_of f) (answer_in entry.asked)) (sym written.of_event) in
+    let same : worked head.terms.own bench.ticks bench.processes effect.work ≡ worked head.terms.own (ticks_of head) s.processes effect.work =
+    ap (λ n. worked head.terms.own n bench.processes effect.work) lane.ticks ∙ ap (λ p. worked head.terms.own (ticks_of head) p effect.work) lane.processes in
+    let step : step_of head number s entry.event (answer_in entry.asked) ≡ joined s.cut effect (worked head.terms.own (ticks_of head) s.processes effect.work) =
+    step-effect head number s entry.event entry.asked effect by in
     let legal : IsLegalEntry head number s entry = record {
       routed = routed;
-      outputs = written.outs ∙ ap (λ w. turn.outs ++ w.outs) same ∙ sym (ap (λ (x : Step). x.outs) step);
+      outputs = written.outs ∙ ap (λ w. effect.outs ++ w.outs) same ∙ sym (ap (λ (x : Step). x.outs) step);
     } in
-    let left : state_after head number at_first (journal ++ entry ∷ []) ≡ (joined s.cut turn (worked head.terms.own (ticks_of head) s.processes turn.work)).after =
+    let left : state_after head number at_first (journal ++ entry ∷ []) ≡ (joined s.cut effect (worked head.terms.own (ticks_of head) s.processes effect.work)).after =
     state-push head number at_first journal entry ∙ ap (λ (x : Step). x.after) step in
     record {
       legal = legal-push head number at_first journal entry lane.legal legal;
-      cut = ap (λ n. reduced (reduced n + (if turn.is_cut then 1 else 0))) lane.cut ∙ reduced-add s.cut (if turn.is_cut then 1 else 0) ∙ sym (ap (λ (x : State). reduced x.cut) left);
+      cut = ap (λ n. reduced (reduced n + (if effect.is_cut then 1 else 0))) lane.cut ∙ reduced-add s.cut (if effect.is_cut then 1 else 0) ∙ sym (ap (λ (x : State). reduced x.cut) left);
       processes = written.processes ∙ ap (λ w. w.processes) same ∙ sym (ap (λ (x : State). x.processes) left);
       ticks = written.ticks ∙ lane.ticks;
       bounds = written.bounds;

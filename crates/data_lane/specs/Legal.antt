@@ -26,9 +26,9 @@ use Rattle.connectionless.specs.Returning.{refusal_output, unit_in}
 use Rattle.connectionless.specs.Routed.{Outcome, outcome_of}
 use Rattle.connectionless.specs.Given.{Sending, given_of, sending_of, reference_after}
 use Rattle.connectionless.specs.Asking.{Question, Matter, from_network, from_user, settled, of_tick, matter_of, question_in}
-use Rattle.data_lane.specs.declared.turn.Turn.{Turn}
-use Rattle.data_lane.specs.declared.turn.Work.{Work}
-use Rattle.data_lane.specs.declared.turn.Work.TheVariants as work
+use Rattle.data_lane.specs.declared.effect.Effect.{Effect}
+use Rattle.data_lane.specs.declared.effect.Work.{Work}
+use Rattle.data_lane.specs.declared.effect.Work.TheVariants as work
 
 -- what an event asks of routing
 abbrev pub question_of : Event → Option Question
@@ -68,23 +68,23 @@ abbrev pub work_of : Next → Work
 work_of Done = work.Nothing
 work_of (Gather segment ssn) = work.Segment (piece_of segment ssn)
 
-abbrev pub turn_with : List Output → Work → Turn
-turn_with outs todo = record { outs = outs; is_cut = false; work = todo }
+abbrev pub effect_with : List Output → Work → Effect
+effect_with outs todo = record { outs = outs; is_cut = false; work = todo }
 
-abbrev pub of_outcome : Outcome → Turn
-of_outcome x = turn_with x.outs (work_of x.next)
+abbrev pub of_outcome : Outcome → Effect
+of_outcome x = effect_with x.outs (work_of x.next)
 
-abbrev pub of_sending : Sending → Turn
+abbrev pub of_sending : Sending → Effect
 of_sending x = record { outs = x.outs; is_cut = x.is_cut; work = work.Nothing }
 
 -- by the answer to what was asked, in the lane of this number after so many users' units that were cut
-abbrev pub turn_by : LaneHead → ℕ → ℕ → Matter → Option Answer → Turn
-turn_by head number cut (from_network opc sls message q) (Some answer) = of_outcome (outcome_of head.terms.own opc sls (unitdata_of message) answer)
-turn_by head number cut (from_user ssn request q) (Some answer) = of_sending (sending_of (given_of ssn request) answer (reference_after number cut))
-turn_by head number cut (settled outs) answer = turn_with outs work.Nothing
-turn_by head number cut of_tick answer = turn_with [] work.Tick
-turn_by head number cut (from_network opc sls message q) None = turn_with [] work.Nothing
-turn_by head number cut (from_user ssn request q) None = turn_with [] work.Nothing
+abbrev pub effect_by : LaneHead → ℕ → ℕ → Matter → Option Answer → Effect
+effect_by head number cut (from_network opc sls message q) (Some answer) = of_outcome (outcome_of head.terms.own opc sls (unitdata_of message) answer)
+effect_by head number cut (from_user ssn request q) (Some answer) = of_sending (sending_of (given_of ssn request) answer (reference_after number cut))
+effect_by head number cut (settled outs) answer = effect_with outs work.Nothing
+effect_by head number cut of_tick answer = effect_with [] work.Tick
+effect_by head number cut (from_network opc sls message q) None = effect_with [] work.Nothing
+effect_by head number cut (from_user ssn request q) None = effect_with [] work.Nothing
 
 -- What comes of the reassemblies (Q.714): a failed one is returned with cause 0E hex, and one without room with cause 9.
 
@@ -147,14 +147,14 @@ pub record Step : Type 0 where
   pub outs : List Output
   pub after : State
 
-abbrev pub joined : ℕ → Turn → Worked → Step
-joined cut turn done = record { outs = turn.outs ++ done.outs; after = record { cut = cut + (if turn.is_cut then 1 else 0); processes = done.processes } }
+abbrev pub joined : ℕ → Effect → Worked → Step
+joined cut effect done = record { outs = effect.outs ++ done.outs; after = record { cut = cut + (if effect.is_cut then 1 else 0); processes = done.processes } }
 
-abbrev pub step_by : LaneHead → State → Turn → Step
-step_by head s turn = joined s.cut turn (worked head.terms.own (ticks_of head) s.processes turn.work)
+abbrev pub step_by : LaneHead → State → Effect → Step
+step_by head s effect = joined s.cut effect (worked head.terms.own (ticks_of head) s.processes effect.work)
 
 unfoldable pub step_of : LaneHead → ℕ → State → Event → Option Answer → Step
-step_of head number s e answer = step_by head s (turn_by head number s.cut (matter_of e) answer)
+step_of head number s e answer = step_by head s (effect_by head number s.cut (matter_of e) answer)
 
 -- The journal.
 

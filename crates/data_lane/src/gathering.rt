@@ -4,7 +4,7 @@ ghost use Rattle.reassembly.specs.Laws.{IsWithinBounds};
 ghost use Rattle.reassembly.specs.Reassembly.{takes, ended_by_tick, after_tick};
 ghost use Rattle.data_lane.specs.Legal.{failure, failures, whole_told, of_now, is_no_room, of_taken, worked};
 
-use crate::turn::Work;
+use crate::effect::Work;
 use connectionless::return_outs;
 use plant_core::LaneHead;
 use reassembly::{Bench, Now, Piece};

@@ -4,8 +4,8 @@ ghost use Rattle.reassembly.specs.Laws.{IsWithinBounds};
 ghost use Rattle.data_lane.specs.Legal.{ticks_of, worked};
 ghost use Rattle.data_lane.specs.Lane.{reduced};
 
+use crate::effect::{Context, Work};
 use crate::gathering::work_off;
-use crate::turn::{Setting, Work};
 use plant_core::{Entry, EntryList, LaneHead, Plant};
 use reassembly::Bench;
 use relay_base::{Event, Memory, Pc, Stamp};
@@ -120,19 +120,19 @@ impl DataLane {
         ensures ok { OnOk result (Takes plant.now stamp event.now self.old self.new) }
         ensures err { OnErr result (self.new ≡ self.old) }
     {
-        let setting = Setting {
+        let context = Context {
             alloc: self.alloc,
             head: self.head,
             number: self.number,
             cut: self.cut,
             plant,
         };
-        let (asked, turn) = setting.turn_of(event)?;
+        let (asked, effect) = context.effect_of(event)?;
         let entry = Entry {
             stamp,
             event: copy_of(event)?,
             asked,
-            outs: turn.outs,
+            outs: effect.outs,
         };
         let own = self.head.terms.own;
         let mut journal = mem::replace(&mut self.journal, EntryList::new(self.alloc)).into_vec();
@@ -142,11 +142,11 @@ impl DataLane {
             &mut self.bench,
             &mut journal,
             entry,
-            turn.work,
+            effect.work,
         );
         self.journal = EntryList::from(journal);
         written?;
-        self.cut = count_after(self.cut, turn.is_cut);
+        self.cut = count_after(self.cut, effect.is_cut);
         Ok(())
     }
 

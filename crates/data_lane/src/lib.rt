@@ -1,10 +1,10 @@
 //! A data lane: the units that one lane takes, the messages that it puts together of segments, and the journal of what came of them.
 #![tactic(auto)]
 
+mod effect;
 mod gathering;
 mod lane;
 #[cfg(test)]
 mod tests;
-mod turn;
 
 pub use lane::DataLane;

@@ -21,207 +21,38 @@ fn owned(alloc: Global, value: Option<&[u8]>) -> Result<Option<Octets>, Memory>
 pub fn own(alloc: Global, view: &View<'_>) -> Result<Message, Memory>
     ensures { IfOk result (λ message. message ≡ seen view.now) }
 {
-    match *view {
-        View::Cr {
-            slr,
-            class_octet,
-            called,
-            credit,
-            calling,
-            body,
-            hop,
-            importance,
-        } => Ok(Message::Cr {
-            slr,
-            class_octet,
-            called: Octets::from_slice(alloc, called)?,
-            credit,
-            calling: owned(alloc, calling)?,
-            body: owned(alloc, body)?,
-            hop,
-            importance,
-        }),
-        View::Cc {
-            dlr,
-            slr,
-            class_octet,
-            credit,
-            called,
-            body,
-            importance,
-        } => Ok(Message::Cc {
-            dlr,
-            slr,
-            class_octet,
-            credit,
-            called: owned(alloc, called)?,
-            body: owned(alloc, body)?,
-            importance,
-        }),
-        View::Cref {
-            dlr,
-            cause,
-            called,
-            body,
-            importance,
-        } => Ok(Message::Cref {
-            dlr,
-            cause,
-            called: owned(alloc, called)?,
-            body: owned(alloc, body)?,
-            importance,
-        }),
-        View::Rlsd {
-            dlr,
-            slr,
-            cause,
-            body,
-            importance,
-        } => Ok(Message::Rlsd {
-            dlr,
-            slr,
-            cause,
-            body: owned(alloc, body)?,
-            importance,
-        }),
-        View::Rlc { dlr, slr } => Ok(Message::Rlc { dlr, slr }),
-        View::Dt1 {
-            dlr,
-            segmenting,
-            body,
-        } => Ok(Message::Dt1 {
-            dlr,
-            segmenting,
-            body: Octets::from_slice(alloc, body)?,
-        }),
-        View::Dt2 {
-            dlr,
-            sequencing,
-            body,
-        } => Ok(Message::Dt2 {
-            dlr,
-            sequencing,
-            body: Octets::from_slice(alloc, body)?,
-        }),
-        View::Ak {
-            dlr,
-            receive,
-            credit,
-        } => Ok(Message::Ak {
-            dlr,
-            receive,
-            credit,
-        }),
-        View::Udt {
-            class_octet,
-            called,
-            calling,
-            body,
-        } => Ok(Message::Udt {
-            class_octet,
-            called: Octets::from_slice(alloc, called)?,
-            calling: Octets::from_slice(alloc, calling)?,
-            body: Octets::from_slice(alloc, body)?,
-        }),
-        View::Udts {
-            cause,
-            called,
-            calling,
-            body,
-        } => Ok(Message::Udts {
-            cause,
-            called: Octets::from_slice(alloc, called)?,
-            calling: Octets::from_slice(alloc, calling)?,
-            body: Octets::from_slice(alloc, body)?,
-        }),
-        View::Ed { dlr, body } => Ok(Message::Ed {
-            dlr,
-            body: Octets::from_slice(alloc, body)?,
-        }),
-        View::Ea { dlr } => Ok(Message::Ea { dlr }),
-        View::Rsr { dlr, slr, cause } => Ok(Message::Rsr { dlr, slr, cause }),
-        View::Rsc { dlr, slr } => Ok(Message::Rsc { dlr, slr }),
-        View::Err { dlr, cause } => Ok(Message::Err { dlr, cause }),
-        View::It {
-            dlr,
-            slr,
-            class_octet,
-            sequencing,
-            credit,
-        } => Ok(Message::It {
-            dlr,
-            slr,
-            class_octet,
-            sequencing,
-            credit,
-        }),
-        View::Xudt {
-            class_octet,
-            hop,
-            called,
-            calling,
-            body,
-            segmentation,
-            importance,
-        } => Ok(Message::Xudt {
-            class_octet,
-            hop,
-            called: Octets::from_slice(alloc, called)?,
-            calling: Octets::from_slice(alloc, calling)?,
-            body: Octets::from_slice(alloc, body)?,
-            segmentation,
-            importance,
-        }),
-        View::Xudts {
-            cause,
-            hop,
-            called,
-            calling,
-            body,
-            segmentation,
-            importance,
-        } => Ok(Message::Xudts {
-            cause,
-            hop,
-            called: Octets::from_slice(alloc, called)?,
-            calling: Octets::from_slice(alloc, calling)?,
-            body: Octets::from_slice(alloc, body)?,
-            segmentation,
-            importance,
-        }),
-        View::Ludt {
-            class_octet,
-            hop,
-            called,
-            calling,
-            body,
-            segmentation,
-            importance,
-        } => Ok(Message::Ludt {
-            class_octet,
-            hop,
-            called: Octets::from_slice(alloc, called)?,
-            calling: Octets::from_slice(alloc, calling)?,
-            body: Octets::from_slice(alloc, body)?,
-            segmentation,
-            importance,
-        }),
-        View::Ludts {
-            cause,
-            hop,
-            called,
-            calling,
-            body,
-            segmentation,
-            importance,
-        } => Ok(Message::Ludts {
-            cause,
-            hop,
-            called: Octets::from_slice(alloc, called)?,
-            calling: Octets::from_slice(alloc, calling)?,
-            body: Octets::from_slice(alloc, body)?,
-            segmentation,
-            importance,
-        }),
+    // The fields that are copied as they are, then the addresses and data, then the optional ones of these.
+    macro_rules! copied {
+        ($($variant:ident { $($plain:ident),*; $($octets:ident),*; $($optional:ident),* })*) => {
+            match *view {
+                $(View::$variant { $($plain,)* $($octets,)* $($optional,)* } => Ok(Message::$variant {
+                    $($plain,)*
+                    $($octets: Octets::from_slice(alloc, $octets)?,)*
+                    $($optional: owned(alloc, $optional)?,)*
+                }),)*
+            }
+        };
+    }
+    copied! {
+        Cr { slr, class_octet, credit, hop, importance; called; calling, body }
+        Cc { dlr, slr, class_octet, credit, importance; ; called, body }
+        Cref { dlr, cause, importance; ; called, body }
+        Rlsd { dlr, slr, cause, importance; ; body }
+        Rlc { dlr, slr; ; }
+        Dt1 { dlr, segmenting; body; }
+        Dt2 { dlr, sequencing; body; }
+        Ak { dlr, receive, credit; ; }
+        Udt { class_octet; called, calling, body; }
+        Udts { cause; called, calling, body; }
+        Ed { dlr; body; }
+        Ea { dlr; ; }
+        Rsr { dlr, slr, cause; ; }
+        Rsc { dlr, slr; ; }
+        Err { dlr, cause; ; }
+        It { dlr, slr, class_octet, sequencing, credit; ; }
+        Xudt { class_octet, hop, segmentation, importance; called, calling, body; }
+        Xudts { cause, hop, segmentation, importance; called, calling, body; }
+        Ludt { class_octet, hop, segmentation, importance; called, calling, body; }
+        Ludts { cause, hop, segmentation, importance; called, calling, body; }
     }
 }

@@ -76,8 +76,15 @@ fn refused(cause: RouteCause) -> Answer {
     Answer::Refused { cause, local: None }
 }
 
-/// Asserts that a network's ask for the title goes on to a point, with this hop counter.
-fn goes_to(rt: &impl Abort, plant: &Plant, hop: Option<u8>, number: u32, left: Option<u8>) {
+/// Asserts that an ask for the title goes on to a point, with this hop counter.
+fn goes_to(
+    rt: &impl Abort,
+    plant: &Plant,
+    hop: Option<u8>,
+    origin: Origin,
+    number: u32,
+    left: Option<u8>,
+) {
     let expected = Answer::Forward {
         dpc: Pc::new(number).expect(rt, "a point code"),
         rewrite: Rewrite::Set {
@@ -86,15 +93,14 @@ fn goes_to(rt: &impl Abort, plant: &Plant, hop: Option<u8>, number: u32, left: O
         },
         hop: left,
     };
-    assert_eq!(rt; answer(rt, plant, TITLE, hop, Origin::Network), expected);
+    assert_eq!(rt; answer(rt, plant, TITLE, hop, origin), expected);
 }
 
 /// Asserts that an ask is refused for this cause.
 fn is_refused(rt: &impl Abort, plant: &Plant, called: &[u8], hop: Option<u8>, cause: RouteCause) {
-    let expected = Answer::Refused { cause, local: None };
     assert_eq!(rt;
         answer(rt, plant, called, hop, Origin::Network),
-        expected,
+        refused(cause),
         "{called:?}"
     );
 }
@@ -104,8 +110,10 @@ fn answers_asks_for_a_title(rt: HostRuntime) -> Result<(), Fail> {
     let plant = plant(&rt, rt.alloc(), entity(&rt, 300, 8), None)?;
     let other = b"\x12\x08\x00\x12\x04\x15";
     let encoded = b"\x12\x08\x00\x13\x04\x94\x71\x21";
-    goes_to(&rt, &plant, None, 300, None);
-    goes_to(&rt, &plant, Some(15), 300, Some(14));
+    for origin in [Origin::Network, Origin::User] {
+        goes_to(&rt, &plant, None, origin, 300, None);
+        goes_to(&rt, &plant, Some(15), origin, 300, Some(14));
+    }
     is_refused(&rt, &plant, TITLE, Some(1), RouteCause::Hop);
     is_refused(&rt, &plant, TITLE, Some(16), RouteCause::Hop);
     is_refused(&rt, &plant, other, None, RouteCause::NoAddress);
@@ -124,14 +132,32 @@ fn leads_to_the_first_that_is_available(rt: HostRuntime) -> Result<(), Fail> {
     let mut plant = plant(&rt, rt.alloc(), entity(&rt, 300, 8), Some(second))?;
     let far = Pc::new(300).expect(&rt, "a point code");
     let further = Pc::new(400).expect(&rt, "a point code");
-    goes_to(&rt, &plant, None, 300, None);
+    goes_to(&rt, &plant, None, Origin::Network, 300, None);
     change(&mut plant, &Change::BarPoint(far))?;
-    goes_to(&rt, &plant, None, 400, None);
+    goes_to(&rt, &plant, None, Origin::Network, 400, None);
     change(&mut plant, &Change::BarSub(further, Ssn::from(8)))?;
     is_refused(&rt, &plant, TITLE, None, RouteCause::PointBarred);
     change(&mut plant, &Change::FreePoint(far))?;
     change(&mut plant, &Change::BarSub(far, Ssn::from(8)))?;
     is_refused(&rt, &plant, TITLE, None, RouteCause::SubsystemBarred);
+    Ok(())
+}
+
+#[test]
+fn is_refused_where_the_only_entity_is_barred(rt: HostRuntime) -> Result<(), Fail> {
+    let far = Pc::new(300).expect(&rt, "a point code");
+    let bars = [
+        (Change::BarPoint(far), RouteCause::PointBarred),
+        (
+            Change::BarSub(far, Ssn::from(8)),
+            RouteCause::SubsystemBarred,
+        ),
+    ];
+    for (bar, cause) in bars {
+        let mut plant = plant(&rt, rt.alloc(), entity(&rt, 300, 8), None)?;
+        change(&mut plant, &bar)?;
+        is_refused(&rt, &plant, TITLE, None, cause);
+    }
     Ok(())
 }
 

@@ -8,12 +8,12 @@ pub invariant_of-self-2 : goal.invariant_of-self-2
 invariant_of-self-2 c =
     let lane = c.self.inside in
     let after = c.write-written.new.bench in
-    let turn = c.in_ok-asked.turn in
-    let entry = entry_with lane.head lane.bench c.args.stamp c.in_ok-copy_of.field-0 c.in_ok-asked.asked turn in
-    let written : IsWritten lane.head lane.number c.args.plant.now c.args.event.now lane.cut lane.bench after turn entry = record {
+    let effect = c.in_ok-asked.effect in
+    let entry = entry_with lane.head lane.bench c.args.stamp c.in_ok-copy_of.field-0 c.in_ok-asked.asked effect in
+    let written : IsWritten lane.head lane.number c.args.plant.now c.args.event.now lane.cut lane.bench after effect entry = record {
       of_event = c.in_ok-copy_of.ensures;
       asked = c.in_ok-asked.ensures.asked;
-      by = c.in_ok-asked.ensures.turn;
+      by = c.in_ok-asked.ensures.effect;
       outs = refl;
       processes = c.in_ok-written.ensures.processes;
       ticks = c.write-written.ensures.ticks;
@@ -21,14 +21,14 @@ invariant_of-self-2 c =
     } in
     let journal : c.from.result ≡ lane.journal ++ entry ∷ [] =
     c.from.ensures ∙ c.in_ok-written.ensures.entry ∙ ap (λ l. l ++ entry ∷ []) (c.into_vec-journal.ensures ∙ c.replace.ensures.value) in
-    let goes = lane-goes lane.head lane.number lane.journal c.args.plant.now c.args.event.now lane.cut lane.bench after turn entry c.self.invariant written in
+    let goes = lane-goes lane.head lane.number lane.journal c.args.plant.now c.args.event.now lane.cut lane.bench after effect entry c.self.invariant written in
     subst (λ n. IsLane lane.head lane.number c.from.result n after) (sym c.count_after-self-inside.ensures)
-    (subst (λ l. IsLane lane.head lane.number l (reduced (reduced lane.cut + (if turn.is_cut then 1 else 0))) after) (sym journal) goes)
+    (subst (λ l. IsLane lane.head lane.number l (reduced (reduced lane.cut + (if effect.is_cut then 1 else 0))) after) (sym journal) goes)
 
 pub returns-clause-ok : goal.returns-clause-ok
 returns-clause-ok c =
     let lane = c.self.inside in
-    let entry = entry_with lane.head lane.bench c.args.stamp c.in_ok-copy_of.field-0 c.in_ok-asked.asked c.in_ok-asked.turn in
+    let entry = entry_with lane.head lane.bench c.args.stamp c.in_ok-copy_of.field-0 c.in_ok-asked.asked c.in_ok-asked.effect in
     record {
       entry = entry;
       journal = c.from.ensures ∙ c.in_ok-written.ensures.entry ∙ ap (λ l. l ++ entry ∷ []) (c.into_vec-journal.ensures ∙ c.replace.ensures.value) ∙ ap (λ (l : LaneState). l.journal ++ entry ∷ []) c.self.view_is;

@@ -3,8 +3,8 @@ ghost use Rattle.std.specs.Prelude.{◌≡◌, [], ◌∷◌, IfOk};
 ghost use Rattle.relay_base.specs.declared.words.Output.TheVariants.{Lost as Dropped};
 ghost use Rattle.q713_codec.specs.Reading.{seen};
 ghost use Rattle.connectionless.specs.Asking.{Matter, matter_by_question, matter_by_message, matter_by_request, message_question, message_in, user_question, seen_ask, question_in, matter_of};
-ghost use Rattle.data_lane.specs.declared.turn.Work.TheVariants as work;
-ghost use Rattle.data_lane.specs.Legal.{answer_to, asked_at, asked_of, answer_in, piece_of, work_of, turn_with, turn_by};
+ghost use Rattle.data_lane.specs.declared.effect.Work.TheVariants as work;
+ghost use Rattle.data_lane.specs.Legal.{answer_to, asked_at, asked_of, answer_in, piece_of, work_of, effect_with, effect_by};
 
 use connectionless::{Next, Segment, message_ask, message_in, unit_outs, user_ask, user_outs};
 use plant_core::{Ask, Asked, LaneHead, Plant};
@@ -26,30 +26,30 @@ pub enum Work {
 
 /// What comes of an event before the reassemblies have it.
 #[derive(Debug, Drop)]
-pub struct Turn {
+pub struct Effect {
     pub outs: Outs,
     /// A user's unit was cut into segments.
     pub is_cut: bool,
     pub work: Work,
 }
 
-impl Turn {
-    fn with(outs: Outs, work: Work) -> Turn
-        ensures { result ≡ turn_with outs work }
+impl Effect {
+    fn with(outs: Outs, work: Work) -> Effect
+        ensures { result ≡ effect_with outs work }
     {
-        Turn {
+        Effect {
             outs,
             is_cut: false,
             work,
         }
     }
 
-    fn of_lost(alloc: Global, lost: Lost) -> Result<Turn, Memory>
-        ensures { IfOk result (λ turn. turn ≡ turn_with (Dropped lost ∷ []) work.Nothing) }
+    fn of_lost(alloc: Global, lost: Lost) -> Result<Effect, Memory>
+        ensures { IfOk result (λ effect. effect ≡ effect_with (Dropped lost ∷ []) work.Nothing) }
     {
         let mut outs = Outs::new(alloc);
         outs.push(Output::Lost(lost))?;
-        Ok(Turn::with(outs, Work::Nothing))
+        Ok(Effect::with(outs, Work::Nothing))
     }
 }
 
@@ -91,7 +91,7 @@ fn piece_of(segment: Segment, ssn: Ssn) -> Piece
 
 /// A lane's head and number, the count of users' units that it cut, and the routing data.
 #[derive(Clone, Copy)]
-pub struct Setting<'a> {
+pub struct Context<'a> {
     pub alloc: Global,
     pub head: LaneHead,
     pub number: u8,
@@ -99,43 +99,43 @@ pub struct Setting<'a> {
     pub plant: &'a Plant,
 }
 
-impl Setting<'_> {
+impl Context<'_> {
     /// What comes of a message that was read.
-    fn read(&self, opc: Pc, sls: Sls, view: &View<'_>) -> Result<(Option<Asked>, Turn), Memory>
+    fn read(&self, opc: Pc, sls: Sls, view: &View<'_>) -> Result<(Option<Asked>, Effect), Memory>
         ensures asked { IfOk result (λ x. x.0 ≡ asked_at self.now.plant.now.edition self.now.plant.now.routing (question_in (matter_by_question opc sls (seen view.now) (message_question (seen view.now))))) }
-        ensures turn { IfOk result (λ x. x.1 ≡ turn_by self.now.head self.now.number self.now.cut (matter_by_question opc sls (seen view.now) (message_question (seen view.now))) (answer_in x.0)) }
+        ensures effect { IfOk result (λ x. x.1 ≡ effect_by self.now.head self.now.number self.now.cut (matter_by_question opc sls (seen view.now) (message_question (seen view.now))) (answer_in x.0)) }
     {
         let ask = match message_ask(view) {
-            Err(lost) => return Ok((None, Turn::of_lost(self.alloc, lost)?)),
-            Ok(None) => return Ok((None, Turn::with(Outs::new(self.alloc), Work::Nothing))),
+            Err(lost) => return Ok((None, Effect::of_lost(self.alloc, lost)?)),
+            Ok(None) => return Ok((None, Effect::with(Outs::new(self.alloc), Work::Nothing))),
             Ok(Some(ask)) => ask,
         };
         let asked = asked(self.plant, &ask);
         let mut outs = Outs::new(self.alloc);
         let own = self.head.terms.own;
         let next = unit_outs(self.alloc, own, opc, sls, view, &asked.answer, &mut outs)?;
-        Ok((Some(asked), Turn::with(outs, work_of(next))))
+        Ok((Some(asked), Effect::with(outs, work_of(next))))
     }
 
     /// What comes of octets from the network.
-    fn message(&self, opc: Pc, sls: Sls, bytes: &[u8]) -> Result<(Option<Asked>, Turn), Memory>
+    fn message(&self, opc: Pc, sls: Sls, bytes: &[u8]) -> Result<(Option<Asked>, Effect), Memory>
         ensures asked { IfOk result (λ x. x.0 ≡ asked_at self.now.plant.now.edition self.now.plant.now.routing (question_in (matter_by_message opc sls (message_in bytes.now)))) }
-        ensures turn { IfOk result (λ x. x.1 ≡ turn_by self.now.head self.now.number self.now.cut (matter_by_message opc sls (message_in bytes.now)) (answer_in x.0)) }
+        ensures effect { IfOk result (λ x. x.1 ≡ effect_by self.now.head self.now.number self.now.cut (matter_by_message opc sls (message_in bytes.now)) (answer_in x.0)) }
     {
         match message_in(bytes) {
             Ok(view) => self.read(opc, sls, &view),
-            Err(lost) => Ok((None, Turn::of_lost(self.alloc, lost)?)),
+            Err(lost) => Ok((None, Effect::of_lost(self.alloc, lost)?)),
         }
     }
 
     /// What comes of a user's request.
-    fn request(&self, ssn: Ssn, request: &Request) -> Result<(Option<Asked>, Turn), Memory>
+    fn request(&self, ssn: Ssn, request: &Request) -> Result<(Option<Asked>, Effect), Memory>
         ensures asked { IfOk result (λ x. x.0 ≡ asked_at self.now.plant.now.edition self.now.plant.now.routing (question_in (matter_by_request ssn request.now (user_question request.now)))) }
-        ensures turn { IfOk result (λ x. x.1 ≡ turn_by self.now.head self.now.number self.now.cut (matter_by_request ssn request.now (user_question request.now)) (answer_in x.0)) }
+        ensures effect { IfOk result (λ x. x.1 ≡ effect_by self.now.head self.now.number self.now.cut (matter_by_request ssn request.now (user_question request.now)) (answer_in x.0)) }
     {
         let mut outs = Outs::new(self.alloc);
         let Some(ask) = user_ask(request) else {
-            return Ok((None, Turn::with(outs, Work::Nothing)));
+            return Ok((None, Effect::with(outs, Work::Nothing)));
         };
         let asked = asked(self.plant, &ask);
         let is_cut = user_outs(
@@ -147,24 +147,24 @@ impl Setting<'_> {
             &asked.answer,
             &mut outs,
         )?;
-        let turn = Turn {
+        let effect = Effect {
             outs,
             is_cut,
             work: Work::Nothing,
         };
-        Ok((Some(asked), turn))
+        Ok((Some(asked), effect))
     }
 
     /// The routing that an event asks, and what comes of it.
     #[tactic(auto, unfolding(connectionless::specs::Asking::matter_of))]
-    pub fn turn_of(&self, event: &Event) -> Result<(Option<Asked>, Turn), Memory>
+    pub fn effect_of(&self, event: &Event) -> Result<(Option<Asked>, Effect), Memory>
         ensures asked { IfOk result (λ x. x.0 ≡ asked_of self.now.plant.now event.now) }
-        ensures turn { IfOk result (λ x. x.1 ≡ turn_by self.now.head self.now.number self.now.cut (matter_of event.now) (answer_in x.0)) }
+        ensures effect { IfOk result (λ x. x.1 ≡ effect_by self.now.head self.now.number self.now.cut (matter_of event.now) (answer_in x.0)) }
     {
         match event {
             Event::Message { opc, sls, bytes } => self.message(*opc, *sls, bytes.as_slice()),
             Event::Asked { ssn, request } => self.request(*ssn, request),
-            Event::Tick => Ok((None, Turn::with(Outs::new(self.alloc), Work::Tick))),
+            Event::Tick => Ok((None, Effect::with(Outs::new(self.alloc), Work::Tick))),
         }
     }
 }
