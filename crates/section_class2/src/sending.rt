@@ -1,0 +1,144 @@
+//! The messages that a section sends.
+ghost use Rattle.std.specs.Prelude.{◌≡◌, [], ◌∷◌, IfOk, if◌then◌else◌};
+ghost use Rattle.q713_codec.specs.Writing.{InRange};
+ghost use Rattle.q713_codec.specs.declared.message.Message.TheVariants.{Cc, Cref, Dt1, It};
+ghost use Rattle.section_model.specs.Ends.{section_of};
+ghost use Rattle.section_model.specs.Line.{sent_on, credit_of, rlsd, rlc};
+ghost use Rattle.section_model.specs.Lengths.{IsAddress, IsData, IsWithin, KeptWithin};
+
+use q713_codec::{Message, write};
+use relay_base::{Memory, Octets, Output};
+use section_model::{Kept, WireHead};
+use std::alloc::Global;
+
+/// A copy of octets.
+pub fn copied_octets(octets: &Octets) -> Result<Octets, Memory>
+    ensures { IfOk result (λ copy. copy ≡ octets.now) }
+{
+    Ok(octets.clone()?)
+}
+
+/// A copy of an optional address or of optional data.
+pub fn copied(octets: &Option<Octets>) -> Result<Option<Octets>, Memory>
+    ensures { IfOk result (λ copy. copy ≡ octets.now) }
+{
+    match octets {
+        Some(octets) => Ok(Some(copied_octets(octets)?)),
+        None => Ok(None),
+    }
+}
+
+/// A message on a section.
+fn sent_on(alloc: Global, wire: &WireHead, message: &Message) -> Result<Output, Memory>
+    requires { InRange message.now }
+    ensures { IfOk result (λ output. output ≡ sent_on (section_of wire.now) message.now) }
+{
+    Ok(Output::Sent {
+        point: wire.point,
+        sls: wire.sls,
+        bytes: write(alloc, message)?,
+    })
+}
+
+/// RLSD with what a release says.
+pub fn rlsd(alloc: Global, wire: &WireHead, kept: &Kept) -> Result<Output, Memory>
+    requires { KeptWithin kept.now }
+    ensures { IfOk result (λ output. output ≡ rlsd (section_of wire.now) kept.now) }
+{
+    let message = Message::Rlsd {
+        dlr: wire.other,
+        slr: wire.mine,
+        cause: kept.cause,
+        body: copied(&kept.body)?,
+        importance: kept.importance,
+    };
+    sent_on(alloc, wire, &message)
+}
+
+/// RLC.
+pub fn rlc(alloc: Global, wire: &WireHead) -> Result<Output, Memory>
+    ensures { IfOk result (λ output. output ≡ rlc (section_of wire.now)) }
+{
+    let message = Message::Rlc {
+        dlr: wire.other,
+        slr: wire.mine,
+    };
+    sent_on(alloc, wire, &message)
+}
+
+/// IT, with no sequence numbers.
+pub fn test(alloc: Global, wire: &WireHead) -> Result<Output, Memory>
+    ensures { IfOk result (λ output. output ≡ sent_on (section_of wire.now) (It wire.now.other wire.now.mine wire.now.class (0 ∷ 0 ∷ []) wire.now.credit)) }
+{
+    let message = Message::It {
+        dlr: wire.other,
+        slr: wire.mine,
+        class_octet: wire.class,
+        sequencing: [0, 0],
+        credit: wire.credit,
+    };
+    sent_on(alloc, wire, &message)
+}
+
+/// CC of a class; the credit stands in it in class 3 alone.
+pub fn confirmation(
+    alloc: Global,
+    wire: &WireHead,
+    class: u8,
+    credit: u8,
+    called: &Option<Octets>,
+    body: &Option<Octets>,
+    importance: Option<u8>,
+) -> Result<Output, Memory>
+    requires called { IsAddress called.now }
+    requires body { IsData body.now }
+    ensures { IfOk result (λ output. output ≡ sent_on (section_of wire.now) (Cc wire.now.other wire.now.mine class (credit_of class credit) called.now body.now importance)) }
+{
+    let credit = if class == 3 { Some(credit) } else { None };
+    let message = Message::Cc {
+        dlr: wire.other,
+        slr: wire.mine,
+        class_octet: class,
+        credit,
+        called: copied(called)?,
+        body: copied(body)?,
+        importance,
+    };
+    sent_on(alloc, wire, &message)
+}
+
+/// CREF.
+pub fn refusal(
+    alloc: Global,
+    wire: &WireHead,
+    cause: u8,
+    called: &Option<Octets>,
+    body: &Option<Octets>,
+    importance: Option<u8>,
+) -> Result<Output, Memory>
+    requires called { IsAddress called.now }
+    requires body { IsData body.now }
+    ensures { IfOk result (λ output. output ≡ sent_on (section_of wire.now) (Cref wire.now.other cause called.now body.now importance)) }
+{
+    let message = Message::Cref {
+        dlr: wire.other,
+        cause,
+        called: copied(called)?,
+        body: copied(body)?,
+        importance,
+    };
+    sent_on(alloc, wire, &message)
+}
+
+/// DT1 with a unit of data.
+pub fn data(alloc: Global, wire: &WireHead, more: bool, body: &Octets) -> Result<Output, Memory>
+    requires { IsWithin 1 255 body.now }
+    ensures { IfOk result (λ output. output ≡ sent_on (section_of wire.now) (Dt1 wire.now.other (if more then 1 else 0) body.now)) }
+{
+    let message = Message::Dt1 {
+        dlr: wire.other,
+        segmenting: u8::from(more),
+        body: copied_octets(body)?,
+    };
+    sent_on(alloc, wire, &message)
+}

@@ -1,0 +1,129 @@
+//! What a section does upon an effect of the other end.
+ghost use Rattle.std.specs.Prelude.{◌≡◌, IfOk, OnErr};
+ghost use Rattle.section_model.specs.Line.{line_takes, accepted, refused, ended, ended_early, passed};
+ghost use Rattle.section_model.specs.Lengths.{HandWithin};
+ghost use Rattle.section_class2.specs.Lines.{line_of, ActsOnHead};
+
+use crate::line::Line;
+use crate::sending::{confirmation, copied, data, refusal, rlsd};
+use relay_base::Memory;
+use section_model::{Acted, Cell, Hand, Kept, SectionState, WireHead};
+use std::alloc::Global;
+
+/// The other end accepts: CC, and the section is set up.
+fn accepted(alloc: Global, wire: &mut WireHead, hand: &Hand) -> Result<Acted, Memory>
+    requires { HandWithin hand.now }
+    ensures ok { IfOk result (λ done. ActsOnHead (accepted hand.now) wire.old wire.new done) }
+    ensures err { OnErr result (wire.new ≡ wire.old) }
+{
+    let Hand::Accept {
+        class,
+        credit,
+        called,
+        body,
+        importance,
+    } = hand
+    else {
+        return Ok(Acted::nothing(alloc));
+    };
+    let output = confirmation(alloc, wire, *class, *credit, called, body, *importance)?;
+    let acted = Acted::giving(alloc, output)?;
+    wire.class = *class;
+    wire.credit = *credit;
+    wire.enter(SectionState::Up);
+    Ok(acted)
+}
+
+/// The other end refuses: CREF, and the section is freed.
+fn refused(alloc: Global, wire: &mut WireHead, hand: &Hand) -> Result<Acted, Memory>
+    requires { HandWithin hand.now }
+    ensures ok { IfOk result (λ done. ActsOnHead (refused hand.now) wire.old wire.new done) }
+    ensures err { OnErr result (wire.new ≡ wire.old) }
+{
+    let Hand::Refuse {
+        cause,
+        called,
+        body,
+        importance,
+    } = hand
+    else {
+        return Ok(Acted::nothing(alloc));
+    };
+    let output = refusal(alloc, wire, *cause, called, body, *importance)?;
+    let acted = Acted::giving(alloc, output)?;
+    wire.enter(SectionState::Gone);
+    Ok(acted)
+}
+
+/// A unit of data: DT1.
+fn passed(alloc: Global, wire: &WireHead, hand: &Hand) -> Result<Acted, Memory>
+    requires { HandWithin hand.now }
+    ensures { IfOk result (λ done. ActsOnHead (passed hand.now) wire.now wire.now done) }
+{
+    match hand {
+        Hand::Unit { more, body } => Acted::giving(alloc, data(alloc, wire, *more, body)?),
+        _ => Ok(Acted::nothing(alloc)),
+    }
+}
+
+impl Line {
+    /// The other end ends: RLSD, which is kept.
+    fn ended(&mut self, alloc: Global, wire: &mut WireHead, hand: &Hand) -> Result<Acted, Memory>
+        requires { HandWithin hand.now }
+        ensures ok { IfOk result (λ done. ended hand.now (line_of wire.old self.old) ≡ (line_of wire.new self.new, done)) }
+        ensures err { OnErr result ((wire.new ≡ wire.old) × (self.new ≡ self.old)) }
+    {
+        let Hand::End {
+            cause,
+            body,
+            importance,
+        } = hand
+        else {
+            return Ok(Acted::nothing(alloc));
+        };
+        let kept = Kept {
+            cause: *cause,
+            body: copied(body)?,
+            importance: *importance,
+        };
+        let output = rlsd(alloc, wire, &kept)?;
+        let acted = Acted::giving(alloc, output)?;
+        self.kept = kept;
+        wire.enter(SectionState::Ending);
+        Ok(acted)
+    }
+
+    /// The other end ends before the section's other end is known: it is to be released as soon as that is.
+    fn ended_early(&mut self, alloc: Global, wire: &mut WireHead, hand: &Hand) -> Acted
+        ensures { ended_early hand.now (line_of wire.old self.old) ≡ (line_of wire.new self.new, result) }
+    {
+        if let Hand::End { cause, .. } = hand {
+            self.kept = Kept::cause(*cause);
+            wire.enter(SectionState::Waning);
+        }
+        Acted::nothing(alloc)
+    }
+
+    /// An effect of the other end, by the table's cell for it.
+    #[tactic(auto, unfolding(section_model::specs::Line::line_takes))]
+    pub(crate) fn take(
+        &mut self,
+        alloc: Global,
+        wire: &mut WireHead,
+        cell: Cell,
+        hand: &Hand,
+    ) -> Result<Acted, Memory>
+        requires { HandWithin hand.now }
+        ensures ok { IfOk result (λ done. line_takes cell hand.now (line_of wire.old self.old) ≡ (line_of wire.new self.new, done)) }
+        ensures err { OnErr result ((wire.new ≡ wire.old) × (self.new ≡ self.old)) }
+    {
+        match cell {
+            Cell::PassAccept => accepted(alloc, wire, hand),
+            Cell::PassRefuse => refused(alloc, wire, hand),
+            Cell::PassEnd => self.ended(alloc, wire, hand),
+            Cell::KeepEnd => Ok(self.ended_early(alloc, wire, hand)),
+            Cell::PassUnit => passed(alloc, wire, hand),
+            _ => Ok(Acted::nothing(alloc)),
+        }
+    }
+}

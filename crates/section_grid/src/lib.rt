@@ -1,0 +1,17 @@
+//! The tables of states and events of a connection (Q.714): what a connection section, and a user's end, does with each event in each
+//! of its states.
+#![tactic(auto)]
+
+mod grid;
+mod section_table;
+#[cfg(test)]
+mod tests;
+mod user_table;
+
+pub use grid::Grid;
+pub use section_model::{
+    Acted, Cell, Hand, HandList, Input, Kept, Occasion, SectionState, Timer, Unit, UserOccasion,
+    UserState, WireHead,
+};
+pub use section_table::{section_cell, wire_grid};
+pub use user_table::{user_cell, user_grid};

@@ -1,0 +1,7 @@
+pub mod Following
+pub mod Handing
+pub mod Growing
+pub mod ReadLengths
+pub mod ReadWithin
+pub mod InRanges
+pub mod ArriveWithin

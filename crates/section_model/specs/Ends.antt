@@ -1,0 +1,150 @@
+-- The two ends of a connection: a connection section of the network, or a user of this node.
+use Rattle.std.specs.Prelude.{ℕ, List, [], Bool, true, false, Option, None}
+use Rattle.section_model.specs.declared.wire.WireHead.{WireHead}
+use Rattle.section_model.specs.Table.{state_numbered}
+pub use Rattle.plant_core.specs.declared.terms.Terms.{Terms}
+pub use Rattle.plant_core.specs.declared.terms.Ticks.{Ticks}
+pub use Rattle.section_model.specs.declared.cell.SectionState.{SectionState}
+pub use Rattle.section_model.specs.declared.cell.UserState.{UserState}
+pub use Rattle.section_model.specs.declared.cell.SectionState.TheVariants as section
+pub use Rattle.section_model.specs.declared.cell.UserState.TheVariants as user
+pub use Rattle.section_model.specs.declared.hand.Unit.{Unit as DataUnit}
+pub use Rattle.section_model.specs.declared.hand.Hand.{Hand}
+pub use Rattle.section_model.specs.declared.hand.Acted.{Acted}
+pub use Rattle.section_model.specs.declared.hand.Kept.{Kept}
+pub use Rattle.relay_base.specs.declared.words.Output.{Output}
+use Rattle.section_model.specs.declared.cell.SectionState.TheVariants.{Asking, Waning, Up, Resetting, Gone}
+
+-- A section: the point that it reaches, its own reference and the other end's, its signalling link selection, its state, and the class
+-- and the credit agreed on.
+pub record SectionHead : Type 0 where
+  pub point : ℕ
+  pub mine : ℕ
+  pub other : ℕ
+  pub sls : ℕ
+  pub state : SectionState
+  pub class : ℕ
+  pub credit : ℕ
+
+-- a section as its head says
+abbrev pub section_of : WireHead → SectionHead
+section_of x = record {
+  point = x.point;
+  mine = x.mine;
+  other = x.other;
+  sls = x.sls;
+  state = state_numbered x.state;
+  class = x.class;
+  credit = x.credit;
+}
+
+-- The timers of a section: the ticks that are left, where it runs.
+pub record Timers : Type 0 where
+  pub connect : Option ℕ
+  pub reset : Option ℕ
+  pub iar : Option ℕ
+  pub ias : Option ℕ
+  pub rel : Option ℕ
+  pub int : Option ℕ
+  pub repeat : Option ℕ
+
+-- A section without the counts of class 3.
+pub record Line : Type 0 where
+  pub head : SectionHead
+  pub kept : Kept
+
+-- The counts of class 3, as whole numbers since they were last cleared, and what waits.
+pub record Windows : Type 0 where
+  pub got : List DataUnit  -- the units that came in on this section
+  pub passed : ℕ  -- how many of them left on the other end
+  pub told : ℕ  -- the last P(R) sent
+  pub sent : ℕ  -- the units sent on this section
+  pub acked : ℕ  -- the last P(R) received
+  pub credit : ℕ  -- how many units may be sent beyond it
+  pub waits : List DataUnit  -- the units of the other end that have not left
+  pub waiting : Option (List ℕ)  -- expedited data that has not left
+  pub unanswered : Bool  -- expedited data left, and its EA has not come
+  pub owed : Bool  -- expedited data came, and its EA has not left
+
+pub record Section : Type 0 where
+  pub head : SectionHead
+  pub kept : Kept
+  pub windows : Windows
+  pub timers : Timers
+
+pub record User : Type 0 where
+  pub ssn : ℕ
+  pub mine : ℕ  -- the reference of the section at the other end
+  pub state : UserState
+  pub class : ℕ
+  pub credit : ℕ
+  pub text : List ℕ  -- what is put together of a text
+  pub got : List DataUnit  -- in class 3, the units that the user gave since the counts were cleared
+  pub passed : ℕ  -- how many of them left
+
+pub data End : Type 0 where
+  wire : Section → End
+  owner : User → End
+
+-- A connection, seen from one of its ends.
+pub record Connection : Type 0 where
+  pub this : End
+  pub that : End
+
+abbrev pub turned : Connection → Connection
+turned c = record { this = c.that; that = c.this }
+
+-- An act with no effect, with outputs alone, and with what is handed over after them.
+abbrev pub no_effect : Acted
+no_effect = record { first = []; outs = []; then = [] }
+
+abbrev pub gives : List Output → Acted
+gives outs = record { first = []; outs = outs; then = [] }
+
+abbrev pub gives_then : List Output → List Hand → Acted
+gives_then outs hands = record { first = []; outs = outs; then = hands }
+
+-- what a release says that has a cause alone
+abbrev pub only_cause : ℕ → Kept
+only_cause cause = record { cause = cause; body = None; importance = None }
+
+abbrev pub no_kept : Kept
+no_kept = only_cause 0
+
+-- the counts when they begin, with the credit that was agreed on
+abbrev pub cleared : ℕ → Windows
+cleared credit = record {
+  got = [];
+  passed = 0;
+  told = 0;
+  sent = 0;
+  acked = 0;
+  credit = credit;
+  waits = [];
+  waiting = None;
+  unanswered = false;
+  owed = false;
+}
+
+abbrev pub no_timers : Timers
+no_timers = record { connect = None; reset = None; iar = None; ias = None; rel = None; int = None; repeat = None }
+
+abbrev pub is_up : SectionState → Bool
+is_up Up = true
+is_up _ = false
+
+abbrev pub is_gone : SectionState → Bool
+is_gone Gone = true
+is_gone _ = false
+
+-- data may pass, now or after a reset
+abbrev pub is_connected : SectionState → Bool
+is_connected Up = true
+is_connected Resetting = true
+is_connected _ = false
+
+-- the other end of the section is known
+abbrev pub is_reached : SectionState → Bool
+is_reached Asking = false
+is_reached Waning = false
+is_reached _ = true

@@ -1,0 +1,14 @@
+pub mod Ends
+pub mod Table
+pub mod Parameters
+pub mod Views
+pub mod Line
+pub mod Windowed
+pub mod UserEnd
+pub mod Timing
+pub mod Acting
+pub mod Coupling
+pub mod Step
+pub mod Opening
+pub mod Lane
+pub mod Lengths

@@ -1,0 +1,117 @@
+-- What a user's end does: its requests, the cutting of a text into units, and the putting together of one.
+use Rattle.std.specs.Prelude.{ℕ, ◌+◌, ◌*◌, ◌/◌, ◌==◌, nat_lt, Bool, true, false, List, [], ◌∷◌, ◌++◌, length, take, drop, map, if◌then◌else◌, Option, Some, None}
+use Rattle.std.specs.List.{range_with_len}
+use Rattle.relay_base.specs.declared.words.Output.TheVariants.{Told}
+use Rattle.relay_base.specs.declared.words.Tell.{Tell}
+use Rattle.relay_base.specs.declared.words.Tell.TheVariants as tell
+use Rattle.relay_base.specs.declared.words.Request.{Request}
+use Rattle.relay_base.specs.declared.words.Request.TheVariants as request
+use Rattle.section_model.specs.declared.hand.Hand.TheVariants as hand
+use Rattle.section_model.specs.declared.cell.Cell.{Cell}
+use Rattle.section_model.specs.declared.cell.Cell.TheVariants as cell
+use Rattle.section_model.specs.declared.cell.UserState.TheVariants.{Ready, Renewing, Gone}
+use Rattle.section_model.specs.declared.hand.Unit.{Unit as DataUnit}
+use Rattle.section_model.specs.declared.hand.Acted.{Acted}
+use Rattle.section_model.specs.declared.hand.Hand.{Hand}
+use Rattle.relay_base.specs.declared.words.Output.{Output}
+use Rattle.section_model.specs.Ends.{User, no_effect, gives, gives_then}
+use Rattle.section_model.specs.Line.{granted}
+
+abbrev pub told : User → Tell → Output
+told x t = Told x.ssn t
+
+-- no octets are no data
+abbrev pub given : List ℕ → Option (List ℕ)
+given [] = None
+given (b ∷ body) = Some (b ∷ body)
+
+-- A text in units of 255 octets, the last with the rest, and M on all but the last.
+abbrev pub unit_count : List ℕ → ℕ
+unit_count body = (length body + 254) / 255
+
+abbrev pub units_of : List ℕ → List DataUnit
+units_of body =
+    map (λ k. record { more = nat_lt (k + 1) (unit_count body); body = take 255 (drop (255 * k) body) }) (range_with_len 0 (unit_count body))
+
+abbrev pub handed : DataUnit → Hand
+handed u = hand.Unit u.more u.body
+
+abbrev pub accepts : Request → User → User × Acted
+accepts (request.Accept mine class credit body) x =
+    let agreed = if class == 3 then granted credit x.credit else 0 in
+    (record x { state = Ready; class = class; credit = agreed }, gives_then [] (hand.Accept class agreed None (given body) None ∷ []))
+accepts _ x = (x, no_effect)
+
+abbrev pub refuses : Request → User → User × Acted
+refuses (request.Refuse mine cause body) x = (record x { state = Gone }, gives_then [] (hand.Refuse cause None (given body) None ∷ []))
+refuses _ x = (x, no_effect)
+
+abbrev pub sends : Request → User → User × Acted
+sends (request.Send mine body) x =
+    (record x { got = (if x.class == 3 then x.got ++ units_of body else x.got) }, gives_then [] (map handed (units_of body)))
+sends _ x = (x, no_effect)
+
+abbrev pub expedites : Request → User → User × Acted
+expedites (request.Expedite mine body) x = (x, gives_then [] (hand.Expedited body ∷ []))
+expedites _ x = (x, no_effect)
+
+abbrev pub disconnects : Request → User → User × Acted
+disconnects (request.Disc mine cause body) x = (record x { state = Gone }, gives_then [] (hand.End cause (given body) None ∷ []))
+disconnects _ x = (x, no_effect)
+
+-- A request. It was not refused, and the cell is the table's for it.
+unfoldable pub user_asks : Cell → Request → User → User × Acted
+user_asks cell.UserAccepts r x = accepts r x
+user_asks cell.UserRefuses r x = refuses r x
+user_asks cell.UserSends r x = sends r x
+user_asks cell.UserExpedites r x = expedites r x
+user_asks cell.UserResets r x = (record x { state = Renewing; text = []; got = []; passed = 0 }, gives_then [] (hand.Reset 0 ∷ []))
+user_asks cell.UserDisconnects r x = disconnects r x
+user_asks _ r x = (x, no_effect)
+
+abbrev pub confirmed : Hand → User → User × Acted
+confirmed (hand.Accept class credit called body importance) x =
+    (record x { state = Ready; class = class; credit = credit }, gives (told x (tell.Confirm x.mine class credit called body) ∷ []))
+confirmed _ x = (x, no_effect)
+
+abbrev pub disconnected : Hand → User → User × Acted
+disconnected (hand.Refuse cause called body importance) x = (record x { state = Gone }, gives (told x (tell.Disc x.mine cause body) ∷ []))
+disconnected (hand.End cause body importance) x = (record x { state = Gone }, gives (told x (tell.Disc x.mine cause body) ∷ []))
+disconnected _ x = (x, no_effect)
+
+-- in class 3 what a user took has left
+abbrev pub taken : User → ℕ → Bool → List Hand
+taken x units is_expedited = if x.class == 3 then hand.Left units is_expedited ∷ [] else []
+
+-- A unit joins the text; a text of more than 8,192 octets ends the connection, and a whole one is told.
+abbrev pub collects : Hand → User → User × Acted
+collects (hand.Unit more body) x =
+    let text = x.text ++ body in
+    if nat_lt 8192 (length text)
+    then (record x { state = Gone }, record { first = hand.End 0x07 None None ∷ []; outs = told x (tell.Disc x.mine 0x07 None) ∷ []; then = [] })
+    else if more then (record x { text = text }, gives_then [] (taken x 1 false))
+    else (record x { text = [] }, gives_then (told x (tell.Text x.mine text) ∷ []) (taken x 1 false))
+collects _ x = (x, no_effect)
+
+abbrev pub hears_expedited : Hand → User → User × Acted
+hears_expedited (hand.Expedited body) x = (x, gives_then (told x (tell.Expedited x.mine body) ∷ []) (taken x 0 true))
+hears_expedited _ x = (x, no_effect)
+
+abbrev pub hears_reset : Hand → User → User × Acted
+hears_reset (hand.Reset cause) x = (record x { text = []; got = []; passed = 0 }, gives (told x (tell.Renewed x.mine cause) ∷ []))
+hears_reset _ x = (x, no_effect)
+
+abbrev pub left : Hand → User → User × Acted
+left (hand.Left units is_expedited) x = (record x { passed = x.passed + units }, no_effect)
+left _ x = (x, no_effect)
+
+-- An effect of the section.
+unfoldable pub user_takes : Cell → Hand → User → User × Acted
+user_takes cell.TellConfirm h x = confirmed h x
+user_takes cell.TellDisconnect h x = disconnected h x
+user_takes cell.TellUnit h x = collects h x
+user_takes cell.TellExpedited h x = hears_expedited h x
+user_takes cell.TellReset h x = hears_reset h x
+user_takes cell.TellResetDone h x = (record x { state = Ready }, gives (told x (tell.ResetDone x.mine) ∷ []))
+user_takes cell.Left h x = left h x
+user_takes _ h x = (x, no_effect)

@@ -1,0 +1,178 @@
+-- What a connection section does in class 3 alone (Q.714, flow control, expedited data transfer, reset): numbered data, its windows, expedited data, and the reset.
+use Rattle.std.specs.Prelude.{ℕ, suc, ◌+◌, ◌-◌, ◌*◌, ◌%◌, ◌==◌, ◌||◌, ◌&&◌, nat_le, nat_lt, not, Bool, true, false, List, [], ◌∷◌, ◌++◌, length, take, drop, if◌then◌else◌, Option, Some, None, unwrap_or, is_some, min}
+use Rattle.relay_base.specs.declared.words.Output.TheVariants.{Lost as Dropped}
+use Rattle.relay_base.specs.declared.words.Lost.TheVariants as lost
+use Rattle.section_model.specs.declared.hand.Hand.TheVariants as hand
+use Rattle.section_model.specs.declared.cell.Cell.{Cell}
+use Rattle.section_model.specs.declared.cell.Cell.TheVariants as cell
+use Rattle.section_model.specs.declared.cell.SectionState.TheVariants.{Up, Resetting}
+use Rattle.q713_codec.specs.declared.message.Message.TheVariants.{Dt2, Ak, Ed, Ea, Rsr, Rsc, It}
+use Rattle.section_model.specs.Parameters.{Parameters}
+use Rattle.section_model.specs.declared.hand.Unit.{Unit as DataUnit}
+use Rattle.section_model.specs.declared.hand.Acted.{Acted}
+use Rattle.section_model.specs.declared.hand.Hand.{Hand}
+use Rattle.relay_base.specs.declared.words.Output.{Output}
+use Rattle.section_model.specs.Ends.{SectionHead, Windows, no_effect, gives, gives_then, cleared, is_up}
+use Rattle.section_model.specs.Line.{sent_on}
+
+-- A section with its counts.
+pub record Windowed : Type 0 where
+  pub head : SectionHead
+  pub windows : Windows
+
+-- a count as the three messages of class 3 carry it, from bit 2 on
+abbrev pub sequence : ℕ → ℕ
+sequence n = 2 * (n % 128)
+
+-- how far a number of a message stands ahead of a count, modulo 128
+abbrev pub ahead : ℕ → ℕ → ℕ
+ahead number count = (number + 128 - count % 128) % 128
+
+-- a P(R) is valid where it stands for a count from the last one received up to the units sent
+abbrev pub is_valid : ℕ → Windows → Bool
+is_valid pr w = nat_le (ahead pr w.acked) (w.sent - w.acked)
+
+abbrev pub acknowledged : ℕ → Windows → Windows
+acknowledged pr w = record w { acked = w.acked + ahead pr w.acked }
+
+-- RSR with a cause here, the counts of both ends cleared, and the reset for the other end.
+abbrev pub resets : ℕ → Windowed → Windowed × Acted
+resets cause x = (
+  record { head = record x.head { state = Resetting }; windows = cleared x.head.credit },
+  gives_then (sent_on x.head (Rsr x.head.other x.head.mine cause) ∷ []) (hand.Reset cause ∷ []),
+)
+
+-- DT2: it carries the next number, the window is not used up, and its P(R) is valid.
+abbrev pub is_next : Parameters → Windowed → Bool
+is_next m x = m.ps == length x.windows.got % 128
+
+abbrev pub is_used_up : Windowed → Bool
+is_used_up x = length x.windows.got - x.windows.told == x.head.credit
+
+abbrev pub wrong_number : Windowed → ℕ
+wrong_number x = if length x.windows.got == 0 then 0x05 else 0x02
+
+abbrev pub accepts_unit : Parameters → Windowed → Windowed × Acted
+accepts_unit m x = (
+  record x { windows = record (acknowledged m.pr x.windows) { got = x.windows.got ++ record { more = m.more; body = m.data_octets } ∷ [] } },
+  gives_then [] (hand.Unit m.more m.data_octets ∷ []),
+)
+
+abbrev pub takes_data : Parameters → Windowed → Windowed × Acted
+takes_data m x =
+    if not (is_next m x) then resets (wrong_number x) x
+    else if is_used_up x then resets 0x04 x
+    else if not (is_valid m.pr x.windows) then resets 0x03 x
+    else accepts_unit m x
+
+abbrev pub takes_acknowledgement : Parameters → Windowed → Windowed × Acted
+takes_acknowledgement m x =
+    if is_valid m.pr x.windows
+    then (record x { windows = record (acknowledged m.pr x.windows) { credit = min (unwrap_or m.credit 0) 127 } }, no_effect)
+    else resets 0x03 x
+
+abbrev pub takes_expedited : Parameters → Windowed → Windowed × Acted
+takes_expedited m x =
+    if x.windows.owed then resets 0x06 x
+    else (record x { windows = record x.windows { owed = true } }, gives_then [] (hand.Expedited m.data_octets ∷ []))
+
+-- Expedited data leaves, and its EA is awaited.
+abbrev pub expedites : Option (List ℕ) → Windowed → Windowed × Acted
+expedites None x = (x, no_effect)
+expedites (Some body) x = (
+  record x { windows = record x.windows { waiting = None; unanswered = true } },
+  gives_then (sent_on x.head (Ed x.head.other body) ∷ []) (hand.Left 0 true ∷ []),
+)
+
+abbrev pub takes_answer : Windowed → Windowed × Acted
+takes_answer x =
+    if x.windows.unanswered then expedites x.windows.waiting (record x { windows = record x.windows { unanswered = false } })
+    else (x, gives (Dropped lost.State ∷ []))
+
+-- A message.
+unfoldable pub windowed_hears : Cell → Parameters → Windowed → Windowed × Acted
+windowed_hears cell.TakeNumberedData m x = takes_data m x
+windowed_hears cell.TakeAcknowledgement m x = takes_acknowledgement m x
+windowed_hears cell.TakeExpedited m x = takes_expedited m x
+windowed_hears cell.TakeExpeditedAcknowledgement m x = takes_answer x
+windowed_hears cell.ResetByPeer m x =
+    (record x { windows = cleared x.head.credit }, gives_then (sent_on x.head (Rsc x.head.other x.head.mine) ∷ []) (hand.Reset m.cause ∷ []))
+windowed_hears cell.ResetComplete m x = (record x { head = record x.head { state = Up } }, gives_then [] (hand.Done ∷ []))
+windowed_hears _ m x = (x, no_effect)
+
+-- The timer of inactivity fires.
+unfoldable pub windowed_fires : Windowed → Windowed × Acted
+windowed_fires x =
+    (x, gives (sent_on x.head (It x.head.other x.head.mine x.head.class (sequence x.windows.sent ∷ sequence x.windows.passed ∷ []) x.head.credit) ∷ []))
+
+abbrev pub passes : Hand → Windowed → Windowed × Acted
+passes (hand.Unit more body) x = (record x { windows = record x.windows { waits = x.windows.waits ++ record { more = more; body = body } ∷ [] } }, no_effect)
+passes _ x = (x, no_effect)
+
+abbrev pub passes_expedited : Hand → Windowed → Windowed × Acted
+passes_expedited (hand.Expedited body) x =
+    if is_up x.head.state && not x.windows.unanswered then expedites (Some body) x
+    else (record x { windows = record x.windows { waiting = Some body } }, no_effect)
+passes_expedited _ x = (x, no_effect)
+
+abbrev pub passes_reset : Hand → Windowed → Windowed × Acted
+passes_reset (hand.Reset cause) x = (
+  record { head = record x.head { state = Resetting }; windows = cleared x.head.credit },
+  gives (sent_on x.head (Rsr x.head.other x.head.mine cause) ∷ []),
+)
+passes_reset _ x = (x, no_effect)
+
+-- So many of the units that came in here left on the other end, and EA is sent where the expedited data did.
+abbrev pub left : Hand → Windowed → Windowed × Acted
+left (hand.Left units false) x = (record x { windows = record x.windows { passed = x.windows.passed + units } }, no_effect)
+left (hand.Left units true) x = (
+  record x { windows = record x.windows { passed = x.windows.passed + units; owed = false } },
+  gives (sent_on x.head (Ea x.head.other) ∷ []),
+)
+left _ x = (x, no_effect)
+
+-- An effect of the other end.
+unfoldable pub windowed_takes : Cell → Hand → Windowed → Windowed × Acted
+windowed_takes cell.PassUnit h x = passes h x
+windowed_takes cell.PassExpedited h x = passes_expedited h x
+windowed_takes cell.PassReset h x = passes_reset h x
+windowed_takes cell.ClearCounts h x = (record x { windows = cleared x.head.credit }, no_effect)
+windowed_takes cell.Left h x = left h x
+windowed_takes _ h x = (x, no_effect)
+
+-- The units as DT2 with P(S) from a count on.
+abbrev pub numbered : SectionHead → ℕ → ℕ → List DataUnit → List Output
+numbered x ps pr [] = []
+numbered x ps pr (u ∷ units) =
+    sent_on x (Dt2 x.other (sequence ps ∷ (sequence pr + (if u.more then 1 else 0)) ∷ []) u.body) ∷ numbered x (suc ps) pr units
+
+-- how many waiting units may leave now
+abbrev pub may_leave : Windows → ℕ
+may_leave w = min (length w.waits) (w.credit - (w.sent - w.acked))
+
+-- After each event, on a section that is up: units leave as far as the window goes, and then expedited data.
+unfoldable pub leaves : Windowed → Windowed × Acted
+leaves x =
+    let w = x.windows in
+    let count = may_leave w in
+    let is_expedited = is_some w.waiting && not w.unanswered in (
+      record x {
+        windows = record w {
+          waits = drop count w.waits;
+          sent = w.sent + count;
+          told = (if count == 0 then w.told else w.passed);
+          waiting = (if is_expedited then None else w.waiting);
+          unanswered = w.unanswered || is_expedited;
+        };
+      },
+      gives_then
+          (numbered x.head w.sent w.passed (take count w.waits) ++ (if is_expedited then sent_on x.head (Ed x.head.other (unwrap_or w.waiting [])) ∷ [] else []))
+          (if is_expedited || nat_lt 0 count then hand.Left count is_expedited ∷ [] else []),
+    )
+
+-- And then what left on the other end is acknowledged.
+unfoldable pub acknowledges : Windowed → Windowed × Acted
+acknowledges x =
+    let w = x.windows in
+    if w.passed == w.told then (x, no_effect)
+    else (record x { windows = record w { told = w.passed } }, gives (sent_on x.head (Ak x.head.other (sequence w.passed) x.head.credit) ∷ []))

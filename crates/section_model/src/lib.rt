@@ -1,0 +1,18 @@
+//! Connections of the Signalling Connection Control Part (Q.714), as definitions, and the words that they speak of.
+#![tactic(auto)]
+
+mod arrival;
+mod cell;
+mod hand;
+mod input;
+mod laws;
+mod wire;
+
+pub use arrival::{ArrivalView, ParametersView, arrival_in, arrival_of};
+pub use cell::{Cell, Occasion, SectionState, Timer, UserOccasion, UserState};
+pub use hand::{Acted, Hand, HandList, Kept, Unit};
+pub use input::Input;
+pub use laws::{
+    arrives_within, hands_end, journal_grows, reads_within, step_by_step, two_worlds, writes_within,
+};
+pub use wire::WireHead;

@@ -1,0 +1,139 @@
+-- Words for examples: a node with the defaults, and its events and outputs with octets in hexadecimal digits.
+use Rattle.std.specs.Prelude.{ℕ, ◌+◌, ◌*◌, ◌%◌, true, List, [], ◌∷◌, ◌++◌, take, replicate, Option, Some, None, option_map}
+use Prim.Native.String.{String}
+use Rattle.relay_base.specs.declared.words.Event.{Event}
+use Rattle.relay_base.specs.declared.words.Event.TheVariants.{Message as Arrives, Asked as Asks, Tick}
+use Rattle.relay_base.specs.declared.words.Request.{Request}
+use Rattle.relay_base.specs.declared.words.Request.TheVariants as request
+use Rattle.relay_base.specs.declared.words.Tell.TheVariants as tell
+use Rattle.relay_base.specs.declared.words.Output.{Output}
+use Rattle.relay_base.specs.declared.words.Output.TheVariants.{Sent, Told}
+use Rattle.gtt_table.specs.declared.row.Row.{Row}
+use Rattle.plant_core.specs.declared.terms.Ticks.{Ticks}
+use Rattle.plant_core.specs.declared.answer.Answer.{Answer}
+use Rattle.plant_core.specs.Plant.{RoutingData, start_of}
+use Rattle.plant_core.specs.Routing.{route_of}
+use Rattle.connectionless.specs.Asking.{Question}
+use Rattle.section_model.specs.Opening.{Opened, wish_of, question_of, slots_needed, opened}
+use Rattle.section_model.specs.Lane.{Lane, enough, outputs_along}
+use Rattle.section_rows.specs.Text.{hex}
+
+-- The node: point 100 with subsystem 8. Titles that begin with 49 are those of subsystem 8 at point 300.
+
+abbrev pub row : Row
+row = record {
+  selector = record { gti = 4; tt = 0; np = 1; nai = 4 };
+  prefix = 4 ∷ 9 ∷ [];
+  first = record { point = 300; ssn = Some 8; on_ssn = true };
+  second = None;
+}
+
+abbrev pub routing : RoutingData
+routing = record (start_of 100 (8 ∷ [])) { rows = row ∷ [] }
+
+abbrev pub ticks : Ticks
+ticks = record {
+  connect = 90;
+  ias = 420;
+  iar = 900;
+  rel = 15;
+  repeat = 15;
+  int = 60;
+  reset = 15;
+  reassembly = 15;
+  freeze = 60;
+  status = 30;
+  status_max = 600;
+  coord = 90;
+}
+
+-- its lane 0, by the greatest credit and the ticks of the timers; one with the defaults; and one that freezes references for a tick alone
+abbrev pub lane_with : ℕ → Ticks → Lane
+lane_with credit ticks = record { terms = record { own = 100; credit = credit; ticks = ticks }; number = 0 }
+
+abbrev pub first_lane : Lane
+first_lane = lane_with 7 ticks
+
+abbrev pub quick_lane : Lane
+quick_lane = lane_with 7 (record ticks { freeze = 1 })
+
+-- an event with what routing answers to it, if it asks
+abbrev pub answer_to : Option Question → Option Answer
+answer_to = option_map (λ q. route_of routing q.called q.hop q.origin)
+
+abbrev pub routed : Lane → Event → Event × Option Answer
+routed lane event = (event, answer_to (question_of (wish_of lane.terms event)))
+
+-- Events and outputs.
+
+abbrev pub arrives : ℕ → ℕ → String → Event
+arrives point sls text = Arrives point sls (hex text)
+
+-- a request of subsystem 8
+abbrev pub asks : Request → Event
+asks request = Asks 8 request
+
+abbrev pub sent : ℕ → ℕ → String → Output
+sent point sls text = Sent point sls (hex text)
+
+-- the opening by an event where these slots are free
+abbrev pub opening_in : List ℕ → Event → Opened
+opening_in slots event =
+    let wish = wish_of first_lane.terms event in
+    let answer = answer_to (question_of wish) in
+    let count = slots_needed wish answer in
+    opened first_lane.terms wish answer (enough first_lane count (take count slots))
+
+-- the outputs of the connection that an event opens, with the lane's first two references, along events that it hears
+abbrev pub along : Lane → Event → List Event → Option (List (List Output))
+along lane opening events =
+    let wish = wish_of lane.terms opening in
+    option_map (λ c. outputs_along lane.terms.ticks c events)
+    (opened lane.terms wish (answer_to (question_of wish)) (16 ∷ 32 ∷ [])).connection
+
+-- a CR for subsystem 8
+abbrev pub cr : Event
+cr = arrives 200 3 "01010000020200024208"
+
+-- a connection from point 200 to subsystem 8, which accepts it
+abbrev pub local : List Event
+local = cr ∷ asks (request.Accept 16 2 0 []) ∷ []
+
+-- one that is relayed from point 200 to point 300, which answers from point 301; data both ways; and its release from there
+abbrev pub relayed : List Event
+relayed =
+    arrives 200 4 "01070000020200081208001204947121"
+    ∷ arrives 301 4 "022000000900000200"
+    ∷ arrives 200 4 "061000000001021122"
+    ∷ arrives 301 4 "0620000001010133"
+    ∷ arrives 301 4 "042000000900000000" ∷ []
+
+-- one of class 3 from subsystem 8 to point 200
+abbrev pub numbered : List Event
+numbered = asks (request.Conn 7 3 2 (hex "43c8000a") []) ∷ arrives 200 7 "02100000550000030109010200" ∷ []
+
+abbrev pub sends : String → Event
+sends text = asks (request.Send 16 (hex text))
+
+-- one of class 3 that is relayed, and then met by a P(R) of 5 where nothing was sent
+abbrev pub relayed_numbered : List Event
+relayed_numbered =
+    arrives 200 4 "0107000003020a08120800120494712109010700"
+    ∷ arrives 300 4 "02200000090000030109010700"
+    ∷ arrives 200 4 "07100000000a0101aa" ∷ []
+
+-- DT1 with so many octets 00
+abbrev pub data_of : ℕ → ℕ → Event
+data_of more size = Arrives 200 3 (hex "06100000" ++ more ∷ 1 ∷ size ∷ replicate size 0)
+
+-- a unit of one octet, and the acknowledgement of the units up to this one
+abbrev pub send_and_ack : ℕ → List Event
+send_and_ack k = asks (request.Send 16 (7 ∷ [])) ∷ Arrives 200 7 (hex "08100000" ++ 2 * ((k + 1) % 128) ∷ 127 ∷ []) ∷ []
+
+-- a CR, the refusal of the connection with this reference, and a tick
+abbrev pub refused_at : ℕ → List Event
+refused_at reference = cr ∷ asks (request.Refuse reference 3 []) ∷ Tick ∷ []
+
+-- what the first of these tells
+abbrev pub offers : ℕ → List Output
+offers reference = Told 8 (tell.Conn reference 2 0 (hex "4208") None None) ∷ []
