@@ -190,8 +190,11 @@ abbrev pub fires : Ticks → Timer → End → End → Connection × List Output
 fires ticks timer this that =
     if is_due_at timer this then fires_at ticks timer this that else (record { this = this; that = that }, [])
 
+abbrev pub fires_next : Ticks → Connection × List Output → Timer → Connection × List Output
+fires_next ticks r timer = and_then (λ c. fires ticks timer c.this c.that) r
+
 unfoldable pub fires_due : Ticks → Connection → Connection × List Output
-fires_due ticks c = fold (λ r timer. and_then (λ d. fires ticks timer d.this d.that) r) (c, []) firing_order
+fires_due ticks c = fold (fires_next ticks) (c, []) firing_order
 
 abbrev pub ticks_by : Ticks → Connection → Connection × List Output
 ticks_by ticks c = and_then (on_that (fires_due ticks)) (fires_due ticks (record { this = ticked c.this; that = ticked c.that }))

@@ -1,0 +1,10 @@
+pub mod SecondLines
+pub mod SecondCells
+pub mod SecondTakes
+pub mod Exchanging
+pub mod SecondAsks
+pub mod LaterTimers
+pub mod AfterEvents
+pub mod Fitting
+pub mod Opened
+pub mod Composed

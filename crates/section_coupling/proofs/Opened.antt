@@ -1,0 +1,91 @@
+-- What an opening comes to, by its cases.
+use Rattle.std.proofs.Common.{◌≡◌, ℕ, ◌≤◌, ◌<◌, ◌==◌, ◌||◌, Bool, true, false, List, [], ◌∷◌, length, get_or, refl, sym, subst, ◌∙◌, arith, if◌then◌else◌}
+use Rattle.std.specs.Prelude.{slice_get, Option, Some, None, is_some}
+use Rattle.sccp_address.specs.Parsing.{address_of}
+use Rattle.plant_core.specs.declared.answer.Rewrite.{Rewrite}
+use Rattle.plant_core.specs.declared.answer.Answer.{Answer}
+use Rattle.plant_core.specs.declared.answer.Answer.TheVariants.{Local, Forward}
+use Rattle.plant_core.specs.declared.answer.Origin.TheVariants.{Network}
+use Rattle.plant_core.specs.declared.terms.Terms.{Terms}
+use Rattle.q713_codec.specs.Writing.{InRange}
+use Rattle.connectionless.specs.Routed.{called_onward}
+use Rattle.connectionless.proofs.AddressLengths.{length-called_onward}
+use Rattle.section_model.specs.Line.{credit_of}
+use Rattle.section_model.specs.Lengths.{IsAddress, IsData}
+use Rattle.section_model.specs.Opening.{Wanted, by_cr, question_of, asked_for, onward, fits, refused, not_opened, opened_onward, opened_by_cr, opened, slots_needed}
+use Rattle.section_model.proofs.InRanges.{cr-in_range}
+use Rattle.section_coupling.specs.Openings.{IsAnswered}
+
+-- CR that doesn't fit, one for which too few references are free, and one that goes on
+pub onward-unfit : (terms : Terms) (w : Wanted) (point : ℕ) (rewrite : Rewrite) (hop : Option ℕ) (refs : List ℕ) → fits w rewrite hop ≡ false
+    → opened_by_cr terms w (Forward point rewrite hop) refs ≡ not_opened (refused w 0x0F ∷ [])
+unfolding opened_by_cr
+onward-unfit terms w point rewrite hop [] e = rw e refl
+onward-unfit terms w point rewrite hop (mine ∷ []) e = rw e refl
+onward-unfit terms w point rewrite hop (mine ∷ next ∷ refs) e = rw e refl
+
+pub onward-few : (terms : Terms) (w : Wanted) (point : ℕ) (rewrite : Rewrite) (hop : Option ℕ) (refs : List ℕ) → fits w rewrite hop ≡ true → length refs < 2
+    → opened_by_cr terms w (Forward point rewrite hop) refs ≡ not_opened (refused w 0x07 ∷ [])
+unfolding opened_by_cr
+onward-few terms w point rewrite hop [] e few = rw e refl
+onward-few terms w point rewrite hop (mine ∷ []) e few = rw e refl
+onward-few terms w point rewrite hop (mine ∷ next ∷ refs) e few = absurd (omega (arith, few))
+
+pub onward-enough : (terms : Terms) (w : Wanted) (point : ℕ) (rewrite : Rewrite) (hop : Option ℕ) (refs : List ℕ) (d e : ℕ) → fits w rewrite hop ≡ true → 2 ≤ length refs
+    → opened_by_cr terms w (Forward point rewrite hop) refs ≡ opened_onward terms w point rewrite hop (get_or refs 0 d) (get_or refs 1 e)
+unfolding opened_by_cr
+onward-enough terms w point rewrite hop [] d e f enough = absurd (omega (arith, enough))
+onward-enough terms w point rewrite hop (mine ∷ []) d e f enough = absurd (omega (arith, enough))
+onward-enough terms w point rewrite hop (mine ∷ next ∷ refs) d e f enough = rw f refl
+
+pub onward-found : (terms : Terms) (w : Wanted) (point : ℕ) (rewrite : Rewrite) (hop : Option ℕ) (refs : List ℕ) (mine next : ℕ) → fits w rewrite hop ≡ true → 2 ≤ length refs
+    → mine ≡ get_or refs 0 mine → next ≡ get_or refs 1 next → opened_by_cr terms w (Forward point rewrite hop) refs ≡ opened_onward terms w point rewrite hop mine next
+onward-found terms w point rewrite hop refs mine next f enough e g =
+    subst (λ n. opened_by_cr terms w (Forward point rewrite hop) refs ≡ opened_onward terms w point rewrite hop n next) (sym e)
+    (subst (λ n. opened_by_cr terms w (Forward point rewrite hop) refs ≡ opened_onward terms w point rewrite hop (get_or refs 0 mine) n) (sym g) (onward-enough terms w point rewrite hop refs mine next f enough))
+
+pub local-none : (terms : Terms) (w : Wanted) (answer : Answer) (ssn : ℕ) (refs : List ℕ) → answer ≡ Local ssn → None ≡ slice_get refs 0
+    → opened_by_cr terms w answer refs ≡ not_opened (refused w 0x07 ∷ [])
+unfolding opened_by_cr
+local-none terms w answer ssn [] e f = rw e refl
+local-none terms w answer ssn (mine ∷ refs) e f = absurd (cc)
+
+-- a user's CR may be written
+pub user-in_range : (w : Wanted) (rewrite : Rewrite) (hop : Option ℕ) (mine : ℕ) → length w.called ≤ 40 → IsAddress w.calling → IsData w.body → InRange (onward w rewrite hop mine)
+user-in_range w rewrite hop mine called calling body =
+    let short : length (called_onward rewrite w.called) ≤ 253 = omega (arith, called, length-called_onward rewrite w.called) in
+    cr-in_range mine w.class (called_onward rewrite w.called) (credit_of w.class w.credit) w.calling w.body hop w.importance short calling body
+
+-- a class that is 2 or 3, and not 3
+pub two-of : (class : ℕ) → (class == 2 || class == 3) ≡ true → (class == 3) ≡ false → class ≡ 2
+two-of class e f = grind arith
+
+pub not_third : (class : ℕ) → (class ≡ 3 → ⊥) → (class == 3) ≡ false
+not_third class h = grind arith
+
+-- where a CR's routing is answered, its class is 2 or 3
+pub asked-class : (w : Wanted) → true ≡ is_some (question_of (by_cr w)) → (w.class == 2 || w.class == 3) ≡ true
+unfolding question_of
+asked-class w e = by_test (w.class == 2 || w.class == 3) (asked_for w.hop Network (address_of w.called)) e
+  where
+    by_test : {A : Type 0} (b : Bool) (x : Option A) → true ≡ is_some (if b then x else None) → b ≡ true
+    by_test true x f = refl
+    by_test false x f = absurd (cc)
+
+pub answered-class : (w : Wanted) (a : Option Answer) → is_some a ≡ true → IsAnswered (by_cr w) a → (w.class == 3) ≡ false → w.class ≡ 2
+answered-class w a e f g = two-of w.class (asked-class w (sym e ∙ f)) g
+
+-- a CR of which routing wasn't asked
+pub unasked : (terms : Terms) (w : Wanted) (a : Option Answer) (refs : List ℕ) → is_some a ≡ false → opened terms (by_cr w) a refs ≡ not_opened (refused w 0x0F ∷ [])
+unfolding opened
+unasked terms w None refs e = refl
+unasked terms w (Some answer) refs e = absurd (cc)
+
+-- CR that goes on takes two references where it fits
+pub slots-two : (w : Wanted) (answer : Answer) (point : ℕ) (rewrite : Rewrite) (hop : Option ℕ) → answer ≡ Forward point rewrite hop → fits w rewrite hop ≡ true → 2 ≡ slots_needed (by_cr w) (Some answer)
+unfolding slots_needed
+slots-two w answer point rewrite hop e f = rw (e, f) refl
+
+pub slots-none : (w : Wanted) (answer : Answer) (point : ℕ) (rewrite : Rewrite) (hop : Option ℕ) → answer ≡ Forward point rewrite hop → fits w rewrite hop ≡ false → 0 ≡ slots_needed (by_cr w) (Some answer)
+unfolding slots_needed
+slots-none w answer point rewrite hop e f = rw (e, f) refl

@@ -1,0 +1,6 @@
+use Rattle.std.proofs.Common.{sym, ◌∙◌}
+use Rattle.section_coupling.proofs.SecondCells.{dt1_arrives}
+use Rattle.section_coupling.proofs.wire.Wire.hear.Goals as goal
+
+pub act-requires-clause-data : goal.act-requires-clause-data
+act-requires-clause-data c = λ e. dt1_arrives c.args.event.now _ _ c.requires.arrives (sym c.section_cell-cell.ensures ∙ e)

@@ -1,0 +1,101 @@
+//! What the ends of a connection hand to each other.
+ghost use Rattle.std.specs.Prelude.{◌≡◌, ◌≤◌, ◌++◌, IfOk, OnOk, fold};
+ghost use Rattle.section_model.specs.Coupling.{exchange, offered, settles};
+ghost use Rattle.section_coupling.specs.Views.{connection_at, end_at};
+ghost use Rattle.section_coupling.specs.Second.{SecondActed, SecondConnection, SecondEnd, SecondHands};
+
+use crate::clock::Clock;
+use crate::pair::Pair;
+use crate::side::Side;
+use relay_base::{Memory, Outs};
+use section_grid::{Acted, HandList};
+use std::alloc::Global;
+use std::mem;
+
+/// Puts outputs at the end.
+pub fn append(alloc: Global, outs: &mut Outs, more: Outs) -> Result<(), Memory>
+    ensures { OnOk result (outs.new ≡ outs.old ++ more) }
+{
+    let mut items = mem::replace(outs, Outs::new(alloc)).into_vec();
+    let mut added = more.into_vec();
+    items.append(&mut added)?;
+    *outs = Outs::from(items);
+    Ok(())
+}
+
+/// The other end takes effects, one after another, and what it hands back goes on in turn. The outputs stand behind those that are
+/// there.
+#[cycle(exchange)]
+fn offer(
+    alloc: Global,
+    clock: &Clock,
+    turns: u8,
+    pair: Pair,
+    outs: Outs,
+    hands: &HandList,
+) -> Result<(Pair, Outs), Memory>
+    requires clock { clock.now.taken ≤ 4_294_967_296 }
+    requires pair { SecondConnection (connection_at clock.now.taken pair) }
+    requires hands { SecondHands hands.now }
+    ensures offered { IfOk result (λ r. fold (offered (exchange turns clock.now.ticks) clock.now.ticks) (connection_at clock.now.taken pair, outs) hands.now ≡ (connection_at clock.now.taken r.0, r.1)) }
+    ensures second { IfOk result (λ r. SecondConnection (connection_at clock.now.taken r.0)) }
+{
+    let mut pair = pair;
+    let mut outs = outs;
+    for hand in hands.as_slice() {
+        let (that, acted) = pair.that.take(alloc, clock, hand)?;
+        let (back, more) = exchange(alloc, clock, turns, that, acted, pair.this)?;
+        pair = back.turned();
+        append(alloc, &mut outs, more)?;
+    }
+    Ok((pair, outs))
+}
+
+/// This end has acted: the other end takes what is handed over first, then the outputs stand, then it takes the rest; and it may
+/// hand back in the same way, so many times.
+#[cycle(exchange)]
+#[tactic(auto, using(crate::proofs::Exchanging::exchanged), unfolding(section_model::specs::Coupling::exchange))]
+fn exchange(
+    alloc: Global,
+    clock: &Clock,
+    turns: u8,
+    this: Side,
+    acted: Acted,
+    that: Side,
+) -> Result<(Pair, Outs), Memory>
+    requires clock { clock.now.taken ≤ 4_294_967_296 }
+    requires this { SecondEnd (end_at clock.now.taken this) }
+    requires acted { SecondActed acted }
+    requires that { SecondEnd (end_at clock.now.taken that) }
+    ensures exchanged { IfOk result (λ r. exchange turns clock.now.ticks (end_at clock.now.taken this, acted) (end_at clock.now.taken that) ≡ (connection_at clock.now.taken r.0, r.1)) }
+    ensures second { IfOk result (λ r. SecondConnection (connection_at clock.now.taken r.0)) }
+{
+    let Acted { first, outs, then } = acted;
+    let pair = Pair { this, that };
+    if turns == 0 {
+        return Ok((pair, outs));
+    }
+    let none = Outs::new(alloc);
+    let (pair, mut all) = offer(alloc, clock, turns - 1, pair, none, &first)?;
+    append(alloc, &mut all, outs)?;
+    let (pair, all) = offer(alloc, clock, turns - 1, pair, all, &then)?;
+    Ok((pair, all))
+}
+
+/// This end has acted: the ends hand to each other until nothing is left. No act is handed back more than twice.
+pub fn settle(
+    alloc: Global,
+    clock: &Clock,
+    this: Side,
+    acted: Acted,
+    that: Side,
+) -> Result<(Pair, Outs), Memory>
+    requires clock { clock.now.taken ≤ 4_294_967_296 }
+    requires this { SecondEnd (end_at clock.now.taken this) }
+    requires acted { SecondActed acted }
+    requires that { SecondEnd (end_at clock.now.taken that) }
+    ensures settled { IfOk result (λ r. settles clock.now.ticks (end_at clock.now.taken this, acted) (end_at clock.now.taken that) ≡ (connection_at clock.now.taken r.0, r.1)) }
+    ensures second { IfOk result (λ r. SecondConnection (connection_at clock.now.taken r.0)) }
+{
+    exchange(alloc, clock, 3, this, acted, that)
+}

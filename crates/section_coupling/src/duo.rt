@@ -1,0 +1,213 @@
+//! A connection: two coupled ends.
+ghost use Rattle.std.specs.Prelude.{◌≡◌, ◌≤◌, ◌<◌, ◌+◌, ℕ, Some, IsTrue, IfOk, IfSome};
+ghost use Rattle.section_model.specs.Step.{connection_step, event_step, hears, is_over, end_is_gone, destination_of, names, named, is_in_range};
+ghost use Rattle.std.specs.Option.{option_map};
+ghost use Rattle.section_model.specs.Lane.{reference_of};
+ghost use Rattle.section_model.specs.Opening.{wish_of, slots_needed, opened};
+ghost use Rattle.section_coupling.specs.Openings.{IsAnswered, WantsNotThird};
+ghost use Rattle.section_model.specs.Parameters.{arrival_in};
+ghost use Rattle.section_coupling.specs.Views.{connection_at};
+ghost use Rattle.section_coupling.specs.Second.{SecondConnection};
+ghost use Rattle.section_coupling.specs.Duos.{duo_at, taken_after, side_of};
+
+use crate::asking::ask;
+use crate::clock::Clock;
+use crate::hearing::hear_message;
+use crate::opening::{Opening, begin, needs};
+use crate::pair::Pair;
+use crate::ticking::tick;
+use crate::unheard::{is_in_range, named};
+use plant_core::{Answer, Terms, Ticks};
+use relay_base::{Event, Memory, Outs, Ref24};
+use section_model::arrival_in;
+use std::alloc::Global;
+use std::marker::Model;
+
+/// A connection, with the ticks of its timers.
+#[derive(Debug, Drop)]
+pub struct Duo {
+    alloc: Global,
+    ticks: Ticks,
+    pair: Pair,
+}
+
+impl Model for Duo {
+    ghost use Rattle.section_coupling.specs.Duos.{DuoState};
+    ghost use Rattle.section_coupling.specs.Views.{connection_at};
+    ghost use Rattle.section_coupling.specs.Second.{SecondConnection};
+
+    ghost Value = { DuoState };
+
+    ghost view = { λ d. record { ticks = d.ticks; pair = d.pair } };
+
+    ghost invariant = { λ d. SecondConnection (connection_at 0 d.pair) };
+}
+
+/// A connection after an event, and the outputs of that.
+#[derive(Debug, Drop)]
+pub struct Heard {
+    pub duo: Duo,
+    pub outs: Outs,
+}
+
+/// How many ticks a lane has taken after an event.
+fn taken_after(now: u64, event: &Event) -> u64
+    requires { now ≤ 4_294_967_295 }
+    ensures { result ≡ taken_after now event.now }
+{
+    match event {
+        Event::Message { .. } | Event::Asked { .. } => now,
+        Event::Tick => now + 1,
+    }
+}
+
+/// The connection after an event, and its outputs, but for what follows each event in class 3.
+fn take(
+    alloc: Global,
+    ticks: Ticks,
+    now: u64,
+    event: &Event,
+    pair: Pair,
+) -> Result<(Pair, Outs), Memory>
+    requires now { now ≤ 4_294_967_295 }
+    requires pair { SecondConnection (connection_at now pair) }
+    requires hears { IsTrue (hears (connection_at now pair) event.now) }
+    ensures step { IfOk result (λ r. event_step ticks (connection_at now pair) event.now ≡ (connection_at (taken_after now event.now) r.0, r.1)) }
+    ensures second { IfOk result (λ r. SecondConnection (connection_at (taken_after now event.now) r.0)) }
+{
+    let clock = Clock {
+        ticks,
+        taken: taken_after(now, event),
+    };
+    match event {
+        Event::Message { opc, bytes, .. } => match arrival_in(bytes.as_slice()) {
+            Some(arrival) => hear_message(alloc, &clock, &arrival, *opc, event, pair),
+            None => Ok((pair, Outs::new(alloc))),
+        },
+        Event::Asked { ssn, request } => ask(alloc, &clock, *ssn, request, event, pair),
+        Event::Tick => tick(alloc, &clock, now, pair),
+    }
+}
+
+/// What an opening gives: the connection, unless it is refused, and the outputs.
+#[derive(Debug, Drop)]
+pub struct Begun {
+    pub duo: Option<Duo>,
+    pub outs: Outs,
+}
+
+impl Duo {
+    /// How many local references an opening takes by the answer of routing, 0, 1 or 2.
+    pub fn needs(event: &Event, answer: &Answer) -> u8
+        ensures { (terms : Terms) → result ≡ slots_needed (wish_of terms event.now) (Some answer.now) }
+    {
+        needs(event, answer)
+    }
+
+    /// Opens a connection for CR or for a user's request, with the answer of routing where it is asked, and the references that it
+    /// takes; none where too few are free. `now` is the number of ticks that the lane took before, 0 to 4,294,967,295.
+    pub fn begin(
+        alloc: Global,
+        terms: &Terms,
+        now: u64,
+        event: &Event,
+        asked: Option<&Answer>,
+        refs: &[Ref24],
+    ) -> Result<Begun, Memory>
+        requires now { now ≤ 4_294_967_295 }
+        requires class { WantsNotThird (wish_of terms.now event.now) }
+        requires answered { IsAnswered (wish_of terms.now event.now) (option_map (λ a. a.now) asked) }
+        ensures opened { IfOk result (λ b. opened terms.now (wish_of terms.now event.now) (option_map (λ a. a.now) asked.entry) refs.now ≡ record { connection = option_map (duo_at now) b.duo; outs = b.outs }) }
+        ensures ticks { IfOk result (λ b. IfSome b.duo (λ d. d.ticks ≡ terms.now.ticks)) }
+    {
+        let Opening { pair, outs } = begin(alloc, terms, now, event, asked, refs)?;
+        let ticks = terms.ticks;
+        let duo = match pair {
+            Some(pair) => Some(Duo { alloc, ticks, pair }),
+            None => None,
+        };
+        Ok(Begun { duo, outs })
+    }
+
+    /// An equal connection.
+    pub fn copy(&self) -> Result<Duo, Memory>
+        ensures { IfOk result (λ copy. copy ≡ self.now) }
+    {
+        Ok(Duo {
+            alloc: self.alloc,
+            ticks: self.ticks,
+            pair: self.pair.copy()?,
+        })
+    }
+
+    /// Whether it hears an event: a tick unless it is over, a message whose destination local reference is that of a section which
+    /// isn't gone, and a request in its ranges that names such a reference.
+    #[tactic(auto, unfolding(section_model::specs::Step::hears))]
+    pub fn hears(&self, event: &Event) -> bool
+        ensures { (now : ℕ) → result ≡ hears (duo_at now self.now) event.now }
+    {
+        match event {
+            Event::Message { bytes, .. } => match arrival_in(bytes.as_slice()) {
+                Some(arrival) => self.pair.has(arrival.parameters.dlr),
+                None => false,
+            },
+            Event::Asked { request, .. } => {
+                is_in_range(request) && named(request).is_some_and(|mine| self.pair.has(mine))
+            }
+            Event::Tick => !self.is_over(),
+        }
+    }
+
+    /// The connection after an event that it hears, and its outputs. `now` is the number of ticks that its lane took before the event,
+    /// 0 to 4,294,967,295. It works on a copy.
+    #[tactic(auto, using(crate::proofs::AfterEvents::after_second), unfolding(section_model::specs::Step::connection_step))]
+    pub fn hear(&self, now: u64, event: &Event) -> Result<Heard, Memory>
+        requires now { now ≤ 4_294_967_295 }
+        requires hears { IsTrue (hears (duo_at now self.now) event.now) }
+        ensures step { IfOk result (λ heard. connection_step self.now.ticks (duo_at now self.now) event.now ≡ (duo_at (taken_after now event.now) heard.duo, heard.outs)) }
+        ensures ticks { IfOk result (λ heard. heard.duo.ticks ≡ self.now.ticks) }
+    {
+        let Duo { alloc, ticks, pair } = self.copy()?;
+        let (pair, outs) = take(alloc, ticks, now, event, pair)?;
+        let duo = Duo { alloc, ticks, pair };
+        Ok(Heard { duo, outs })
+    }
+
+    /// How long a local reference is frozen once its end is gone, in ticks.
+    pub fn freeze(&self) -> u32
+        ensures { result ≡ self.now.ticks.freeze }
+    {
+        self.ticks.freeze
+    }
+
+    /// The local reference that the end of this number took, 0 or 1; None where it is a user.
+    pub fn reference(&self, side: u8) -> Option<Ref24>
+        requires { side < 2 }
+        ensures { (now : ℕ) → result ≡ reference_of (side_of side (duo_at now self.now)) }
+    {
+        if side == 0 {
+            self.pair.this.reference()
+        } else {
+            self.pair.that.reference()
+        }
+    }
+
+    /// Whether both ends are gone.
+    pub fn is_over(&self) -> bool
+        ensures { (now : ℕ) → result ≡ is_over (duo_at now self.now) }
+    {
+        self.pair.this.is_gone() && self.pair.that.is_gone()
+    }
+
+    /// Whether the end of this number is gone, 0 or 1.
+    pub fn gone(&self, side: u8) -> bool
+        requires { side < 2 }
+        ensures { (now : ℕ) → result ≡ end_is_gone (side_of side (duo_at now self.now)) }
+    {
+        if side == 0 {
+            self.pair.this.is_gone()
+        } else {
+            self.pair.that.is_gone()
+        }
+    }
+}

@@ -1,0 +1,44 @@
+//! The two ends of a connection.
+ghost use Rattle.std.specs.Prelude.{◌≡◌, ℕ, Some, IfOk};
+ghost use Rattle.section_model.specs.Ends.{turned};
+ghost use Rattle.section_model.specs.Step.{names};
+ghost use Rattle.section_coupling.specs.Views.{connection_at};
+
+use crate::side::Side;
+use relay_base::{Memory, Ref24};
+
+/// A connection, seen from one of its ends.
+#[derive(Debug, Drop)]
+pub struct Pair {
+    pub this: Side,
+    pub that: Side,
+}
+
+impl Pair {
+    /// The connection seen from its other end.
+    pub fn turned(self) -> Pair
+        ensures { (now : ℕ) → connection_at now result ≡ turned (connection_at now self) }
+    {
+        Pair {
+            this: self.that,
+            that: self.this,
+        }
+    }
+
+    /// An equal connection.
+    pub fn copy(&self) -> Result<Pair, Memory>
+        ensures { IfOk result (λ copy. copy ≡ self.now) }
+    {
+        Ok(Pair {
+            this: self.this.copy()?,
+            that: self.that.copy()?,
+        })
+    }
+
+    /// Whether a reference is that of a section of it which isn't gone.
+    pub fn has(&self, reference: Ref24) -> bool
+        ensures { (now : ℕ) → result ≡ names (Some reference) (connection_at now self.now) }
+    {
+        self.this.is_named(reference) || self.that.is_named(reference)
+    }
+}

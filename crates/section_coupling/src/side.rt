@@ -1,0 +1,155 @@
+//! An end of a connection.
+ghost use Rattle.std.specs.Prelude.{◌≡◌, ◌≤◌, IfOk, ℕ, []};
+ghost use Rattle.section_model.specs.Acting.{end_takes, section_takes, section_takes_by, user_takes_by};
+ghost use Rattle.section_model.specs.Ends.{section_of, owner};
+ghost use Rattle.section_model.specs.UserEnd.{user_takes};
+ghost use Rattle.section_user.specs.Side.{user_of};
+ghost use Rattle.section_model.specs.Lane.{reference_of};
+ghost use Rattle.section_model.specs.Step.{end_is_gone, is_named};
+ghost use Rattle.section_coupling.specs.Views.{end_at, section_at};
+ghost use Rattle.section_coupling.specs.Second.{SecondEnd, SecondSection, SecondUser, OfSecond, SecondActed};
+ghost use Rattle.section_model.specs.Lengths.{HandWithin};
+
+use crate::clock::Clock;
+use crate::wire::Wire;
+use relay_base::{Memory, Ref24};
+use section_grid::{
+    Acted, Cell, Hand, Input, Occasion, SectionState, UserOccasion, UserState, section_cell,
+    user_cell,
+};
+use section_user::UserSide;
+use std::alloc::Global;
+
+/// An end of a connection: a section of the network, or a user of this node.
+#[derive(Debug, Drop)]
+pub enum Side {
+    Wire(Wire),
+    User(UserSide),
+}
+
+/// What an effect of the other end is to a section.
+fn section_takes_by(state: SectionState, hand: &Hand) -> Cell
+    ensures { result ≡ section_takes_by state hand.now }
+{
+    match hand {
+        Hand::Accept { .. } => section_cell(state, Occasion::AcceptComes),
+        Hand::Refuse { .. } => section_cell(state, Occasion::RefuseComes),
+        Hand::End { .. } => section_cell(state, Occasion::EndComes),
+        Hand::Unit { .. } => section_cell(state, Occasion::UnitComes),
+        Hand::Expedited { .. } => section_cell(state, Occasion::ExpeditedComes),
+        Hand::Reset { .. } => section_cell(state, Occasion::ResetComes),
+        Hand::Done => section_cell(state, Occasion::DoneComes),
+        Hand::Left { .. } => Cell::Left,
+    }
+}
+
+/// What an effect of the section is to a user's end.
+fn user_takes_by(state: UserState, hand: &Hand) -> Cell
+    ensures { result ≡ user_takes_by state hand.now }
+{
+    match hand {
+        Hand::Accept { .. } => user_cell(state, UserOccasion::AcceptTold),
+        Hand::Refuse { .. } => user_cell(state, UserOccasion::RefuseTold),
+        Hand::End { .. } => user_cell(state, UserOccasion::EndTold),
+        Hand::Unit { .. } => user_cell(state, UserOccasion::UnitTold),
+        Hand::Expedited { .. } => user_cell(state, UserOccasion::ExpeditedTold),
+        Hand::Reset { .. } => user_cell(state, UserOccasion::ResetTold),
+        Hand::Done => user_cell(state, UserOccasion::DoneTold),
+        Hand::Left { .. } => Cell::Left,
+    }
+}
+
+/// A section takes an effect of the other end.
+#[tactic(auto, using(crate::proofs::SecondCells::section_takes_second))]
+fn wire_takes(
+    alloc: Global,
+    clock: &Clock,
+    wire: Wire,
+    hand: &Hand,
+) -> Result<(Side, Acted), Memory>
+    requires clock { clock.now.taken ≤ 4_294_967_296 }
+    requires section { SecondSection (section_at clock.now.taken wire) }
+    requires of_second { OfSecond hand.now }
+    requires within { HandWithin hand.now }
+    ensures takes { IfOk result (λ r. section_takes clock.now.ticks (section_takes_by (section_of wire.head).state hand.now) hand.now (section_at clock.now.taken wire) ≡ (end_at clock.now.taken r.0, r.1)) }
+    ensures second { IfOk result (λ r. SecondEnd (end_at clock.now.taken r.0) × SecondActed r.1) }
+{
+    let cell = section_takes_by(wire.head.state(), hand);
+    let (wire, acted) = wire.act(alloc, clock, cell, &Input::Hand(hand))?;
+    Ok((Side::Wire(wire), acted))
+}
+
+/// A user's end takes an effect of the section.
+#[tactic(auto, using(crate::proofs::SecondTakes::user_kept))]
+fn user_takes(alloc: Global, mut user: UserSide, hand: &Hand) -> Result<(UserSide, Acted), Memory>
+    requires user { SecondUser (user_of user [] 0) }
+    requires of_second { OfSecond hand.now }
+    ensures takes { IfOk result (λ r. user_takes (user_takes_by user.state hand.now) hand.now (user_of user [] 0) ≡ (user_of r.0 [] 0, r.1)) }
+    ensures second { IfOk result (λ r. SecondUser (user_of r.0 [] 0) × SecondActed r.1) }
+{
+    let cell = user_takes_by(user.state, hand);
+    let acted = user.act(alloc, cell, &Input::Hand(hand))?;
+    Ok((user, acted))
+}
+
+impl Side {
+    /// Takes an effect of the other end.
+    pub fn take(self, alloc: Global, clock: &Clock, hand: &Hand) -> Result<(Side, Acted), Memory>
+        requires clock { clock.now.taken ≤ 4_294_967_296 }
+        requires end { SecondEnd (end_at clock.now.taken self) }
+        requires of_second { OfSecond hand.now }
+        requires within { HandWithin hand.now }
+        ensures takes { IfOk result (λ r. end_takes clock.now.ticks hand.now (end_at clock.now.taken self) ≡ (end_at clock.now.taken r.0, r.1)) }
+        ensures second { IfOk result (λ r. SecondEnd (end_at clock.now.taken r.0) × SecondActed r.1) }
+    {
+        match self {
+            Side::Wire(wire) => wire_takes(alloc, clock, wire, hand),
+            Side::User(user) => {
+                let (user, acted) = user_takes(alloc, user, hand)?;
+                Ok((Side::User(user), acted))
+            }
+        }
+    }
+
+    /// An equal end.
+    pub fn copy(&self) -> Result<Side, Memory>
+        ensures { IfOk result (λ copy. copy ≡ self.now) }
+    {
+        match self {
+            Side::Wire(wire) => Ok(Side::Wire(wire.copy()?)),
+            Side::User(user) => Ok(Side::User(user.copy()?)),
+        }
+    }
+
+    /// Whether a reference is that of a section that isn't gone.
+    pub fn is_named(&self, reference: Ref24) -> bool
+        ensures { (now : ℕ) → result ≡ is_named reference (end_at now self.now) }
+    {
+        match self {
+            Side::Wire(wire) => {
+                wire.head.mine == reference && wire.head.state() != SectionState::Gone
+            }
+            Side::User(_) => false,
+        }
+    }
+
+    /// The local reference of a section; None for a user's end.
+    pub fn reference(&self) -> Option<Ref24>
+        ensures { (now : ℕ) → result ≡ reference_of (end_at now self.now) }
+    {
+        match self {
+            Side::Wire(wire) => Some(wire.head.mine),
+            Side::User(_) => None,
+        }
+    }
+
+    /// Whether the end is gone.
+    pub fn is_gone(&self) -> bool
+        ensures { (now : ℕ) → result ≡ end_is_gone (end_at now self.now) }
+    {
+        match self {
+            Side::Wire(wire) => wire.head.state() == SectionState::Gone,
+            Side::User(user) => user.state == UserState::Gone,
+        }
+    }
+}

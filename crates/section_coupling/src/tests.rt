@@ -1,0 +1,153 @@
+//! A connection for a subsystem of this node, from its request to its first data, and a confirmation that no connection hears.
+use crate::{Begun, Duo, Heard, ask_of, stray};
+use plant_core::{Answer, Terms, Ticks};
+use q713_codec::{View, read};
+use relay_base::{Event, Memory, Octets, Output, Outs, Pc, Ref24, Request, Sls, Ssn, Tell};
+use std::alloc::Global;
+use std::test::Fail;
+
+fn terms() -> Terms {
+    Terms {
+        own: Pc::new(100).unwrap(),
+        credit: 7,
+        ticks: Ticks {
+            connect: 90,
+            ias: 420,
+            iar: 900,
+            rel: 15,
+            repeat: 15,
+            int: 60,
+            reset: 15,
+            reassembly: 15,
+            freeze: 60,
+            status: 30,
+            status_max: 600,
+            coord: 90,
+        },
+    }
+}
+
+fn reference() -> Ref24 {
+    Ref24::new(16).unwrap()
+}
+
+/// A message from point 200.
+fn message(alloc: Global, octets: &[u8]) -> Result<Event, Memory> {
+    Ok(Event::Message {
+        opc: Pc::new(200).unwrap(),
+        sls: Sls::new(3).unwrap(),
+        bytes: Octets::from_slice(alloc, octets)?,
+    })
+}
+
+fn single(alloc: Global, output: Output) -> Result<Outs, Memory> {
+    let mut outs = Outs::new(alloc);
+    outs.push(output)?;
+    Ok(outs)
+}
+
+/// A message to point 200, alone.
+fn sent(alloc: Global, octets: &[u8]) -> Result<Outs, Memory> {
+    let output = Output::Sent {
+        point: Pc::new(200).unwrap(),
+        sls: Sls::new(3).unwrap(),
+        bytes: Octets::from_slice(alloc, octets)?,
+    };
+    single(alloc, output)
+}
+
+/// What user 8 is told, alone.
+fn told(alloc: Global, tell: Tell) -> Result<Outs, Memory> {
+    let output = Output::Told {
+        ssn: Ssn::from(8),
+        tell,
+    };
+    single(alloc, output)
+}
+
+/// The connection that CR of class 2 opens for user 8; None for another message.
+#[tactic(auto, unfolding(section_model::specs::Opening::wish_of))]
+fn begun(alloc: Global, event: &Event) -> Result<Option<Heard>, Memory> {
+    let Event::Message { bytes, .. } = event else {
+        return Ok(None);
+    };
+    let Ok(View::Cr { class_octet: 2, .. }) = read(bytes.as_slice()) else {
+        return Ok(None);
+    };
+    if ask_of(event).is_none() {
+        return Ok(None);
+    }
+    let answer = Answer::Local(Ssn::from(8));
+    let Begun { duo, outs } = Duo::begin(alloc, &terms(), 0, event, Some(&answer), &[reference()])?;
+    match duo {
+        Some(duo) => Ok(Some(Heard { duo, outs })),
+        None => Ok(None),
+    }
+}
+
+/// What comes of an event; None where the connection doesn't hear it.
+fn heard(duo: &Duo, event: &Event) -> Result<Option<Heard>, Memory> {
+    if !duo.hears(event) {
+        return Ok(None);
+    }
+    Ok(Some(duo.hear(0, event)?))
+}
+
+#[test]
+fn a_connection_carries_data(rt: HostRuntime) -> Result<(), Fail> {
+    let alloc = rt.alloc();
+    let request = message(alloc, b"\x01\x01\x00\x00\x02\x02\x00\x02\x42\x08")?;
+    let Some(offered) = begun(alloc, &request)? else {
+        panic!(rt; "no connection");
+    };
+    let offer = Tell::Conn {
+        mine: reference(),
+        class: 2,
+        credit: 0,
+        called: Octets::from_slice(alloc, b"\x42\x08")?,
+        calling: None,
+        body: None,
+    };
+    assert_eq!(rt; offered.outs, told(alloc, offer)?);
+
+    let accept = Event::Asked {
+        ssn: Ssn::from(8),
+        request: Request::Accept {
+            mine: reference(),
+            class: 2,
+            credit: 0,
+            body: Octets::new(alloc),
+        },
+    };
+    let Some(accepted) = heard(&offered.duo, &accept)? else {
+        panic!(rt; "an acceptance is not heard");
+    };
+    assert_eq!(rt;
+        accepted.outs,
+        sent(alloc, b"\x02\x01\x00\x00\x10\x00\x00\x02\x00")?
+    );
+
+    let data = message(alloc, b"\x06\x10\x00\x00\x00\x01\x01\x61")?;
+    let Some(carried) = heard(&accepted.duo, &data)? else {
+        panic!(rt; "data is not heard");
+    };
+    let text = Tell::Text {
+        mine: reference(),
+        body: Octets::from_slice(alloc, b"a")?,
+    };
+    assert_eq!(rt; carried.outs, told(alloc, text)?);
+
+    let other = message(alloc, b"\x06\x11\x00\x00\x00\x01\x01\x61")?;
+    assert!(rt; !carried.duo.hears(&other));
+    Ok(())
+}
+
+#[test]
+fn a_stray_confirmation_is_an_error(rt: HostRuntime) -> Result<(), Fail> {
+    let alloc = rt.alloc();
+    let confirmation = message(alloc, b"\x02\x30\x00\x00\x09\x00\x00\x02\x00")?;
+    let mut outs = Outs::new(alloc);
+    stray(alloc, &confirmation, &mut outs)?;
+    assert_eq!(rt; outs, sent(alloc, b"\x0f\x09\x00\x00\x00")?);
+    Ok(())
+}

@@ -1,0 +1,147 @@
+//! A tick on a connection (Q.714, timers).
+ghost use Rattle.std.specs.Prelude.{◌≡◌, ◌≤◌, ◌+◌, [], fold, IfOk};
+ghost use Rattle.section_model.specs.Timing.{firing, firing_order, rearmed};
+ghost use Rattle.section_model.specs.Ends.{wire};
+ghost use Rattle.section_model.specs.Acting.{section_fires};
+ghost use Rattle.section_model.specs.Step.{is_due_at, fires, fires_next, fires_due, ticks_by};
+ghost use Rattle.section_coupling.specs.Views.{section_at, end_at, connection_at};
+ghost use Rattle.section_coupling.specs.Second.{SecondSection, SecondEnd, SecondConnection, SecondActed};
+ghost use Rattle.section_model.specs.Table.{section_cell};
+
+use crate::clock::Clock;
+use crate::coupling::{append, settle};
+use crate::pair::Pair;
+use crate::side::Side;
+use crate::wire::Wire;
+use relay_base::{Memory, Outs};
+use section_grid::{Acted, Input, Occasion, Timer, section_cell};
+use std::alloc::Global;
+
+/// The timers in the order in which they fire.
+const FIRING_ORDER: [Timer; 7] = [
+    Timer::Connect,
+    Timer::Reset,
+    Timer::Iar,
+    Timer::Ias,
+    Timer::Rel,
+    Timer::Int,
+    Timer::Repeat,
+];
+
+/// What a section meets where a timer fires.
+fn firing(timer: Timer) -> Occasion
+    ensures { result ≡ firing timer }
+{
+    match timer {
+        Timer::Connect => Occasion::ConnectFires,
+        Timer::Reset => Occasion::ResetFires,
+        Timer::Iar => Occasion::IarFires,
+        Timer::Ias => Occasion::IasFires,
+        Timer::Rel => Occasion::RelFires,
+        Timer::Int => Occasion::IntFires,
+        Timer::Repeat => Occasion::RepeatFires,
+    }
+}
+
+impl Wire {
+    /// A timer fires.
+    #[tactic(auto, using(crate::proofs::SecondCells::section_fires_second))]
+    fn fire(self, alloc: Global, clock: &Clock, timer: Timer) -> Result<(Wire, Acted), Memory>
+        requires clock { clock.now.taken ≤ 4_294_967_296 }
+        requires section { SecondSection (section_at clock.now.taken self) }
+        ensures fires { IfOk result (λ r. section_fires clock.now.ticks (section_cell (section_at clock.now.taken self).head.state (firing timer)) (record (section_at clock.now.taken self) { timers = rearmed clock.now.ticks timer (section_at clock.now.taken self).timers }) ≡ (wire (section_at clock.now.taken r.0), r.1)) }
+        ensures second { IfOk result (λ r. SecondSection (section_at clock.now.taken r.0) × SecondActed r.1) }
+    {
+        let cell = section_cell(self.head.state(), firing(timer));
+        let wire = Wire {
+            timers: self.timers.rearmed(clock, timer),
+            ..self
+        };
+        wire.act(alloc, clock, cell, &Input::Timer(timer as u8))
+    }
+}
+
+impl Side {
+    /// Whether a timer of this end fires at this tick; a user's end has none.
+    fn is_due(&self, now: u64, timer: Timer) -> bool
+        ensures { result ≡ is_due_at timer (end_at now self.now) }
+    {
+        match self {
+            Side::Wire(wire) => wire.timers.is_due(now, timer),
+            Side::User(_) => false,
+        }
+    }
+}
+
+/// A timer of this end fires if it is due.
+fn fire_if_due(
+    alloc: Global,
+    clock: &Clock,
+    timer: Timer,
+    pair: Pair,
+) -> Result<(Pair, Outs), Memory>
+    requires clock { clock.now.taken ≤ 4_294_967_296 }
+    requires pair { SecondConnection (connection_at clock.now.taken pair) }
+    ensures fires { IfOk result (λ r. fires clock.now.ticks timer (end_at clock.now.taken pair.this) (end_at clock.now.taken pair.that) ≡ (connection_at clock.now.taken r.0, r.1)) }
+    ensures second { IfOk result (λ r. SecondConnection (connection_at clock.now.taken r.0)) }
+{
+    if !pair.this.is_due(clock.taken, timer) {
+        return Ok((pair, Outs::new(alloc)));
+    }
+    let Pair { this, that } = pair;
+    match this {
+        Side::Wire(wire) => {
+            let (wire, acted) = wire.fire(alloc, clock, timer)?;
+            settle(alloc, clock, Side::Wire(wire), acted, that)
+        }
+        Side::User(_) => Ok((Pair { this, that }, Outs::new(alloc))),
+    }
+}
+
+/// Of these timers of this end those that are due fire, one after another.
+fn fire_each(
+    alloc: Global,
+    clock: &Clock,
+    timers: &[Timer],
+    pair: Pair,
+) -> Result<(Pair, Outs), Memory>
+    requires clock { clock.now.taken ≤ 4_294_967_296 }
+    requires pair { SecondConnection (connection_at clock.now.taken pair) }
+    ensures fires { IfOk result (λ r. fold (fires_next clock.now.ticks) (connection_at clock.now.taken pair, []) timers.now ≡ (connection_at clock.now.taken r.0, r.1)) }
+    ensures second { IfOk result (λ r. SecondConnection (connection_at clock.now.taken r.0)) }
+{
+    let mut pair = pair;
+    let mut outs = Outs::new(alloc);
+    for timer in timers {
+        let (next, more) = fire_if_due(alloc, clock, *timer, pair)?;
+        append(alloc, &mut outs, more)?;
+        pair = next;
+    }
+    Ok((pair, outs))
+}
+
+/// The timers of this end that are due fire in their order.
+#[tactic(auto, unfolding(section_model::specs::Step::fires_due))]
+fn fire_due(alloc: Global, clock: &Clock, pair: Pair) -> Result<(Pair, Outs), Memory>
+    requires clock { clock.now.taken ≤ 4_294_967_296 }
+    requires pair { SecondConnection (connection_at clock.now.taken pair) }
+    ensures fires { IfOk result (λ r. fires_due clock.now.ticks (connection_at clock.now.taken pair) ≡ (connection_at clock.now.taken r.0, r.1)) }
+    ensures second { IfOk result (λ r. SecondConnection (connection_at clock.now.taken r.0)) }
+{
+    fire_each(alloc, clock, &FIRING_ORDER, pair)
+}
+
+/// A tick: first the timers of this end, then those of the other one. The clock has the tick already.
+#[tactic(auto, using(crate::proofs::LaterTimers::ticked_pair))]
+pub fn tick(alloc: Global, clock: &Clock, before: u64, pair: Pair) -> Result<(Pair, Outs), Memory>
+    requires clock { clock.now.taken ≤ 4_294_967_296 }
+    requires before { before + 1 ≡ clock.now.taken }
+    requires pair { SecondConnection (connection_at before pair) }
+    ensures ticks { IfOk result (λ r. ticks_by clock.now.ticks (connection_at before pair) ≡ (connection_at clock.now.taken r.0, r.1)) }
+    ensures second { IfOk result (λ r. SecondConnection (connection_at clock.now.taken r.0)) }
+{
+    let (pair, mut outs) = fire_due(alloc, clock, pair)?;
+    let (pair, more) = fire_due(alloc, clock, pair.turned())?;
+    append(alloc, &mut outs, more)?;
+    Ok((pair.turned(), outs))
+}
