@@ -12,12 +12,12 @@ use Rattle.node_head.specs.declared.head.Head.{Head}
 use Rattle.capture_form.specs.Text.{words}
 use Rattle.capture_form.specs.Line.{Linked, event_of}
 use Rattle.capture_form.specs.declared.fault.LineKind.TheVariants.{Words}
-use Rattle.capture_form.specs.declared.fault.Limit.TheVariants.{Lines, Barriers}
+use Rattle.capture_form.specs.declared.fault.Limit.TheVariants.{Lines, Ticks, Barriers}
 use Rattle.capture_form.specs.declared.fault.CaptureFault.{CaptureFault}
 use Rattle.capture_form.specs.declared.fault.CaptureFault.TheVariants as refused
 use Rattle.capture_form.specs.declared.reading.Reading.{Reading}
 use Rattle.capture_form.specs.declared.capture.Capture.{Capture}
-use Rattle.capture_form.specs.Capture.{Stamped, AreOfLinks, AreOfPhases, IsStamped, phase_ended, event_added, barrier_taken, event_taken, words_taken, line_taken, lines_taken, reading_from, phases_of, at_line, at_head, capture_from, capture_within, is_skipped, is_barrier, Reads}
+use Rattle.capture_form.specs.Capture.{Stamped, AreOfLinks, AreOfPhases, IsStamped, phase_ended, event_added, barrier_taken, tick_counted, line_counted, event_put, event_taken, words_taken, line_taken, lines_taken, reading_from, phases_of, at_line, at_head, capture_from, capture_within, is_skipped, is_barrier, is_tick, Reads}
 
 -- what was read so far stands so
 record Stands (head : Head) (r : Reading) : Type 0 where
@@ -95,11 +95,22 @@ stands-barrier head r ws h =
     either (Stands head) (nat_lt 1000 r.phase) (Err (refused.TooLong Barriers)) (cond (length ws == 1) (Ok (phase_ended head r)) (fault_words r)) tt
     (either (Stands head) (length ws == 1) (Ok (phase_ended head r)) (fault_words r) (stands-ended head r h) tt)
 
+-- a count changes nothing of what stands
+stands-counted : (head : Head) (r : Reading) → Stands head r → StandsIn head (tick_counted r)
+stands-counted head r h =
+    either (Stands head) (nat_le 20000 r.ticks) (Err (refused.TooLong Ticks)) (Ok (record r { ticks = r.ticks + 1 })) tt
+    (record { ended = h.ended; number = h.number; standing = h.standing; lists = h.lists })
+
+stands-line-counted : (head : Head) (r : Reading) (ws : List (List ℕ)) → Stands head r → StandsIn head (line_counted r ws)
+stands-line-counted head r ws h =
+    either (Stands head) (nat_le 200000 r.events) (Err (refused.TooLong Lines)) (cond (is_tick ws) (tick_counted r) (Ok r)) tt
+    (either (Stands head) (is_tick ws) (tick_counted r) (Ok r) (stands-counted head r h) h)
+
+stands-put : (head : Head) (ws : List (List ℕ)) (r : Reading) → Stands head r → StandsIn head (event_put head ws r)
+stands-put head ws r h = bound (Stands head) (at_line r.line (event_of head ws)) (λ e. Ok (event_added r e)) (λ e. stands-added head r e h)
+
 stands-event : (head : Head) (r : Reading) (ws : List (List ℕ)) → Stands head r → StandsIn head (event_taken head r ws)
-stands-event head r ws h =
-    let next : Linked → Result Reading CaptureFault = λ e. Ok (event_added r e) in
-    either (Stands head) (nat_le 200000 r.events) (Err (refused.TooLong Lines)) (at_line r.line (event_of head ws) >>= next) tt
-    (bound (Stands head) (at_line r.line (event_of head ws)) next (λ e. stands-added head r e h))
+stands-event head r ws h = bound_if (Stands head) (Stands head) (line_counted r ws) (event_put head ws) (stands-line-counted head r ws h) (stands-put head ws)
 
 stands-line : (head : Head) (r : Reading) (line : List ℕ) → Stands head r → StandsIn head (line_taken head r line)
 unfolding line_taken

@@ -2,6 +2,8 @@ pub mod Built
 pub mod Capture
 pub mod Line
 pub mod Note
+pub mod Place
 pub mod Refused
+pub mod Requests
 pub mod Text
 pub mod Words

@@ -1,12 +1,12 @@
 -- What the words of a line state, or what is wrong with a word.
-use Rattle.std.specs.Prelude.{ℕ, ◌==◌, ◌&&◌, nat_lt, nat_le, codes, Bool, true, false, List, length, if◌then◌else◌, Option, Some, None, Ok, Err, is_ok}
+use Rattle.std.specs.Prelude.{ℕ, ◌==◌, ◌||◌, ◌&&◌, nat_lt, nat_le, codes, Bool, List, length, if◌then◌else◌, Option, Some, None, Ok, Err, is_ok}
 use Rattle.std.specs.List.{list_any}
 use Rattle.std.specs.declared.result.Result.{Result}
 use Rattle.relay_base.specs.Giving.{◌>>=◌}
 use Rattle.sccp_address.specs.Parsing.{address_of}
 use Rattle.capture_form.specs.Text.{same, is_dash, number_of, hex_of}
 use Rattle.capture_form.specs.declared.fault.LineKind.{LineKind}
-use Rattle.capture_form.specs.declared.fault.LineKind.TheVariants.{Words, Number, Hex, Address, Size, User}
+use Rattle.capture_form.specs.declared.fault.LineKind.TheVariants.{Number, Hex, Address, Size, User}
 
 -- the value, or this kind of fault where there is none
 abbrev pub or_kind : {A : Type 0} → Option A → LineKind → Result A LineKind
@@ -28,6 +28,14 @@ link_in links (Some n) = if nat_le 1 n && nat_le n links then Ok n else Err Numb
 -- a link, from 1
 abbrev pub link_of : ℕ → List ℕ → Result ℕ LineKind
 link_of links word = link_in links (number_of word)
+
+abbrev pub class_in : Option ℕ → Result ℕ LineKind
+class_in None = Err Number
+class_in (Some n) = if n == 2 || n == 3 then Ok n else Err Number
+
+-- a class of connections, 2 or 3
+abbrev pub class_of : List ℕ → Result ℕ LineKind
+class_of word = class_in (number_of word)
 
 -- the subsystem number of a user
 abbrev pub user_of : List ℕ → List ℕ → Result ℕ LineKind
@@ -57,6 +65,16 @@ body_of most word = do
   octets ← octets_of word
   if nat_le (length octets) most then Ok octets else Err Size
 
--- whether return on error is asked
-abbrev pub return_of : List ℕ → Result Bool LineKind
-return_of word = if same word (codes "r") then Ok true else if is_dash word then Ok false else Err Words
+-- one octet or more, and at most so many
+abbrev pub text_of : ℕ → List ℕ → Result (List ℕ) LineKind
+text_of most word = do
+  octets ← body_of most word
+  if length octets == 0 then Err Size else Ok octets
+
+-- the word of return on error that is asked
+abbrev pub asks_return : List ℕ → Bool
+asks_return word = same word (codes "r")
+
+-- a word that says whether return on error is asked
+abbrev pub is_return : List ℕ → Bool
+is_return word = asks_return word || is_dash word

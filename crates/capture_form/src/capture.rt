@@ -46,6 +46,7 @@ fn reading_from(alloc: Global, head: &Head, line: u32) -> Result<Reading, Memory
         phase: 1,
         line,
         events: 0,
+        ticks: 0,
     })
 }
 
@@ -113,7 +114,7 @@ fn capture_within(alloc: Global, bytes: &[u8]) -> Result<Capture, CaptureFault>
 
 /// The capture that an input is, or the first of its faults.
 ///
-/// An input has at most 67,108,864 bytes, 200,000 event lines and 1,000 barriers.
+/// An input has at most 67,108,864 bytes, 200,000 event lines, 20,000 tick lines among them, and 1,000 barriers.
 #[tactic(auto, unfolding(crate::specs::Capture::capture_of))]
 pub fn read_capture(alloc: Global, bytes: &[u8]) -> Result<Capture, CaptureFault>
     ensures value { Reads result (capture_of bytes.now) }

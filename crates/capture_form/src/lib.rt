@@ -4,10 +4,12 @@
 mod built;
 mod capture;
 mod fault;
+mod lane_place;
 mod line;
 mod note;
 mod reading;
 mod refused;
+mod requests;
 mod steps;
 #[cfg(test)]
 mod tests;
@@ -17,6 +19,7 @@ mod words;
 pub use capture::{Capture, MOST_BYTES, read_capture};
 pub use fault::{CaptureFault, Limit, LineFault, LineKind};
 pub use journal_text::{Book, print_book};
+pub use lane_place::{LanePlace, place};
 pub use note::fault_note;
 pub use reading::{Phase, PhaseList};
 pub use relay_base::StampedList;

@@ -9,7 +9,7 @@ pub type Phase = PlainList<StampedList>;
 pub type PhaseList = PlainList<Phase>;
 
 /// What was read so far: the phases that ended, the one that stands, its number, that of the next line, and how many
-/// events there are.
+/// events there are, and ticks among them.
 #[derive(Debug, Drop)]
 pub struct Reading {
     pub phases: PhaseList,
@@ -17,4 +17,5 @@ pub struct Reading {
     pub phase: u32,
     pub line: u32,
     pub events: u32,
+    pub ticks: u32,
 }

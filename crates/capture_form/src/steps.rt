@@ -1,7 +1,7 @@
 //! What one line adds to what was read.
 ghost use Rattle.std.specs.Prelude.{◌≡◌, ◌<◌, ◌≤◌, ◌+◌, ◌^◌, ◌++◌, [], ◌∷◌, length, map, replicate, slice_set, slice_index_or, IfOk, OnOk, OnErr, Ok};
 ghost use Rattle.capture_form.specs.Refused.{FaultAt};
-ghost use Rattle.capture_form.specs.Capture.{Reads, Takes, Fails, Stamped, is_barrier, is_skipped, empty_phase, phase_ended, event_added, barrier_taken, event_taken, words_taken, line_taken, at_line};
+ghost use Rattle.capture_form.specs.Capture.{Reads, Takes, Fails, Stamped, is_barrier, is_tick, is_skipped, empty_phase, phase_ended, event_added, barrier_taken, tick_counted, line_counted, event_put, event_taken, words_taken, line_taken, at_line};
 ghost use Rattle.capture_form.specs.Line.{event_of};
 ghost use Rattle.capture_form.specs.Text.{words};
 
@@ -17,6 +17,9 @@ use std::mem;
 
 /// The most event lines, barriers not counted.
 const MOST_LINES: u32 = 200_000;
+
+/// The most tick lines.
+const MOST_TICKS: u32 = 20_000;
 
 /// The most barriers.
 const MOST_BARRIERS: u32 = 1_000;
@@ -50,6 +53,15 @@ fn is_barrier(words: &[&[u8]]) -> bool
     match words {
         [] => false,
         [first, ..] => *first == b"w".as_slice(),
+    }
+}
+
+fn is_tick(words: &[&[u8]]) -> bool
+    ensures { result ≡ is_tick (map (λ w. w.now) words.now) }
+{
+    match words {
+        [] => false,
+        [first, ..] => *first == b"t".as_slice(),
     }
 }
 
@@ -120,6 +132,59 @@ fn take_barrier(
     end_phase(alloc, head, read)
 }
 
+/// Counts a tick line.
+fn count_tick(read: &mut Reading) -> Result<(), CaptureFault>
+    ensures value { Takes read.new result (tick_counted read.old) }
+    ensures kept { (read.new.current ≡ read.old.current) × (read.new.line ≡ read.old.line) × (read.new.events ≡ read.old.events) }
+{
+    if read.ticks >= MOST_TICKS {
+        return Err(CaptureFault::TooLong(Limit::Ticks));
+    }
+    read.ticks += 1;
+    Ok(())
+}
+
+/// Counts an event line, and whether it is a tick line.
+fn count_line(read: &mut Reading, words: &[&[u8]]) -> Result<(), CaptureFault>
+    ensures value { Takes read.new result (line_counted read.old (map (λ w. w.now) words.now)) }
+    ensures kept { (read.new.current ≡ read.old.current) × (read.new.line ≡ read.old.line) }
+    ensures few { OnOk result (read.new.events < 200000) }
+{
+    if read.events >= MOST_LINES {
+        return Err(CaptureFault::TooLong(Limit::Lines));
+    }
+    if is_tick(words) {
+        count_tick(read)
+    } else {
+        Ok(())
+    }
+}
+
+/// Puts the event of a line on the list of its link.
+fn put_event(
+    alloc: Global,
+    head: &Head,
+    words: &[&[u8]],
+    read: &mut Reading,
+) -> Result<(), CaptureFault>
+    requires line { read.old.line + 1 < 2 ^ 32 }
+    requires links { length read.old.current ≡ head.now.links + 1 }
+    requires few { read.old.events < 200000 }
+    ensures value { Takes read.new result (event_put head.now (map (λ w. w.now) words.now) read.old) }
+    ensures kept { OnOk result ((length read.new.current ≡ head.now.links + 1) × (read.new.line ≡ read.old.line + 1)) }
+{
+    let (link, event) = event_at(alloc, head, read.line, words)?;
+    let stamp = Stamp {
+        phase: read.phase,
+        link,
+        line: read.line,
+    };
+    put(alloc, &mut read.current, usize::from(link), (stamp, event))?;
+    read.events += 1;
+    read.line += 1;
+    Ok(())
+}
+
 /// Reads an event line.
 fn take_event(
     alloc: Global,
@@ -132,19 +197,8 @@ fn take_event(
     ensures value { Takes read.new result (event_taken head.now read.old (map (λ w. w.now) words.now)) }
     ensures kept { OnOk result ((length read.new.current ≡ head.now.links + 1) × (read.new.line ≡ read.old.line + 1)) }
 {
-    if read.events >= MOST_LINES {
-        return Err(CaptureFault::TooLong(Limit::Lines));
-    }
-    let (link, event) = event_at(alloc, head, read.line, words)?;
-    let stamp = Stamp {
-        phase: read.phase,
-        link,
-        line: read.line,
-    };
-    put(alloc, &mut read.current, usize::from(link), (stamp, event))?;
-    read.events += 1;
-    read.line += 1;
-    Ok(())
+    count_line(read, words)?;
+    put_event(alloc, head, words, read)
 }
 
 /// Reads a line.

@@ -1,6 +1,6 @@
 //! Captures with each kind of line fault, the messages that are run already, the limits, and the phases.
 use crate::{Capture, CaptureFault, Limit, LineFault, LineKind, Phase, PhaseList, read_capture};
-use relay_base::{Event, Memory, Octets, Pc, Request, Sls, Ssn, Stamp, StampedList};
+use relay_base::{Event, Memory, Octets, Pc, Ref24, Request, Sls, Ssn, Stamp, StampedList};
 use std::alloc::Global;
 use std::test::Fail;
 
@@ -40,6 +40,9 @@ fn line_faults(rt: HostRuntime) {
         ("u 2 9 unit 16 2 r 4209 - aa aa", LineKind::Words),
         ("u 2 9 unit 16 2 x 4209 - a", LineKind::Words),
         ("u 1 8 unit 5 0 rr 4209 - aa", LineKind::Words),
+        ("t 1", LineKind::Words),
+        ("t t", LineKind::Words),
+        ("T", LineKind::Words),
         // The link.
         ("m 0 200 5 -", LineKind::Number),
         ("m 2 200 5 0", LineKind::Number),
@@ -100,7 +103,64 @@ fn unit_faults(rt: HostRuntime) {
     }
 }
 
-/// An address has at most 40 octets and the body of a unit at most 2,560.
+/// Requests on connections: first the number of their words, then the leftmost faulty one.
+#[test]
+fn connection_faults(rt: HostRuntime) {
+    let cases = [
+        ("u 2 9 conn 65536 1 128 -", LineKind::Words),
+        ("u 2 9 conn 65536 1 128 - 0 0", LineKind::Words),
+        ("u 2 9 accept 16777216 1 128", LineKind::Words),
+        ("u 2 9 refuse 16777216 256 0 0", LineKind::Words),
+        ("u 2 9 send 16777216", LineKind::Words),
+        ("u 2 9 ed 16777216 0 0", LineKind::Words),
+        ("u 2 9 reset", LineKind::Words),
+        ("u 2 9 reset 16777216 -", LineKind::Words),
+        ("u 2 9 disc 16777216 256", LineKind::Words),
+        ("u 2 9 Conn 65536 1 128 - 0", LineKind::Words),
+        ("u 2 9 conn 65536 1 128 - 0", LineKind::Number),
+        ("u 1 9 conn 65536 1 128 - 0", LineKind::User),
+        ("u 1 9 accept 16777216 1 128 0", LineKind::User),
+        ("u 2 9 refuse 16777216 256 0", LineKind::Number),
+        ("u 1 9 send 16777216 0", LineKind::User),
+        ("u 1 9 ed 16777216 0", LineKind::User),
+        ("u 1 9 reset 16777216", LineKind::User),
+        ("u 1 256 disc 16777216 256 0", LineKind::Number),
+        // A request for a connection: its tag, class, credit, called address and data.
+        ("u 1 8 conn 65536 2 0 4209 -", LineKind::Number),
+        ("u 1 8 conn 7 1 0 4209 -", LineKind::Number),
+        ("u 1 8 conn 7 4 0 - 0", LineKind::Number),
+        ("u 1 8 conn 7 2 128 - 0", LineKind::Number),
+        ("u 1 8 conn 7 3 128 4209 -", LineKind::Number),
+        ("u 1 8 conn 7 2 127 420 0", LineKind::Hex),
+        ("u 1 8 conn 7 2 127 - 0", LineKind::Address),
+        ("u 1 8 conn 7 3 0 12080012 0", LineKind::Address),
+        ("u 1 8 conn 7 3 0 4209 0", LineKind::Hex),
+        // The other requests: their reference, class, credit or cause, and data.
+        ("u 1 8 accept 16777216 2 0 -", LineKind::Number),
+        ("u 1 8 accept 16 1 0 0", LineKind::Number),
+        ("u 1 8 accept 16 4 0 0", LineKind::Number),
+        ("u 1 8 accept 16 2 128 0", LineKind::Number),
+        ("u 1 8 accept 16 2 127 0", LineKind::Hex),
+        ("u 1 8 refuse 16777216 0 0", LineKind::Number),
+        ("u 1 8 refuse 16 256 0", LineKind::Number),
+        ("u 1 8 refuse 16 255 0", LineKind::Hex),
+        ("u 1 8 send 16777216 0", LineKind::Number),
+        ("u 1 8 send 16 0", LineKind::Hex),
+        ("u 1 8 send 16 -", LineKind::Size),
+        ("u 1 8 ed 16777216 0", LineKind::Number),
+        ("u 1 8 ed 16 0", LineKind::Hex),
+        ("u 1 8 ed 16 -", LineKind::Size),
+        ("u 1 8 reset 16777216", LineKind::Number),
+        ("u 1 8 disc 16777216 0 0", LineKind::Number),
+        ("u 1 8 disc 16 256 0", LineKind::Number),
+        ("u 1 8 disc 16 255 0", LineKind::Hex),
+    ];
+    for (line, kind) in cases {
+        assert_eq!(rt; fault_of(rt.alloc(), line), at_line(4, kind), "{line}");
+    }
+}
+
+/// An address has at most 40 octets, the body of a unit at most 2,560, data of one call 128, a text 8,192 and expedited data 32.
 #[test]
 fn sizes(rt: HostRuntime) -> Result<(), Fail> {
     let cases = [
@@ -120,6 +180,22 @@ fn sizes(rt: HostRuntime) -> Result<(), Fail> {
         ("u 1 8 unit 5 0 r 4209 - ", 2_561, "", Some(LineKind::Size)),
         ("u 1 8 unit 5 0 r 4209 - ", 2_561, "0", Some(LineKind::Hex)),
         ("u 1 8 unit 5 0 r 42 - ", 2_561, "", Some(LineKind::Address)),
+        ("u 1 8 conn 7 2 0 4208", 38, " -", None),
+        ("u 1 8 conn 7 2 0 4208", 39, " 0", Some(LineKind::Size)),
+        ("u 1 8 conn 7 2 0 4209 ", 128, "", None),
+        ("u 1 8 conn 7 2 0 4209 ", 129, "", Some(LineKind::Size)),
+        ("u 1 8 conn 7 3 0 4209 ", 128, "", Some(LineKind::NotBuilt)),
+        ("u 1 8 conn 7 3 0 4209 ", 129, "", Some(LineKind::Size)),
+        ("u 1 8 accept 16 3 0 ", 128, "", None),
+        ("u 1 8 accept 16 3 0 ", 129, "", Some(LineKind::Size)),
+        ("u 1 8 refuse 16 0 ", 128, "", None),
+        ("u 1 8 refuse 16 0 ", 129, "", Some(LineKind::Size)),
+        ("u 1 8 send 16 ", 8_192, "", None),
+        ("u 1 8 send 16 ", 8_193, "", Some(LineKind::Size)),
+        ("u 1 8 ed 16 ", 32, "", None),
+        ("u 1 8 ed 16 ", 33, "", Some(LineKind::Size)),
+        ("u 1 8 disc 16 0 ", 128, "", None),
+        ("u 1 8 disc 16 0 ", 129, "", Some(LineKind::Size)),
     ];
     for (before, count, after, kind) in cases {
         let zeros = "00".repeat(rt.alloc(), count)?;
@@ -135,7 +211,7 @@ fn sizes(rt: HostRuntime) -> Result<(), Fail> {
 }
 
 /// Messages by how they begin and how many octets 61 follow, and whether they are run.
-const MESSAGES: [(&str, usize, bool); 47] = [
+const MESSAGES: [(&str, usize, bool); 58] = [
     // UDT, UDTS, XUDT without and with segmentation, XUDTS, LUDT, LUDTS.
     ("090003050702420802420601aa", 0, true),
     ("098203050702420802420601aa", 0, true),
@@ -153,28 +229,39 @@ const MESSAGES: [(&str, usize, bool); 47] = [
     ("0900030406014202420601aa", 0, true),
     ("0a0403050702420102420901aa", 0, true),
     ("11000f0406080002420102420601aa", 0, true),
-    // CR, RLSD, RLC and DT1, whole and cut.
-    ("01010000020200024208", 0, false),
+    // CR: of class 2, and of another one; of class 3, whatever else the class octet has; cut, and of 268 and more octets.
+    ("01010000020200024208", 0, true),
+    ("0107000002020a08120800120494712111010100", 0, true),
+    ("01010000000200024208", 0, true),
+    ("01010000040200024208", 0, true),
     ("01010000030200024208", 0, false),
-    ("041000000200000000", 0, false),
-    ("05100000010000", 0, false),
-    ("0610000000010161", 0, false),
+    ("01010000130200024208", 0, false),
+    ("01010000830200024208", 0, false),
+    ("0107000003020a08120800120494712109010700", 0, false),
+    ("010100000302000242", 0, true),
     ("01", 0, true),
+    ("01010000020200024208", 259, true),
+    ("01010000030200024208", 258, false),
+    ("01010000030200024208", 259, false),
+    // The other types of the connection-oriented service, whole and cut.
+    ("021000005500000200", 0, true),
+    ("030700001000", 0, true),
+    ("041000000200000000", 0, true),
+    ("05100000010000", 0, true),
+    ("0610000000010161", 0, true),
+    ("075500000000010101", 0, true),
+    ("081000000402", 0, true),
+    ("0b1000000100", 0, true),
+    ("0b100000010177", 0, true),
+    ("0c100000", 0, true),
+    ("0d10000007000006", 0, true),
+    ("0e100000550000", 0, true),
+    ("0f10000000", 0, true),
+    ("1001000010000002000000", 0, true),
+    ("1001000010000003000000", 0, true),
+    ("02", 0, true),
     ("041000000200", 0, true),
-    ("0510000001", 0, true),
-    ("06100000", 0, true),
-    // The other types of the connection-oriented service, whatever follows.
-    ("02", 0, false),
-    ("03", 0, false),
-    ("07", 0, false),
-    ("08", 0, false),
-    ("0B", 0, false),
-    ("0b1000000100", 0, false),
-    ("0c100000", 0, false),
-    ("0d10000007000006", 0, false),
-    ("0e", 0, false),
-    ("0f10000000", 0, false),
-    ("10", 0, false),
+    ("10", 0, true),
     // What does not read.
     ("-", 0, true),
     ("00", 0, true),
@@ -184,14 +271,14 @@ const MESSAGES: [(&str, usize, bool); 47] = [
     ("09000305090443c80001024206", 0, true),
     // 268 and 269 octets.
     ("77", 268, true),
-    ("061000000101ff", 261, false),
+    ("061000000101ff", 261, true),
     ("061000000101ff", 262, true),
     ("0900030507024201024206ff", 256, false),
     ("0900030507024201024206ff", 257, true),
-    ("0b1000000100", 263, false),
+    ("0b1000000100", 263, true),
 ];
 
-/// Which messages are run: all of the connectionless service but a UDT for management, and what is lost for its length or form.
+/// Which messages are run: all but a UDT for management and a CR of class 3, and what is lost for its length or form.
 #[test]
 fn built(rt: HostRuntime) -> Result<(), Fail> {
     for (start, count, is_run) in MESSAGES {
@@ -215,22 +302,15 @@ fn built(rt: HostRuntime) -> Result<(), Fail> {
 #[test]
 fn later_lines(rt: HostRuntime) {
     for line in [
-        "t",
-        "t 1",
         "e",
         "e add 4 0 1 4 49 300/8/s",
         "p pause 100",
         "p",
         "s 9 in",
-        "u 1 8 conn 1 2 0 4209 -",
-        "u 2 9 accept",
-        "u 1 8 refuse 16 0 -",
-        "u 1 8 send 16 aa",
-        "u 1 8 ed 16 0",
-        "u 1 8 reset 16",
-        "u - - disc",
         "u 1 8 coord",
+        "u 2 9 coord 0",
         "u 1 8 grant 16384",
+        "u - - grant",
     ] {
         assert_eq!(rt;
             fault_of(rt.alloc(), line),
@@ -284,6 +364,37 @@ fn limit_of_barriers(rt: HostRuntime) {
     }
 }
 
+/// 20,000 tick lines, whatever their form; lines with other first words are none.
+#[test]
+fn limit_of_ticks(rt: HostRuntime) {
+    let cases = [
+        ("", 20_000, "# none\n\nw\nm 1 200 5 -", None),
+        ("", 19_999, "t 1", at_line(20_003, LineKind::Words)),
+        ("", 20_000, "t", Some(CaptureFault::TooLong(Limit::Ticks))),
+        ("", 20_000, "t 1", Some(CaptureFault::TooLong(Limit::Ticks))),
+        ("", 20_000, "x", at_line(20_004, LineKind::Words)),
+        ("x\n", 20_001, "", at_line(4, LineKind::Words)),
+    ];
+    for (before, count, after, fault) in cases {
+        assert_eq!(rt;
+            fault_of_many(rt.alloc(), before, "t\n", count, after),
+            fault,
+            "{before} {count} {after}"
+        );
+    }
+}
+
+/// The line that passes both limits passes that of event lines.
+#[test]
+fn both_limits(rt: HostRuntime) -> Result<(), Fail> {
+    let ticks = "t\n".repeat(rt.alloc(), 20_000)?;
+    assert_eq!(rt;
+        fault_of_many(rt.alloc(), ticks.as_str(), "m 1 200 5 -\n", 180_000, "t"),
+        Some(CaptureFault::TooLong(Limit::Lines))
+    );
+    Ok(())
+}
+
 /// 200,000 event lines, whatever their form; empty lines, comments and barriers are none.
 #[test]
 fn limit_of_event_lines(rt: HostRuntime) {
@@ -300,12 +411,8 @@ fn limit_of_event_lines(rt: HostRuntime) {
     }
 }
 
-fn stamp(phase: u32, line: u32) -> Stamp {
-    Stamp {
-        phase,
-        link: 1,
-        line,
-    }
+fn stamp(phase: u32, link: u8, line: u32) -> Stamp {
+    Stamp { phase, link, line }
 }
 
 fn message(alloc: Global, opc: u32, sls: u32, bytes: &[u8]) -> Result<Event, Memory> {
@@ -330,19 +437,35 @@ fn unit(alloc: Global, called: &[u8], body: &[u8]) -> Result<Event, Memory> {
     Ok(Event::Asked { ssn, request })
 }
 
-/// What the capture below holds in a phase: nothing on link 0, and this on link 1.
-fn phase_of(alloc: Global, number: u32) -> Result<Phase, Memory> {
+/// What the capture below holds on link 1 in a phase.
+fn on_link_1(alloc: Global, number: u32) -> Result<StampedList, Memory> {
     let mut events = StampedList::new(alloc);
     if number == 1 {
-        events.push((stamp(1, 7), message(alloc, 200, 5, b"")?))?;
-        events.push((stamp(1, 8), unit(alloc, &[0x42, 0x09], &[0xAA])?))?;
+        events.push((stamp(1, 1, 7), message(alloc, 200, 5, b"")?))?;
+        events.push((stamp(1, 1, 9), unit(alloc, &[0x42, 0x09], &[0xAA])?))?;
     }
     if number == 3 {
-        events.push((stamp(3, 13), message(alloc, 16_383, 0, &[0x77])?))?;
+        events.push((stamp(3, 1, 15), message(alloc, 16_383, 0, &[0x77])?))?;
     }
+    Ok(events)
+}
+
+/// What it holds on link 0: ticks.
+fn on_link_0(alloc: Global, number: u32) -> Result<StampedList, Memory> {
+    let mut events = StampedList::new(alloc);
+    if number == 1 {
+        events.push((stamp(1, 0, 8), Event::Tick))?;
+    }
+    if number == 2 {
+        events.push((stamp(2, 0, 12), Event::Tick))?;
+    }
+    Ok(events)
+}
+
+fn phase_of(alloc: Global, number: u32) -> Result<Phase, Memory> {
     let mut phase = Phase::new(alloc);
-    phase.push(StampedList::new(alloc))?;
-    phase.push(events)?;
+    phase.push(on_link_0(alloc, number)?)?;
+    phase.push(on_link_1(alloc, number)?)?;
     Ok(phase)
 }
 
@@ -358,7 +481,7 @@ fn four_phases(alloc: Global) -> Result<PhaseList, Memory> {
 #[test]
 fn phases(rt: HostRuntime) -> Result<(), Fail> {
     let text =
-        b"point = 100\r\nusers = [8]\r\n# of the head\r\n%%\r\n#none\r\n\r\nm 1 200 0000000005 -\r\n  u  1 8 unit 15 1 r 4209 - Aa \r\nw\r\n\r\n w\n# w\nm 01 16383 0 77\n\nw";
+        b"point = 100\r\nusers = [8]\r\n# of the head\r\n%%\r\n#none\r\n\r\nm 1 200 0000000005 -\r\nt\r\n  u  1 8 unit 15 1 r 4209 - Aa \r\nw\r\n\r\n  t \n w\n# w\nm 01 16383 0 77\n\nw";
     let wanted = four_phases(rt.alloc())?;
     match read_capture(rt.alloc(), text.as_slice()) {
         Ok(capture) => assert_eq!(rt; capture.phases, wanted),
@@ -374,6 +497,7 @@ fn ends_of_input(rt: HostRuntime) -> Result<(), Fail> {
         ("point = 100\n%%", None, 0),
         ("point = 100\n%%\n# none\n\nw\nw\n", None, 0),
         ("point = 100\n%%\nm 1 200 5 -", None, 1),
+        ("point = 100\n%%\nt", None, 1),
         ("point = 100\n%%\nm 1 200 5 -\r\n", None, 1),
         ("point = 100\n%%\nm 1 200 5 -\nw\n", None, 2),
         ("point = 100\n%%\nm 1 200 5 -\r", Some(LineKind::Hex), 0),
@@ -388,6 +512,83 @@ fn ends_of_input(rt: HostRuntime) -> Result<(), Fail> {
             }
             Err(found) => assert_eq!(rt; Some(found), fault, "{text}"),
         }
+    }
+    Ok(())
+}
+
+fn octets(alloc: Global, bytes: &[u8]) -> Result<Octets, Memory> {
+    Octets::from_slice(alloc, bytes)
+}
+
+/// What user 8 asks for by the line below that has this place.
+fn request(alloc: Global, place: u32) -> Result<Request, Memory> {
+    let mine = Ref24::new(16_777_215).ok_or(Memory)?;
+    Ok(match place {
+        0 => Request::Conn {
+            tag: 65_535,
+            class: 2,
+            credit: 127,
+            called: octets(alloc, &[0x42, 0x09])?,
+            body: octets(alloc, &[0x01])?,
+        },
+        1 => Request::Accept {
+            mine,
+            class: 3,
+            credit: 126,
+            body: octets(alloc, &[0x02])?,
+        },
+        2 => Request::Refuse {
+            mine,
+            cause: 255,
+            body: octets(alloc, &[0x03])?,
+        },
+        3 => Request::Send {
+            mine,
+            body: octets(alloc, &[0x04, 0x44])?,
+        },
+        4 => Request::Expedite {
+            mine,
+            body: octets(alloc, &[0x05])?,
+        },
+        5 => Request::Reset { mine },
+        _ => Request::Disc {
+            mine,
+            cause: 254,
+            body: octets(alloc, &[])?,
+        },
+    })
+}
+
+/// One phase: nothing on link 0, and the requests on link 1.
+fn requests_wanted(alloc: Global) -> Result<PhaseList, Memory> {
+    let mut events = StampedList::new(alloc);
+    for place in 0..7u32 {
+        let request = request(alloc, place)?;
+        let ssn = Ssn::from(8);
+        events.push((stamp(1, 1, 4 + place), Event::Asked { ssn, request }))?;
+    }
+    let mut phase = Phase::new(alloc);
+    phase.push(StampedList::new(alloc))?;
+    phase.push(events)?;
+    let mut phases = PhaseList::new(alloc);
+    phases.push(phase)?;
+    Ok(phases)
+}
+
+/// Each request on connections, with the greatest numbers that it may have.
+#[test]
+fn connection_requests(rt: HostRuntime) -> Result<(), Fail> {
+    let lines = "u 1 8 conn 65535 2 127 4209 01
+u 1 8 accept 16777215 3 126 02
+u 1 8 refuse 16777215 255 03
+u 1 8 send 16777215 0444
+u 1 8 ed 16777215 05
+u 1 8 reset 16777215
+u 1 8 disc 16777215 254 -";
+    let wanted = requests_wanted(rt.alloc())?;
+    match capture_of(rt.alloc(), lines) {
+        Ok(capture) => assert_eq!(rt; capture.phases, wanted),
+        Err(fault) => assert_eq!(rt; Some(fault), None),
     }
     Ok(())
 }

@@ -1,7 +1,7 @@
 //! What the words of a line state.
 ghost use Rattle.std.specs.Prelude.{◌≡◌, ◌≤◌, codes, false, is_ok, IfOk};
 ghost use Rattle.capture_form.specs.Text.{is_dash, number_of};
-ghost use Rattle.capture_form.specs.Words.{below, link_of, user_of, octets_of, address_in, called_of, calling_of, body_of, return_of};
+ghost use Rattle.capture_form.specs.Words.{below, link_of, class_of, user_of, octets_of, address_in, called_of, calling_of, body_of, text_of, asks_return, is_return};
 ghost use Rattle.capture_form.specs.Refused.{States};
 ghost use Rattle.sccp_address.specs.Parsing.{address_of};
 
@@ -29,6 +29,16 @@ pub fn link(links: u8, word: &[u8]) -> Result<u8, LineKind>
 {
     match number(word) {
         Some(n) if 1 <= n && n <= u64::from(links) => Ok(n as u8),
+        _ => Err(LineKind::Number),
+    }
+}
+
+/// A class of connections, 2 or 3.
+pub fn class(word: &[u8]) -> Result<u8, LineKind>
+    ensures { result ≡ class_of word.now }
+{
+    match number(word) {
+        Some(n) if n == 2 || n == 3 => Ok(n as u8),
         _ => Err(LineKind::Number),
     }
 }
@@ -97,15 +107,27 @@ pub fn body(alloc: Global, most: usize, word: &[u8]) -> Result<Octets, LineRefus
     Ok(octets)
 }
 
-/// Whether return on error is asked.
-pub fn return_asked(word: &[u8]) -> Result<bool, LineKind>
-    ensures { result ≡ return_of word.now }
+/// One octet or more, and at most so many.
+pub fn text(alloc: Global, most: usize, word: &[u8]) -> Result<Octets, LineRefused>
+    ensures { States result (text_of most word.now) }
 {
-    if word == b"r".as_slice() {
-        Ok(true)
-    } else if is_dash(word) {
-        Ok(false)
-    } else {
-        Err(LineKind::Words)
+    let octets = body(alloc, most, word)?;
+    if octets.is_empty() {
+        return Err(LineRefused::Kind(LineKind::Size));
     }
+    Ok(octets)
+}
+
+/// Whether this is the word of return on error that is asked.
+pub fn asks_return(word: &[u8]) -> bool
+    ensures { result ≡ asks_return word.now }
+{
+    word == b"r".as_slice()
+}
+
+/// Whether a word says that return on error is asked, or that it is not.
+pub fn is_return(word: &[u8]) -> bool
+    ensures { result ≡ is_return word.now }
+{
+    asks_return(word) || is_dash(word)
 }

@@ -1,9 +1,9 @@
 -- Lemmas on what a run did.
-use Rattle.std.proofs.Common.{◌≡◌, ℕ, ◌+◌, ◌<◌, ◌++◌, List, length, take, Option, Some, None, Result, Ok, Err, OnOk, OnErr, IfSome, sym, ap, ◌∙◌, refl, inl, inr, subst, arith, length-append, lt-ltb}
+use Rattle.std.proofs.Common.{◌≡◌, ℕ, ◌+◌, ◌<◌, List, length, Some, None, Result, Ok, Err, OnOk, OnErr, IfSome, sym, ap, ◌∙◌, refl, inl, inr, subst, arith, length-append, lt-ltb}
 use Rattle.std.proofs.lemmas.List.{take_all}
 use Rattle.std.proofs.KnownBytes.{Consumes-whole}
-use Rattle.std.specs.Io.KnownBytes.{Consumes, Appends}
-use Rattle.relay_base.specs.Causes.{Rose, HasCause}
+use Rattle.std.specs.Io.KnownBytes.{Appends}
+use Rattle.relay_base.specs.Causes.{HasCause}
 use Rattle.relay_base.specs.Streams.{TookMore, AppendedPart}
 use Rattle.relay_base.specs.declared.errors.Failed.{Failed}
 use Rattle.journal_text.specs.declared.book.Book.{Book}

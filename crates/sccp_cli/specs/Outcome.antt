@@ -10,7 +10,6 @@ use Rattle.capture_form.specs.declared.fault.CaptureFault.{CaptureFault}
 use Rattle.capture_form.specs.declared.fault.CaptureFault.TheVariants as refused
 use Rattle.capture_form.specs.declared.fault.LineFault.{LineFault}
 use Rattle.capture_form.specs.declared.fault.Limit.{Limit}
-use Rattle.capture_form.specs.declared.fault.Limit.TheVariants as limit
 use Rattle.capture_form.specs.declared.capture.Capture.{Capture}
 use Rattle.journal_text.specs.declared.book.Book.{Book}
 use Rattle.journal_text.specs.Book.{IsEmpty}

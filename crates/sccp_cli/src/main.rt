@@ -1,10 +1,13 @@
 //! The node: reads a capture, runs it, and prints its journals.
 #![tactic(auto)]
 
+mod node;
 mod relay;
 mod run;
 #[cfg(test)]
 mod tests;
+#[cfg(test)]
+mod texts;
 
 use capture_form::Book;
 use relay::relay;

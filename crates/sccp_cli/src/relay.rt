@@ -7,6 +7,8 @@ ghost use Rattle.node_head.specs.Addable.{are_addable};
 ghost use Rattle.capture_form.specs.Capture.{capture_of};
 ghost use Rattle.journal_text.specs.Print.{book_text};
 ghost use Rattle.capture_form.specs.Capture.{IsStamped};
+ghost use Rattle.sccp_cli.specs.Heads.{HasOneLane};
+ghost use Rattle.sccp_cli.specs.Placed.{IsTakeable};
 ghost use Rattle.sccp_cli.specs.Outcome.{ReadAs, Refused, Untouched, Partly, Filled, Done, DonePartly, PassesLimit, Stands, Stopped, IsHeadFault, IsLineFault, Says, note_of, status_of, plain_note, IsDue, is_run};
 
 use crate::run::run_capture;
@@ -50,8 +52,10 @@ fn refusal(alloc: Global, fault: CaptureFault) -> Stop
 /// The capture that the source gives.
 fn take_capture<S: Source>(alloc: Global, source: &mut S) -> Result<Capture, Stop>
     ensures ok { IfOk result (λ capture. ReadAs (S.left source.old) (S.left source.new) (λ parts. parts ≡ Ok capture)) }
+    ensures lanes { IfOk result (λ capture. HasOneLane capture.head) }
     ensures stamped { IfOk result (λ capture. IsStamped capture.head capture.phases) }
     ensures addable { IfOk result (λ capture. IsTrue (are_addable [] capture.head.row)) }
+    ensures takeable { IfOk result (λ capture. IsTakeable capture.head capture.phases) }
     ensures refused { IfErr result (Refused (S.left source.old) (S.left source.new)) }
     ensures fault { result ≡ Err Stop.ReadFault → Rose (S.faults source.old) (S.faults source.new) }
     ensures kept { result ≢ Err Stop.ReadFault → S.faults source.new ≡ S.faults source.old }
@@ -77,8 +81,10 @@ fn run_and_print<R: Threads + Wait + Sync, K: Sink, P: Pace>(
     pace: &P,
     book: &mut Book,
 ) -> Result<(), Stop>
+    requires lanes { HasOneLane capture.now.head }
     requires stamped { IsStamped capture.now.head capture.now.phases }
     requires addable { IsTrue (are_addable [] capture.now.head.row) }
+    requires takeable { IsTakeable capture.now.head capture.now.phases }
     requires empty { IsEmpty book.old }
     ensures ok { OnOk result (Filled (K.held out.old) (K.held out.new) capture.now book.new) }
     ensures stopped { IfErr result (Partly (K.held out.old) (K.held out.new) capture.now book.new) }

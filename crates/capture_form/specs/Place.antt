@@ -1,0 +1,102 @@
+-- In which lane an event stands, by the head and the event alone.
+use Rattle.std.specs.Prelude.{ℕ, ◌+◌, ◌%◌, ◌==◌, ◌||◌, ◌&&◌, nat_lt, not, Bool, true, false, List, length, slice_index, if◌then◌else◌, Option, Some, None, Ok, Err}
+use Rattle.std.specs.declared.result.Result.{Result}
+use Rattle.relay_base.specs.declared.words.ReadFault.{ReadFault}
+use Rattle.relay_base.specs.declared.words.Event.{Event}
+use Rattle.relay_base.specs.declared.words.Event.TheVariants.{Message as Arrived, Asked as Requested, Tick}
+use Rattle.relay_base.specs.declared.words.Request.{Request}
+use Rattle.relay_base.specs.declared.words.Request.TheVariants as request
+use Rattle.sccp_address.specs.Form.{Form}
+use Rattle.sccp_address.specs.Parsing.{address_of}
+use Rattle.sccp_address.specs.declared.address.AddressFault.{AddressFault}
+use Rattle.q713_codec.specs.declared.message.Message.{Message}
+use Rattle.q713_codec.specs.declared.message.Message.TheVariants.{Cr, Cc, Cref, Rlsd, Rlc, Dt1, Dt2, Ak, Udt, Udts, Ed, Ea, Rsr, Rsc, Err as Error, It, Xudt, Xudts, Ludt, Ludts}
+use Rattle.q713_codec.specs.Reading.{reading_of}
+use Rattle.node_head.specs.declared.head.Head.{Head}
+use Rattle.capture_form.specs.declared.lane_place.LanePlace.{LanePlace}
+use Rattle.capture_form.specs.declared.lane_place.LanePlace.TheVariants.{All, Control, Conn, Unit as Data}
+
+-- the lane of a number, among so many
+abbrev pub lane_among : ℕ → ℕ → ℕ
+lane_among lanes number = if lanes == 0 then 0 else number % lanes
+
+abbrev pub in_conn : Head → ℕ → LanePlace
+in_conn head number = Conn (lane_among head.conn_lanes number)
+
+abbrev pub in_data : Head → ℕ → LanePlace
+in_data head number = Data (lane_among head.data_lanes number)
+
+-- a local reference has its lane in the last four bits
+abbrev pub of_reference : Head → ℕ → LanePlace
+of_reference head reference = in_conn head (reference % 16)
+
+-- an address that routes on the subsystem number of management, which is 1
+abbrev pub is_one : Option ℕ → Bool
+is_one None = false
+is_one (Some ssn) = ssn == 1
+
+abbrev pub is_for_management_by : Result Form AddressFault → Bool
+is_for_management_by (Ok a) = a.on_ssn && is_one a.ssn
+is_for_management_by (Err fault) = false
+
+abbrev pub is_for_management : List ℕ → Bool
+is_for_management called = is_for_management_by (address_of called)
+
+-- UDT, by its called address
+abbrev pub place_of_udt : Head → ℕ → List ℕ → LanePlace
+place_of_udt head sls called = if is_for_management called then Control else in_data head sls
+
+-- CR goes by where it comes from, and a message of a connection by the reference that it is for
+unfoldable pub place_of_message : Head → ℕ → ℕ → Message → LanePlace
+place_of_message head opc sls (Cr slr _ _ _ _ _ _ _) = in_conn head (opc + slr)
+place_of_message head opc sls (Cc dlr _ _ _ _ _ _) = of_reference head dlr
+place_of_message head opc sls (Cref dlr _ _ _ _) = of_reference head dlr
+place_of_message head opc sls (Rlsd dlr _ _ _ _) = of_reference head dlr
+place_of_message head opc sls (Rlc dlr _) = of_reference head dlr
+place_of_message head opc sls (Dt1 dlr _ _) = of_reference head dlr
+place_of_message head opc sls (Dt2 dlr _ _) = of_reference head dlr
+place_of_message head opc sls (Ak dlr _ _) = of_reference head dlr
+place_of_message head opc sls (Udt _ called _ _) = place_of_udt head sls called
+place_of_message head opc sls (Udts _ _ _ _) = in_data head sls
+place_of_message head opc sls (Ed dlr _) = of_reference head dlr
+place_of_message head opc sls (Ea dlr) = of_reference head dlr
+place_of_message head opc sls (Rsr dlr _ _) = of_reference head dlr
+place_of_message head opc sls (Rsc dlr _) = of_reference head dlr
+place_of_message head opc sls (Error dlr _) = of_reference head dlr
+place_of_message head opc sls (It dlr _ _ _ _) = of_reference head dlr
+place_of_message head opc sls (Xudt _ _ _ _ _ _ _) = in_data head sls
+place_of_message head opc sls (Xudts _ _ _ _ _ _ _) = in_data head sls
+place_of_message head opc sls (Ludt _ _ _ _ _ _ _) = in_data head sls
+place_of_message head opc sls (Ludts _ _ _ _ _ _ _) = in_data head sls
+
+-- octets that don't read are a data lane's to lose
+abbrev pub place_of_reading : Head → ℕ → ℕ → Result Message ReadFault → LanePlace
+place_of_reading head opc sls (Ok message) = place_of_message head opc sls message
+place_of_reading head opc sls (Err fault) = in_data head sls
+
+-- longer than a message may be that isn't LUDT or LUDTS
+abbrev pub is_too_long : List ℕ → Bool
+is_too_long bytes = nat_lt 268 (length bytes) && not (slice_index bytes 0 == 0x13 || slice_index bytes 0 == 0x14)
+
+abbrev pub place_of_octets : Head → ℕ → ℕ → List ℕ → LanePlace
+place_of_octets head opc sls bytes =
+    if is_too_long bytes then in_data head sls else place_of_reading head opc sls (reading_of bytes)
+
+-- a request for a connection goes by its tag, one on a connection by its reference
+unfoldable pub place_of_request : Head → Request → LanePlace
+place_of_request head (request.Unit sls _ _ _ _ _) = in_data head sls
+place_of_request head (request.Conn tag _ _ _ _) = in_conn head tag
+place_of_request head (request.Accept mine _ _ _) = of_reference head mine
+place_of_request head (request.Refuse mine _ _) = of_reference head mine
+place_of_request head (request.Send mine _) = of_reference head mine
+place_of_request head (request.Expedite mine _) = of_reference head mine
+place_of_request head (request.Reset mine) = of_reference head mine
+place_of_request head (request.Disc mine _ _) = of_reference head mine
+place_of_request head request.Coord = Control
+place_of_request head (request.Grant point) = Control
+
+-- a tick stands in every lane
+unfoldable pub place_of : Head → Event → LanePlace
+place_of head (Arrived opc sls bytes) = place_of_octets head opc sls bytes
+place_of head (Requested ssn r) = place_of_request head r
+place_of head Tick = All

@@ -1,0 +1,181 @@
+-- A lane with one more entry.
+use Rattle.std.proofs.Common.{◌≡◌, ℕ, ◌≤◌, ◌<◌, ◌+◌, ◌^◌, OnErr, Ok, Err, Bool, true, false, List, [], ◌∷◌, ◌++◌, length, map, refl, sym, subst, ap, ◌∙◌, arith, append-nil, length-append}
+use Rattle.std.specs.declared.result.Result.{Result}
+use Rattle.std.specs.Prelude.{Option, Some, None, option_map, is_some, flat_map}
+use Rattle.std.proofs.lemmas.List.{map-append}
+use Rattle.relay_base.specs.declared.words.Event.{Event}
+use Rattle.relay_base.specs.declared.words.Event.TheVariants.{Message as Arrived, Asked as Requested, Tick}
+use Rattle.relay_base.specs.declared.words.Output.{Output}
+use Rattle.plant_core.specs.Plant.{PlantState}
+use Rattle.plant_core.specs.declared.answer.Answer.{Answer}
+use Rattle.plant_core.specs.declared.entry.Asked.{Asked}
+use Rattle.plant_core.specs.declared.entry.Entry.{Entry}
+use Rattle.plant_core.specs.declared.terms.LaneHead.{LaneHead}
+use Rattle.plant_core.specs.declared.terms.Terms.{Terms}
+use Rattle.connectionless.specs.Asking.{Question}
+use Rattle.data_lane.specs.Legal.{asked_at, answer_in}
+use Rattle.section_model.specs.Ends.{Connection}
+use Rattle.section_model.specs.Opening.{Wish, by_cr, by_user, no_wish, wish_of, question_of, slots_needed, opened, Opened}
+use Rattle.section_model.specs.Lane.{Lane, Opening, with_event, opening_of, opening_list, openings_after, openings_from, legal_outputs, other_outputs, outputs_by, lowest_free, answer_of, IsLegalEntry, IsConnectionJournal}
+use Rattle.section_model.proofs.Growing.{grows}
+use Rattle.plant_core.specs.declared.terms.Ticks.{Ticks}
+use Rattle.section_coupling.specs.Duos.{DuoState, duo_at, taken_after}
+use Rattle.section_coupling.specs.Openings.{is_wish, IsAnswered}
+use Rattle.conn_lane.specs.Keeping.{Keeping, keeping_of, keeping_after, lowest_in}
+use Rattle.conn_lane.specs.Views.{KeptState, keeping_all}
+use Rattle.conn_lane.specs.Laws.{KeepsAll}
+use Rattle.conn_lane.specs.Lanes.{lane_of, conn_asked_of}
+use Rattle.conn_lane.specs.Turns.{opened_in, other_outs_in, outs_in, new_keeping, keeps_in, Keeps, IsConnLane}
+use Rattle.conn_lane.specs.Grown.{Grows}
+use Rattle.conn_lane.proofs.Keeps.{keeps_all}
+
+abbrev kept_of : Lane → List Opening → List Keeping
+kept_of lane openings = map (keeping_of lane.terms.ticks) openings
+
+-- the opening by what is kept
+opens-alike : (lane : Lane) (openings : List Opening) (wish : Wish) (answer : Option Answer) → opening_of lane openings wish answer ≡ opened_in lane (kept_of lane openings) wish answer
+opens-alike lane openings wish answer = ap (opened lane.terms wish answer) (keeps_all.free lane openings (slots_needed wish answer))
+
+others-alike : (lane : Lane) (openings : List Opening) (event : Event) → other_outputs lane openings event ≡ other_outs_in (kept_of lane openings) event
+others-alike lane openings (Arrived point sls bytes) = keeps_all.heard lane.terms.ticks openings (Arrived point sls bytes)
+others-alike lane openings (Requested ssn r) = keeps_all.heard lane.terms.ticks openings (Requested ssn r)
+others-alike lane openings Tick = keeps_all.ticked lane.terms.ticks openings Tick
+
+outs-by : (lane : Lane) (openings : List Opening) (event : Event) (wish : Wish) (answer : Option Answer) → outputs_by lane openings event wish answer ≡ outs_in lane (kept_of lane openings) event wish answer
+outs-by lane openings event (by_cr w) answer = ap (λ o. o.outs) (opens-alike lane openings (by_cr w) answer)
+outs-by lane openings event (by_user ssn tag w) answer = ap (λ o. o.outs) (opens-alike lane openings (by_user ssn tag w) answer)
+outs-by lane openings event no_wish answer = others-alike lane openings event
+
+outs-alike : (lane : Lane) (openings : List Opening) (event : Event) (answer : Option Answer) → legal_outputs lane openings event answer ≡ outs_in lane (kept_of lane openings) event (wish_of lane.terms event) answer
+unfolding legal_outputs
+outs-alike lane openings event answer = outs-by lane openings event (wish_of lane.terms event) answer
+
+events-alike : (lane : Lane) (event : Event) (openings : List Opening) → map (keeping_of lane.terms.ticks) (map (with_event event) openings) ≡ map (keeping_after event) (kept_of lane openings)
+events-alike lane event [] = refl
+events-alike lane event (o ∷ openings) = rw (keeps_all.after lane.terms.ticks o event) (ap (λ more. keeping_after event (keeping_of lane.terms.ticks o) ∷ more) (events-alike lane event openings))
+
+new-alike : (lane : Lane) (c : Option Connection) → map (keeping_of lane.terms.ticks) (opening_list c) ≡ new_keeping lane.terms.ticks c
+new-alike lane None = refl
+new-alike lane (Some c) = refl
+
+keeps-alike : (lane : Lane) (openings : List Opening) (event : Event) (answer : Option Answer) → kept_of lane (openings_after lane openings event answer) ≡ keeps_in lane (kept_of lane openings) event (wish_of lane.terms event) answer
+unfolding openings_after
+keeps-alike lane openings event answer =
+    let c = (opening_of lane openings (wish_of lane.terms event) answer).connection in
+    map-append (keeping_of lane.terms.ticks) (map (with_event event) openings) (opening_list c)
+    ∙ (ap (λ more. more ++ map (keeping_of lane.terms.ticks) (opening_list c)) (events-alike lane event openings)
+    ∙ (ap (λ more. map (keeping_after event) (kept_of lane openings) ++ more) (new-alike lane c)
+    ∙ ap (λ o. map (keeping_after event) (kept_of lane openings) ++ new_keeping lane.terms.ticks o.connection) (opens-alike lane openings (wish_of lane.terms event) answer)))
+
+openings-more : (lane : Lane) (openings : List Opening) (journal : List Entry) (entry : Entry) → openings_from lane openings (journal ++ entry ∷ []) ≡ openings_after lane (openings_from lane openings journal) entry.event (answer_of entry)
+openings-more lane openings [] entry = refl
+openings-more lane openings (first ∷ journal) entry = openings-more lane (openings_after lane openings first.event (answer_of first)) journal entry
+
+-- an event is asked for where it asks
+pub answered : (edition : ℕ) (routing : _) (q : Option Question) → is_some (answer_in (asked_at edition routing q)) ≡ is_some q
+answered edition routing None = refl
+answered edition routing (Some q) = refl
+
+routed : (edition : ℕ) (routing : _) (q : Option Question) → is_some (asked_at edition routing q) ≡ is_some q
+routed edition routing None = refl
+routed edition routing (Some q) = refl
+
+later : (taken : ℕ) (event : Event) (n : ℕ) → taken ≤ n → taken_after taken event ≤ n + 1
+later taken (Arrived point sls bytes) n few = omega (arith, few)
+later taken (Requested ssn r) n few = omega (arith, few)
+later taken Tick n few = omega (arith, few)
+
+pub lane_grows : (plant : PlantState) (head : LaneHead) (number : ℕ) (journal : List Entry) (taken : ℕ) (kept kept' : List KeptState) (entry : Entry)
+    → IsConnLane head number journal taken kept false → Grows plant head number taken kept kept' entry
+    → IsConnLane head number (journal ++ entry ∷ []) (taken_after taken entry.event) kept' false
+lane_grows plant head number journal taken kept kept' entry lane more =
+    let openings = openings_from (lane_of head number) [] journal in
+    let same : keeping_all taken kept ≡ kept_of (lane_of head number) openings = lane.keeps refl in
+    let outs : entry.outs ≡ legal_outputs (lane_of head number) openings entry.event (answer_of entry) =
+    subst (λ keeps. entry.outs ≡ outs_in (lane_of head number) keeps entry.event (wish_of head.terms entry.event) (answer_of entry)) same more.outs
+    ∙ sym (outs-alike (lane_of head number) openings entry.event (answer_of entry)) in
+    let legal : IsLegalEntry (lane_of head number) openings entry =
+    record { routed = ap is_some more.asked ∙ routed plant.edition plant.routing (question_of (wish_of head.terms entry.event)); outputs = outs } in
+    record {
+      legal = grows (lane_of head number) journal entry lane.legal legal;
+      keeps = λ e.
+          subst (λ keeps. keeping_all (taken_after taken entry.event) kept' ≡ keeps_in (lane_of head number) keeps entry.event (wish_of head.terms entry.event) (answer_of entry)) same more.keeps
+          ∙ (sym (keeps-alike (lane_of head number) openings entry.event (answer_of entry))
+          ∙ ap (kept_of (lane_of head number)) (sym (openings-more (lane_of head number) [] journal entry)));
+      few = rw (length-append journal (entry ∷ [])) (later taken entry.event (length journal) lane.few);
+      lanes = lane.lanes;
+    }
+
+-- want of memory spoils what is kept, and nothing else
+pub lane_spent : (head : LaneHead) (number : ℕ) (journal : List Entry) (taken : ℕ) (kept kept' : List KeptState) (b : Bool) → IsConnLane head number journal taken kept b → IsConnLane head number journal taken kept' true
+lane_spent head number journal taken kept kept' b lane = record { legal = lane.legal; keeps = λ e. absurd (cc); few = lane.few; lanes = lane.lanes }
+
+-- An event that opens no connection, and one that opens one.
+
+pub none_asked : (wish : Wish) → is_wish wish ≡ false → question_of wish ≡ None
+unfolding question_of
+none_asked (by_cr w) e = absurd (cc)
+none_asked (by_user ssn tag w) e = absurd (cc)
+none_asked no_wish e = refl
+
+pub other_keeps : (lane : Lane) (keeps : List Keeping) (event : Event) (wish : Wish) (answer : Option Answer) → is_wish wish ≡ false → map (keeping_after event) keeps ≡ keeps_in lane keeps event wish answer
+unfolding opened
+other_keeps lane keeps event (by_cr w) answer e = absurd (cc)
+other_keeps lane keeps event (by_user ssn tag w) answer e = absurd (cc)
+other_keeps lane keeps event no_wish answer e = sym (append-nil (map (keeping_after event) keeps))
+
+pub open_outs : (lane : Lane) (keeps : List Keeping) (event : Event) (wish : Wish) (answer : Option Answer) → is_wish wish ≡ true → outs_in lane keeps event wish answer ≡ (opened_in lane keeps wish answer).outs
+open_outs lane keeps event (by_cr w) answer e = refl
+open_outs lane keeps event (by_user ssn tag w) answer e = refl
+open_outs lane keeps event no_wish answer e = absurd (cc)
+
+pub open_taken : (terms : Terms) (now : ℕ) (event : Event) → is_wish (wish_of terms event) ≡ true → taken_after now event ≡ now
+unfolding wish_of
+open_taken terms now (Arrived point sls bytes) e = refl
+open_taken terms now (Requested ssn r) e = refl
+open_taken terms now Tick e = absurd (cc)
+
+none-by : (wish : Wish) → slots_needed wish None ≡ 0
+unfolding slots_needed
+none-by (by_cr w) = refl
+none-by (by_user ssn tag w) = refl
+none-by no_wish = refl
+
+pub none_needed : (terms : Terms) (event : Event) → slots_needed (wish_of terms event) None ≡ 0
+none_needed terms event = none-by (wish_of terms event)
+
+pub opens_answered : (head : LaneHead) (plant : PlantState) (event : Event) (asked : Option Asked) (answer : Option Answer) → asked ≡ conn_asked_of head plant event → answer ≡ answer_in asked → IsAnswered (wish_of head.terms event) answer
+opens_answered head plant event asked answer e f = ap is_some (f ∙ ap answer_in e) ∙ answered plant.edition plant.routing (question_of (wish_of head.terms event))
+
+-- what is opened, from the code's references and answer
+pub opens_so : (lane : Lane) (keeps : List Keeping) (wish : Wish) (answer given : Option Answer) (count : ℕ) (refs : List ℕ) (o : Opened) → given ≡ answer → count ≡ slots_needed wish given → refs ≡ lowest_in lane keeps count → opened lane.terms wish given refs ≡ o
+    → opened_in lane keeps wish answer ≡ o
+opens_so lane keeps wish answer given count refs o e f g h =
+    subst (λ a. opened_in lane keeps wish a ≡ o) e
+    (ap (λ n. opened lane.terms wish given (lowest_in lane keeps n)) (sym f) ∙ (ap (opened lane.terms wish given) (sym g) ∙ h))
+
+pub opened_outs : (lane : Lane) (keeps : List Keeping) (event : Event) (wish : Wish) (answer : Option Answer) (o : Opened) → is_wish wish ≡ true → opened_in lane keeps wish answer ≡ o → o.outs ≡ outs_in lane keeps event wish answer
+opened_outs lane keeps event wish answer o e f = sym (open_outs lane keeps event wish answer e ∙ ap (λ x. x.outs) f)
+
+pub opened_keeps : (lane : Lane) (keeps : List Keeping) (event : Event) (wish : Wish) (answer : Option Answer) (o : Opened) (later : List Keeping) → opened_in lane keeps wish answer ≡ o → later ≡ map (keeping_after event) keeps ++ new_keeping lane.terms.ticks o.connection → later ≡ keeps_in lane keeps event wish answer
+opened_keeps lane keeps event wish answer o later f e = e ∙ ap (λ x. map (keeping_after event) keeps ++ new_keeping lane.terms.ticks x.connection) (sym f)
+
+pub other_outs : (lane : Lane) (keeps : List Keeping) (event : Event) (wish : Wish) (answer : Option Answer) → is_wish wish ≡ false → other_outs_in keeps event ≡ outs_in lane keeps event wish answer
+other_outs lane keeps event (by_cr w) answer e = absurd (cc)
+other_outs lane keeps event (by_user ssn tag w) answer e = absurd (cc)
+other_outs lane keeps event no_wish answer e = refl
+
+pub none_asked_of : (head : LaneHead) (plant : PlantState) (event : Event) → is_wish (wish_of head.terms event) ≡ false → conn_asked_of head plant event ≡ None
+none_asked_of head plant event e = ap (asked_at plant.edition plant.routing) (none_asked (wish_of head.terms event) e)
+
+pub few_taken : (taken n : ℕ) → taken ≤ n → n < 2 ^ 32 → taken ≤ 4_294_967_295
+few_taken taken n e f = omega (arith, e, f)
+
+pub on_err : {A E : Type 0} (r : Result A E) (P : Type 0) → P → OnErr r P
+on_err (Ok a) P p = tt
+on_err (Err e) P p = p
+
+pub opened_after : (ticks : Ticks) (t taken : ℕ) (kept1 kept2 : List KeptState) (duo : Option DuoState) (keeps : List Keeping) → t ≡ taken → keeping_all t kept2 ≡ keeping_all t kept1 ++ new_keeping ticks (option_map (duo_at t) duo) → keeping_all t kept1 ≡ keeps
+    → keeping_all t kept2 ≡ keeps ++ new_keeping ticks (option_map (duo_at taken) duo)
+opened_after ticks t taken kept1 kept2 duo keeps same e f =
+    e ∙ (ap (λ more. more ++ new_keeping ticks (option_map (duo_at t) duo)) f ∙ ap (λ n. keeps ++ new_keeping ticks (option_map (duo_at n) duo)) same)

@@ -1,0 +1,37 @@
+-- What a connection lane is seen as, and what it does with an event.
+use Rattle.std.specs.Prelude.{◌≡◌, ℕ, List, [], ◌∷◌, ◌++◌, Option, None}
+use Rattle.relay_base.specs.declared.words.Event.{Event}
+use Rattle.relay_base.specs.declared.words.Stamp.{Stamp}
+use Rattle.plant_core.specs.Plant.{PlantState}
+use Rattle.plant_core.specs.declared.entry.Asked.{Asked}
+use Rattle.plant_core.specs.declared.entry.Entry.{Entry}
+use Rattle.plant_core.specs.declared.terms.LaneHead.{LaneHead}
+use Rattle.data_lane.specs.Legal.{asked_at}
+use Rattle.section_model.specs.Opening.{Wish, by_cr, by_user, no_wish, wish_of, question_of}
+use Rattle.section_model.specs.Lane.{Lane, IsConnectionJournal}
+
+pub record ConnLaneState : Type 0 where
+  pub head : LaneHead
+  pub number : ℕ
+  pub journal : List Entry
+
+abbrev pub lane_of : LaneHead → ℕ → Lane
+lane_of head number = record { terms = head.terms; number = number }
+
+-- the journal of the connection lane of this number
+abbrev pub IsConnJournal : LaneHead → ℕ → List Entry → Type 0
+IsConnJournal head number journal = IsConnectionJournal (lane_of head number) journal
+
+-- the routing that an event asks, at the edition of these routing data
+abbrev pub conn_asked_of : LaneHead → PlantState → Event → Option Asked
+conn_asked_of head plant e = asked_at plant.edition plant.routing (question_of (wish_of head.terms e))
+
+-- an event was taken with these routing data: the journal has one entry more
+pub record Takes (plant : PlantState) (stamp : Stamp) (e : Event) (old new : ConnLaneState) : Type 0 where
+  pub entry : Entry
+  pub journal : new.journal ≡ old.journal ++ entry ∷ []
+  pub stamped : entry.stamp ≡ stamp
+  pub of_event : entry.event ≡ e
+  pub answered : entry.asked ≡ conn_asked_of old.head plant e
+  pub head : new.head ≡ old.head
+  pub number : new.number ≡ old.number

@@ -1,0 +1,51 @@
+-- What comes of an event in a connection lane, from what it keeps of its openings.
+use Rattle.std.specs.Prelude.{◌≡◌, ℕ, ◌≤◌, ◌<◌, Bool, false, List, [], ◌∷◌, ◌++◌, length, map, Option, Some, None}
+use Rattle.relay_base.specs.declared.words.Event.{Event}
+use Rattle.relay_base.specs.declared.words.Event.TheVariants.{Message as Arrived, Asked as Requested, Tick}
+use Rattle.relay_base.specs.declared.words.Output.{Output}
+use Rattle.plant_core.specs.declared.answer.Answer.{Answer}
+use Rattle.plant_core.specs.declared.entry.Entry.{Entry}
+use Rattle.plant_core.specs.declared.terms.LaneHead.{LaneHead}
+use Rattle.plant_core.specs.declared.terms.Ticks.{Ticks}
+use Rattle.section_model.specs.Ends.{Connection}
+use Rattle.section_model.specs.Opening.{Wish, by_cr, by_user, no_wish, slots_needed, opened, Opened}
+use Rattle.section_model.specs.Lane.{Lane, Opening, stray_answer, openings_from}
+use Rattle.conn_lane.specs.Keeping.{Keeping, keeping_of, keeping_after, first_part, all_parts, lowest_in}
+use Rattle.conn_lane.specs.Views.{KeptState, keeping_all}
+use Rattle.conn_lane.specs.Laws.{unheard}
+use Rattle.conn_lane.specs.Lanes.{IsConnJournal, lane_of}
+
+-- the opening for a wish, with the lowest free references
+abbrev pub opened_in : Lane → List Keeping → Wish → Option Answer → Opened
+opened_in lane keeps wish answer = opened lane.terms wish answer (lowest_in lane keeps (slots_needed wish answer))
+
+abbrev pub other_outs_in : List Keeping → Event → List Output
+other_outs_in keeps (Arrived point sls bytes) = unheard (first_part (Arrived point sls bytes) keeps) (stray_answer (Arrived point sls bytes))
+other_outs_in keeps (Requested ssn r) = unheard (first_part (Requested ssn r) keeps) (stray_answer (Requested ssn r))
+other_outs_in keeps Tick = all_parts Tick keeps
+
+abbrev pub outs_in : Lane → List Keeping → Event → Wish → Option Answer → List Output
+outs_in lane keeps event (by_cr w) answer = (opened_in lane keeps (by_cr w) answer).outs
+outs_in lane keeps event (by_user ssn tag w) answer = (opened_in lane keeps (by_user ssn tag w) answer).outs
+outs_in lane keeps event no_wish answer = other_outs_in keeps event
+
+-- what is kept of a new connection
+abbrev pub new_keeping : Ticks → Option Connection → List Keeping
+new_keeping ticks None = []
+new_keeping ticks (Some c) = keeping_of ticks (record { first = c; since = [] }) ∷ []
+
+abbrev pub keeps_in : Lane → List Keeping → Event → Wish → Option Answer → List Keeping
+keeps_in lane keeps event wish answer =
+    map (keeping_after event) keeps ++ new_keeping lane.terms.ticks (opened_in lane keeps wish answer).connection
+
+-- what the lane keeps is that of its journal's openings
+abbrev pub Keeps : LaneHead → ℕ → List Entry → ℕ → List KeptState → Type 0
+Keeps head number journal taken kept =
+    keeping_all taken kept ≡ map (keeping_of head.terms.ticks) (openings_from (lane_of head number) [] journal)
+
+-- the journal is legal, and unless want of memory spoilt it the lane keeps what it has to
+pub record IsConnLane (head : LaneHead) (number : ℕ) (journal : List Entry) (taken : ℕ) (kept : List KeptState) (spent : Bool) : Type 0 where
+  pub legal : IsConnJournal head number journal
+  pub keeps : spent ≡ false → Keeps head number journal taken kept
+  pub few : taken ≤ length journal
+  pub lanes : number < 16
