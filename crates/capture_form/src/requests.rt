@@ -1,5 +1,5 @@
 //! What a user asks for in the words of a request.
-ghost use Rattle.std.specs.Prelude.{◌≡◌, ◌<◌, map};
+ghost use Rattle.std.specs.Prelude.{◌≡◌, map};
 ghost use Rattle.capture_form.specs.Refused.{States};
 ghost use Rattle.capture_form.specs.Requests.{unit_of, unit_asked, conn_of, conn_asked, accept_asked, refuse_asked, send_asked, ed_asked, reset_asked, disc_asked, is_later_request, is_unit, is_request, request_of};
 
