@@ -12,6 +12,7 @@ use Rattle.section_model.specs.declared.hand.Kept.{Kept}
 use Rattle.section_model.specs.declared.input.Input.{Input}
 use Rattle.section_model.specs.declared.input.Input.TheVariants as input
 use Rattle.section_model.specs.Parameters.{Arrival, arrival_in}
+use Rattle.section_model.specs.Ends.{DataUnit, Windows}
 use Rattle.q713_codec.specs.Writing.{InRange}
 
 -- at least so many octets, and at most so many
@@ -63,6 +64,18 @@ ActedWithin acted = HandsWithin acted.first × HandsWithin acted.then
 
 abbrev pub KeptWithin : Kept → Type 0
 KeptWithin kept = IsData kept.body
+
+-- the same of units that wait, and of expedited data that wait
+abbrev pub UnitsWithin : List DataUnit → Type 0
+UnitsWithin [] = Unit {0}
+UnitsWithin (u ∷ units) = IsWithin 1 255 u.body × UnitsWithin units
+
+abbrev pub ExpeditedWithin : Option (List ℕ) → Type 0
+ExpeditedWithin None = Unit {0}
+ExpeditedWithin (Some body) = IsWithin 1 32 body
+
+abbrev pub WindowsWithin : Windows → Type 0
+WindowsWithin w = UnitsWithin w.waits × ExpeditedWithin w.waiting
 
 abbrev pub ArrivalWithin : Arrival → Type 0
 ArrivalWithin a = IsAddress a.parameters.called × IsData a.parameters.body × IsDataOf a.occasion a.parameters.data_octets

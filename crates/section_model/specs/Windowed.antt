@@ -122,11 +122,14 @@ passes_reset (hand.Reset cause) x = (
 )
 passes_reset _ x = (x, no_effect)
 
--- So many of the units that came in here left on the other end, and EA is sent where the expedited data did.
+-- So many of the units that came in here left on the other end, and no more than came; EA is sent where the expedited data did.
+abbrev pub passed_after : ℕ → Windows → ℕ
+passed_after units w = min (w.passed + units) (length w.got)
+
 abbrev pub left : Hand → Windowed → Windowed × Acted
-left (hand.Left units false) x = (record x { windows = record x.windows { passed = x.windows.passed + units } }, no_effect)
+left (hand.Left units false) x = (record x { windows = record x.windows { passed = passed_after units x.windows } }, no_effect)
 left (hand.Left units true) x = (
-  record x { windows = record x.windows { passed = x.windows.passed + units; owed = false } },
+  record x { windows = record x.windows { passed = passed_after units x.windows; owed = false } },
   gives (sent_on x.head (Ea x.head.other) ∷ []),
 )
 left _ x = (x, no_effect)
