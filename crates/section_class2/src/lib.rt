@@ -10,3 +10,4 @@ mod taking;
 mod tests;
 
 pub use line::Line;
+pub use sending::{copied, copied_octets, sent_on};

@@ -29,7 +29,7 @@ pub fn copied(octets: &Option<Octets>) -> Result<Option<Octets>, Memory>
 }
 
 /// A message on a section.
-fn sent_on(alloc: Global, wire: &WireHead, message: &Message) -> Result<Output, Memory>
+pub fn sent_on(alloc: Global, wire: &WireHead, message: &Message) -> Result<Output, Memory>
     requires { InRange message.now }
     ensures { IfOk result (λ output. output ≡ sent_on (section_of wire.now) message.now) }
 {

@@ -1,0 +1,103 @@
+//! The messages that a section sends in class 3 alone.
+ghost use Rattle.std.specs.Prelude.{◌≡◌, ◌<◌, ◌*◌, ◌+◌, [], ◌∷◌, IfOk, if◌then◌else◌};
+ghost use Rattle.q713_codec.specs.declared.message.Message.TheVariants.{Dt2, Ak, Ed, Ea, Rsr, Rsc, It};
+ghost use Rattle.section_model.specs.Ends.{section_of};
+ghost use Rattle.section_model.specs.Line.{sent_on};
+ghost use Rattle.section_model.specs.Lengths.{IsWithin};
+
+use q713_codec::Message;
+use relay_base::{Memory, Octets, Output};
+use section_class2::{copied_octets, sent_on};
+use section_model::{Unit, WireHead};
+use std::alloc::Global;
+
+/// DT2 with a unit of data, and with P(S) and P(R) below 128.
+pub fn numbered(
+    alloc: Global,
+    wire: &WireHead,
+    ps: u8,
+    pr: u8,
+    unit: &Unit,
+) -> Result<Output, Memory>
+    requires body { IsWithin 1 255 unit.now.body }
+    requires numbers { (ps < 128) × (pr < 128) }
+    ensures { IfOk result (λ output. output ≡ sent_on (section_of wire.now) (Dt2 wire.now.other (2 * ps ∷ (2 * pr + (if unit.now.more then 1 else 0)) ∷ []) unit.now.body)) }
+{
+    let message = Message::Dt2 {
+        dlr: wire.other,
+        sequencing: [2 * ps, 2 * pr + u8::from(unit.more)],
+        body: copied_octets(&unit.body)?,
+    };
+    sent_on(alloc, wire, &message)
+}
+
+/// AK with P(R) below 128, and the credit that was agreed on.
+pub fn acknowledgement(alloc: Global, wire: &WireHead, pr: u8) -> Result<Output, Memory>
+    requires { pr < 128 }
+    ensures { IfOk result (λ output. output ≡ sent_on (section_of wire.now) (Ak wire.now.other (2 * pr) wire.now.credit)) }
+{
+    let message = Message::Ak {
+        dlr: wire.other,
+        receive: 2 * pr,
+        credit: wire.credit,
+    };
+    sent_on(alloc, wire, &message)
+}
+
+/// ED.
+pub fn expedited(alloc: Global, wire: &WireHead, body: &Octets) -> Result<Output, Memory>
+    requires { IsWithin 1 32 body.now }
+    ensures { IfOk result (λ output. output ≡ sent_on (section_of wire.now) (Ed wire.now.other body.now)) }
+{
+    let message = Message::Ed {
+        dlr: wire.other,
+        body: copied_octets(body)?,
+    };
+    sent_on(alloc, wire, &message)
+}
+
+/// EA.
+pub fn expedited_acknowledgement(alloc: Global, wire: &WireHead) -> Result<Output, Memory>
+    ensures { IfOk result (λ output. output ≡ sent_on (section_of wire.now) (Ea wire.now.other)) }
+{
+    let message = Message::Ea { dlr: wire.other };
+    sent_on(alloc, wire, &message)
+}
+
+/// RSR.
+pub fn reset_request(alloc: Global, wire: &WireHead, cause: u8) -> Result<Output, Memory>
+    ensures { IfOk result (λ output. output ≡ sent_on (section_of wire.now) (Rsr wire.now.other wire.now.mine cause)) }
+{
+    let message = Message::Rsr {
+        dlr: wire.other,
+        slr: wire.mine,
+        cause,
+    };
+    sent_on(alloc, wire, &message)
+}
+
+/// RSC.
+pub fn reset_confirmation(alloc: Global, wire: &WireHead) -> Result<Output, Memory>
+    ensures { IfOk result (λ output. output ≡ sent_on (section_of wire.now) (Rsc wire.now.other wire.now.mine)) }
+{
+    let message = Message::Rsc {
+        dlr: wire.other,
+        slr: wire.mine,
+    };
+    sent_on(alloc, wire, &message)
+}
+
+/// IT with P(S) and P(R) below 128.
+pub fn test(alloc: Global, wire: &WireHead, ps: u8, pr: u8) -> Result<Output, Memory>
+    requires { (ps < 128) × (pr < 128) }
+    ensures { IfOk result (λ output. output ≡ sent_on (section_of wire.now) (It wire.now.other wire.now.mine wire.now.class (2 * ps ∷ 2 * pr ∷ []) wire.now.credit)) }
+{
+    let message = Message::It {
+        dlr: wire.other,
+        slr: wire.mine,
+        class_octet: wire.class,
+        sequencing: [2 * ps, 2 * pr],
+        credit: wire.credit,
+    };
+    sent_on(alloc, wire, &message)
+}

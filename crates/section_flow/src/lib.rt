@@ -1,0 +1,11 @@
+//! The flow control of a connection section of class 3 (Q.714): counts that the code holds as remainders modulo 128, and that clauses
+//! read as whole numbers.
+#![tactic(auto)]
+
+mod counts;
+mod flow;
+#[cfg(test)]
+mod tests;
+
+pub use counts::{Counts, UnitList};
+pub use flow::Flow;
