@@ -1,0 +1,211 @@
+-- What came in at both ends goes on, or begins anew, over what an event does before units leave.
+use Rattle.std.proofs.Common.{ℕ, zero, suc, ◌==◌, List, [], ◌∷◌, ◌++◌, fold, Option, Some, None, refl, inl, inr}
+use Rattle.relay_base.specs.declared.words.Event.{Event}
+use Rattle.relay_base.specs.declared.words.Event.TheVariants.{Message as Arrived, Asked as Requested, Tick}
+use Rattle.relay_base.specs.declared.words.Request.{Request}
+use Rattle.relay_base.specs.declared.words.Reason.{Reason}
+use Rattle.relay_base.specs.declared.words.Output.{Output}
+use Rattle.plant_core.specs.declared.terms.Ticks.{Ticks}
+use Rattle.section_model.specs.declared.cell.Timer.{Timer}
+use Rattle.section_model.specs.declared.cell.Occasion.{Occasion}
+use Rattle.section_model.specs.declared.hand.Hand.{Hand}
+use Rattle.section_model.specs.declared.hand.Acted.{Acted}
+use Rattle.section_model.specs.Table.{section_cell}
+use Rattle.section_model.specs.Ends.{End, wire, owner, Section, User, Connection, turned}
+use Rattle.section_model.specs.Parameters.{Parameters, Arrival, arrival_in}
+use Rattle.section_model.specs.Timing.{firing_order, firing, rearmed}
+use Rattle.section_model.specs.Acting.{end_takes}
+use Rattle.section_model.specs.Coupling.{hands_of, with_more, offered, exchange, settles, on_that}
+use Rattle.section_model.specs.Step.{checked, hears_checked, hears_message, is_from_elsewhere, in_touch, asking_cell, reason_against, asks_unless, asks, ticked, is_due_at, fires_at, fires, fires_next, fires_due, ticks_by, is_named, at_this, at_reference, heard_by, asked_by, event_step}
+use Rattle.flow_law.specs.Kept.{passed_at, got_at}
+use Rattle.flow_law.proofs.Flowing.{either, IsSection}
+use Rattle.flow_law.proofs.Growing.{CountsOn, cell_before, GrowsAt, same_grows, then_grows, NoUnits, NoneLeft, StaysAs, Fine, TakesFine, section_hears_fine, section_fires_fine, end_takes_fine, user_asks_fine}
+
+-- from one connection to another: both ends stay of their kind, and what came in at an end goes on where the other end is a section
+abbrev pub Goes : Connection → Connection → Type 0
+Goes c d =
+    StaysAs c.this d.this × StaysAs c.that d.that
+    × (IsSection c.that → GrowsAt c.this d.this) × (IsSection c.this → GrowsAt c.that d.that)
+
+kind_stays : (e : End) → StaysAs e e
+kind_stays (wire x) = inr (refl, refl)
+kind_stays (owner u) = tt
+
+counts_then : (a b c i j k : ℕ) → CountsOn a i b j → CountsOn b j c k → CountsOn a i c k
+counts_then a b c i j k one (inl none) = inl none
+counts_then a b c i j k (inl none) (inr same) = inl (rw same.1 none)
+counts_then a b c i j k (inr same) (inr same') = inr (rw same'.0 same.0, rw same'.1 same.1)
+
+kind_then : (e f g : End) → StaysAs e f → StaysAs f g → StaysAs e g
+kind_then (wire x) (wire y) (wire z) a b = counts_then x.head.class y.head.class z.head.class x.windows.sent y.windows.sent z.windows.sent a b
+kind_then (wire x) (wire y) (owner w) a b = absurd b
+kind_then (wire x) (owner v) g a b = absurd a
+kind_then (owner u) (owner v) (owner w) a b = tt
+kind_then (owner u) (owner v) (wire z) a b = absurd b
+kind_then (owner u) (wire y) g a b = absurd a
+
+pub section_stays : (e f : End) → StaysAs e f → IsSection e → IsSection f
+section_stays (wire x) (wire y) k s = tt
+section_stays (wire x) (owner v) k s = absurd k
+section_stays (owner u) f k s = absurd s
+
+section_back : (e f : End) → StaysAs e f → IsSection f → IsSection e
+section_back (wire x) f k s = tt
+section_back (owner u) (owner v) k s = absurd s
+section_back (owner u) (wire y) k s = absurd k
+
+pub goes_nowhere : (c : Connection) → Goes c c
+goes_nowhere c = (kind_stays c.this, kind_stays c.that, λ _. same_grows (passed_at c.this) (got_at c.this), λ _. same_grows (passed_at c.that) (got_at c.that))
+
+pub goes_then : (c d e : Connection) → Goes c d → Goes d e → Goes c e
+goes_then c d e a b = (
+  kind_then c.this d.this e.this a.0 b.0,
+  kind_then c.that d.that e.that a.1 b.1,
+  λ s. then_grows (passed_at c.this) (passed_at d.this) (passed_at e.this) (got_at c.this) (got_at d.this) (got_at e.this) (a.2 s) (b.2 (section_stays c.that d.that a.1 s)),
+  λ s. then_grows (passed_at c.that) (passed_at d.that) (passed_at e.that) (got_at c.that) (got_at d.that) (got_at e.that) (a.3 s) (b.3 (section_stays c.this d.this a.0 s)),
+)
+
+pub goes_back : (c d : Connection) → Goes c d → Goes (turned c) (turned d)
+goes_back c d g = (g.1, g.0, g.3, g.2)
+
+-- The exchange.
+
+abbrev both : End → End → Connection
+both this that = record { this = this; that = that }
+
+pub Exchanges : ℕ → Ticks → Type 0
+Exchanges n ticks = (acting : End × Acted) (that : End) → (IsSection acting.0 → NoneLeft (hands_of acting.1)) → Goes (both acting.0 that) (exchange n ticks acting that).0
+
+offered_goes : (n : ℕ) (ticks : Ticks) → Exchanges n ticks → (r : Connection × List Output) (h : Hand) → (IsSection r.0.this → NoUnits h) → Goes r.0 (offered (exchange n ticks) ticks r h).0
+unfolding Exchanges TakesFine
+offered_goes n ticks goes r h none =
+    let taken = end_takes ticks h r.0.that in
+    let f = end_takes_fine ticks h r.0.that in
+    let one : Goes (both r.0.that r.0.this) (both taken.0 r.0.this) =
+    (f.0, kind_stays r.0.this, λ s. f.1 (none s), λ _. same_grows (passed_at r.0.this) (got_at r.0.this)) in
+    let d = (exchange n ticks taken r.0.this).0 in
+    goes_back (both r.0.that r.0.this) d (goes_then (both r.0.that r.0.this) (both taken.0 r.0.this) d one (goes taken r.0.this f.2))
+
+hands_go : (n : ℕ) (ticks : Ticks) → Exchanges n ticks → (hands : List Hand) (r : Connection × List Output) → (IsSection r.0.this → NoneLeft hands)
+    → Goes r.0 (fold (offered (exchange n ticks) ticks) r hands).0
+unfolding NoneLeft
+hands_go n ticks goes [] r none = goes_nowhere r.0
+hands_go n ticks goes (h ∷ hands) r none =
+    let r' = offered (exchange n ticks) ticks r h in
+    let one : Goes r.0 r'.0 = offered_goes n ticks goes r h (λ s. (none s).0) in
+    goes_then r.0 r'.0 (fold (offered (exchange n ticks) ticks) r' hands).0 one
+    (hands_go n ticks goes hands r' (λ s. (none (section_back r.0.this r'.0.this one.0 s)).1))
+
+none_of : (one two : List Hand) → NoneLeft (one ++ two) → NoneLeft one × NoneLeft two
+unfolding NoneLeft
+none_of [] two n = (tt, n)
+none_of (h ∷ one) two n = let rest = none_of one two n.1 in ((n.0, rest.0), rest.1)
+
+pub exchange_goes : (n : ℕ) (ticks : Ticks) → Exchanges n ticks
+unfolding Exchanges exchange
+exchange_goes zero ticks acting that none = goes_nowhere (both acting.0 that)
+exchange_goes (suc n) ticks acting that none =
+    let first = fold (offered (exchange n ticks) ticks) (both acting.0 that, []) acting.1.first in
+    let one : Goes (both acting.0 that) first.0 = hands_go n ticks (exchange_goes n ticks) acting.1.first (both acting.0 that, []) (λ s. (none_of acting.1.first acting.1.then (none s)).0) in
+    let all = fold (offered (exchange n ticks) ticks) (with_more acting.1.outs first) acting.1.then in
+    goes_then (both acting.0 that) first.0 all.0 one
+    (hands_go n ticks (exchange_goes n ticks) acting.1.then (with_more acting.1.outs first)
+    (λ s. (none_of acting.1.first acting.1.then (none (section_back acting.0 first.0.this one.0 s))).1))
+
+-- an act, and what the ends hand to each other then
+act_goes : (ticks : Ticks) (e that : End) (acting : End × Acted) → Fine e acting → Goes (both e that) (settles ticks acting that).0
+unfolding Fine Exchanges
+act_goes ticks e that acting f =
+    goes_then (both e that) (both acting.0 that) (settles ticks acting that).0
+    (f.0, kind_stays that, λ _. f.1, λ _. same_grows (passed_at that) (got_at that)) (exchange_goes 3 ticks acting that f.2)
+
+-- A message.
+
+hears_checked_goes : (ticks : Ticks) (o : Occasion) (point : ℕ) (m : Parameters) (x : Section) (that : End) (c : Option Output)
+    → Goes (both (wire x) that) (settles ticks (hears_checked ticks o point m x c) that).0
+unfolding Fine NoneLeft
+hears_checked_goes ticks o point m x that (Some out) = act_goes ticks (wire x) that _ (inr (refl, refl), same_grows x.windows.passed x.windows.got, λ _. tt)
+hears_checked_goes ticks o point m x that None = act_goes ticks (wire x) that _ (section_hears_fine ticks (section_cell x.head.state o) point m x (cell_before o x.head.state))
+
+hears_goes : (ticks : Ticks) (o : Occasion) (point : ℕ) (m : Parameters) (x : Section) (that : End) → Goes (both (wire x) that) (hears_message ticks o point m x that).0
+unfolding hears_message
+hears_goes ticks o point m x that =
+    either (λ (r : Connection × List Output). Goes (both (wire x) that) r.0) (is_from_elsewhere point x.head) _ _
+    (λ _. goes_nowhere (both (wire x) that)) (λ _. hears_checked_goes ticks o point m (in_touch ticks x) that (checked o m x.head))
+
+-- A request.
+
+asks_unless_goes : (c : Option Reason) (ticks : Ticks) (r : Request) (u : User) (x : Section) → Goes (both (owner u) (wire x)) (asks_unless c ticks r u x).0
+asks_unless_goes (Some why) ticks r u x = goes_nowhere (both (owner u) (wire x))
+asks_unless_goes None ticks r u x = act_goes ticks (owner u) (wire x) _ (user_asks_fine (asking_cell u.state r) r u)
+
+asks_goes : (ticks : Ticks) (ssn : ℕ) (r : Request) (this that : End) → Goes (both this that) (asks ticks ssn r this that).0
+unfolding asks
+asks_goes ticks ssn r (owner u) (wire x) =
+    either (λ (c : Connection × List Output). Goes (both (owner u) (wire x)) c.0) (u.ssn == ssn) _ _
+    (λ _. asks_unless_goes (reason_against r u x) ticks r u x) (λ _. goes_nowhere (both (owner u) (wire x)))
+asks_goes ticks ssn r (owner u) (owner v) = goes_nowhere (both (owner u) (owner v))
+asks_goes ticks ssn r (wire x) that = goes_nowhere (both (wire x) that)
+
+-- A tick.
+
+fires_at_goes : (ticks : Ticks) (timer : Timer) (this that : End) → Goes (both this that) (fires_at ticks timer this that).0
+fires_at_goes ticks timer (wire x) that =
+    let x' : Section = record x { timers = rearmed ticks timer x.timers } in
+    act_goes ticks (wire x') that _ (section_fires_fine ticks (section_cell x.head.state (firing timer)) x')
+fires_at_goes ticks timer (owner u) that = goes_nowhere (both (owner u) that)
+
+fires_go : (ticks : Ticks) (timer : Timer) (this that : End) → Goes (both this that) (fires ticks timer this that).0
+fires_go ticks timer this that =
+    either (λ (r : Connection × List Output). Goes (both this that) r.0) (is_due_at timer this) _ _ (λ _. fires_at_goes ticks timer this that) (λ _. goes_nowhere (both this that))
+
+fires_in_order : (ticks : Ticks) (timers : List Timer) (r : Connection × List Output) → Goes r.0 (fold (fires_next ticks) r timers).0
+fires_in_order ticks [] r = goes_nowhere r.0
+fires_in_order ticks (timer ∷ timers) r =
+    let r' = fires_next ticks r timer in
+    goes_then r.0 r'.0 (fold (fires_next ticks) r' timers).0 (fires_go ticks timer r.0.this r.0.that) (fires_in_order ticks timers r')
+
+fires_due_goes : (ticks : Ticks) (c : Connection) → Goes c (fires_due ticks c).0
+unfolding fires_due
+fires_due_goes ticks c = fires_in_order ticks firing_order (c, [])
+
+ticked_goes : (this that : End) → Goes (both this that) (both (ticked this) (ticked that))
+ticked_goes (wire x) (wire y) = goes_nowhere (both (wire x) (wire y))
+ticked_goes (wire x) (owner v) = goes_nowhere (both (wire x) (owner v))
+ticked_goes (owner u) (wire y) = goes_nowhere (both (owner u) (wire y))
+ticked_goes (owner u) (owner v) = goes_nowhere (both (owner u) (owner v))
+
+on_that_goes : (part : Connection → Connection × List Output) → ((c : Connection) → Goes c (part c).0) → (c : Connection) → Goes c (on_that part c).0
+on_that_goes part goes c = goes_back (turned c) (part (turned c)).0 (goes (turned c))
+
+ticks_go : (ticks : Ticks) (c : Connection) → Goes c (ticks_by ticks c).0
+ticks_go ticks c =
+    let begun = both (ticked c.this) (ticked c.that) in
+    let one = (fires_due ticks begun).0 in
+    goes_then c one (on_that (fires_due ticks) one).0 (goes_then c begun one (ticked_goes c.this c.that) (fires_due_goes ticks begun)) (on_that_goes (fires_due ticks) (fires_due_goes ticks) one)
+
+-- On the end that an event names.
+
+at_this_goes : (part : Section → End → Connection × List Output) → ((x : Section) (that : End) → Goes (both (wire x) that) (part x that).0) → (this that : End)
+    → Goes (both this that) (at_this part (both this that)).0
+at_this_goes part goes (wire x) that = goes x that
+at_this_goes part goes (owner u) that = goes_nowhere (both (owner u) that)
+
+at_reference_goes : (reference : ℕ) (part : Section → End → Connection × List Output) → ((x : Section) (that : End) → Goes (both (wire x) that) (part x that).0) → (c : Connection)
+    → Goes c (at_reference reference part c).0
+at_reference_goes reference part goes c =
+    either (λ (r : Connection × List Output). Goes c r.0) (is_named reference c.this) _ _
+    (λ _. at_this_goes part goes c.this c.that) (λ _. on_that_goes (at_this part) (λ d. at_this_goes part goes d.this d.that) c)
+
+heard_goes : (ticks : Ticks) (point : ℕ) (a : Option Arrival) (c : Connection) → Goes c (heard_by ticks point a c).0
+heard_goes ticks point None c = goes_nowhere c
+heard_goes ticks point (Some a) c = at_reference_goes a.parameters.dlr (hears_message ticks a.occasion point a.parameters) (hears_goes ticks a.occasion point a.parameters) c
+
+asked_goes : (ticks : Ticks) (ssn : ℕ) (r : Request) (this that : End) → Goes (both this that) (asked_by ticks ssn r (both this that)).0
+asked_goes ticks ssn r (owner u) that = asks_goes ticks ssn r (owner u) that
+asked_goes ticks ssn r (wire x) that = on_that_goes (λ d. asks ticks ssn r d.this d.that) (λ d. asks_goes ticks ssn r d.this d.that) (both (wire x) that)
+
+pub event_goes : (ticks : Ticks) (c : Connection) (event : Event) → Goes c (event_step ticks c event).0
+event_goes ticks c (Arrived point sls bytes) = heard_goes ticks point (arrival_in bytes) c
+event_goes ticks c (Requested ssn r) = asked_goes ticks ssn r c.this c.that
+event_goes ticks c Tick = ticks_go ticks c

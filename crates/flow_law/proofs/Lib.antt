@@ -1,0 +1,15 @@
+pub mod Ends
+pub mod Taking
+pub mod Flowing
+pub mod Acting
+pub mod Hearing
+pub mod Leaving
+pub mod Asking
+pub mod Step
+pub mod Opening
+pub mod Following
+pub mod Sending
+pub mod Counts
+pub mod Growing
+pub mod Going
+pub mod Ordering
