@@ -31,7 +31,7 @@ held_is_taken : (ticks : Ticks) (slot : ℕ) (openings : List Opening) → is_he
 held_is_taken ticks slot [] = refl
 held_is_taken ticks slot (o ∷ openings) = ap₂ (λ a b. a || b) (holds_is_takes ticks slot o) (held_is_taken ticks slot openings)
 
-filter_alike : {X : Type 0} (p q : X → Bool) → ((x : X) → p x ≡ q x) → (xs : List X) → filter p xs ≡ filter q xs
+pub filter_alike : {X : Type 0} (p q : X → Bool) → ((x : X) → p x ≡ q x) → (xs : List X) → filter p xs ≡ filter q xs
 filter_alike p q alike [] = refl
 filter_alike p q alike (x ∷ xs) = ap₂ (λ b ys. cond b (x ∷ ys) ys) (alike x) (filter_alike p q alike xs)
 

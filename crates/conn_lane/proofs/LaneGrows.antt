@@ -1,11 +1,10 @@
 -- A lane with one more entry.
 use Rattle.std.proofs.Common.{◌≡◌, ℕ, ◌≤◌, ◌<◌, ◌+◌, ◌^◌, OnErr, Ok, Err, Bool, true, false, List, [], ◌∷◌, ◌++◌, length, map, refl, sym, subst, ap, ◌∙◌, arith, append-nil, length-append}
 use Rattle.std.specs.declared.result.Result.{Result}
-use Rattle.std.specs.Prelude.{Option, Some, None, option_map, is_some, flat_map}
+use Rattle.std.specs.Prelude.{Option, Some, None, option_map, is_some}
 use Rattle.std.proofs.lemmas.List.{map-append}
 use Rattle.relay_base.specs.declared.words.Event.{Event}
 use Rattle.relay_base.specs.declared.words.Event.TheVariants.{Message as Arrived, Asked as Requested, Tick}
-use Rattle.relay_base.specs.declared.words.Output.{Output}
 use Rattle.plant_core.specs.Plant.{PlantState}
 use Rattle.plant_core.specs.declared.answer.Answer.{Answer}
 use Rattle.plant_core.specs.declared.entry.Asked.{Asked}
@@ -16,18 +15,18 @@ use Rattle.connectionless.specs.Asking.{Question}
 use Rattle.data_lane.specs.Legal.{asked_at, answer_in}
 use Rattle.section_model.specs.Ends.{Connection}
 use Rattle.section_model.specs.Opening.{Wish, by_cr, by_user, no_wish, wish_of, question_of, slots_needed, opened, Opened}
-use Rattle.section_model.specs.Lane.{Lane, Opening, with_event, opening_of, opening_list, openings_after, openings_from, legal_outputs, other_outputs, outputs_by, lowest_free, answer_of, IsLegalEntry, IsConnectionJournal}
+use Rattle.section_model.specs.Lane.{Lane, Opening, with_event, opening_of, opening_list, openings_after, openings_from, legal_outputs, other_outputs, outputs_by, answer_of, IsLegalEntry}
 use Rattle.section_model.proofs.Growing.{grows}
 use Rattle.plant_core.specs.declared.terms.Ticks.{Ticks}
 use Rattle.section_coupling.specs.Duos.{DuoState, duo_at, taken_after}
 use Rattle.section_coupling.specs.Openings.{is_wish, IsAnswered}
-use Rattle.conn_lane.specs.Keeping.{Keeping, keeping_of, keeping_after, lowest_in}
+use Rattle.conn_lane.specs.Keeping.{Keeping, keeping_of, keeping_after, lowest_in, needed}
 use Rattle.conn_lane.specs.Views.{KeptState, keeping_all}
-use Rattle.conn_lane.specs.Laws.{KeepsAll}
 use Rattle.conn_lane.specs.Lanes.{lane_of, conn_asked_of}
-use Rattle.conn_lane.specs.Turns.{opened_in, other_outs_in, outs_in, new_keeping, keeps_in, Keeps, IsConnLane}
+use Rattle.conn_lane.specs.Turns.{opened_in, other_outs_in, outs_in, new_keeping, keeps_in, IsConnLane}
 use Rattle.conn_lane.specs.Grown.{Grows}
 use Rattle.conn_lane.proofs.Keeps.{keeps_all}
+use Rattle.conn_lane.proofs.Needless.{outs_needed, keeps_needed}
 
 abbrev kept_of : Lane → List Opening → List Keeping
 kept_of lane openings = map (keeping_of lane.terms.ticks) openings
@@ -90,25 +89,28 @@ pub lane_grows : (plant : PlantState) (head : LaneHead) (number : ℕ) (journal 
     → IsConnLane head number (journal ++ entry ∷ []) (taken_after taken entry.event) kept' false
 lane_grows plant head number journal taken kept kept' entry lane more =
     let openings = openings_from (lane_of head number) [] journal in
-    let same : keeping_all taken kept ≡ kept_of (lane_of head number) openings = lane.keeps refl in
+    let same : keeping_all taken kept ≡ needed (kept_of (lane_of head number) openings) = lane.keeps refl in
     let outs : entry.outs ≡ legal_outputs (lane_of head number) openings entry.event (answer_of entry) =
     subst (λ keeps. entry.outs ≡ outs_in (lane_of head number) keeps entry.event (wish_of head.terms entry.event) (answer_of entry)) same more.outs
-    ∙ sym (outs-alike (lane_of head number) openings entry.event (answer_of entry)) in
+    ∙ (sym (outs_needed (lane_of head number) (kept_of (lane_of head number) openings) entry.event (wish_of head.terms entry.event) (answer_of entry))
+    ∙ sym (outs-alike (lane_of head number) openings entry.event (answer_of entry))) in
     let legal : IsLegalEntry (lane_of head number) openings entry =
     record { routed = ap is_some more.asked ∙ routed plant.edition plant.routing (question_of (wish_of head.terms entry.event)); outputs = outs } in
     record {
       legal = grows (lane_of head number) journal entry lane.legal legal;
       keeps = λ e.
-          subst (λ keeps. keeping_all (taken_after taken entry.event) kept' ≡ keeps_in (lane_of head number) keeps entry.event (wish_of head.terms entry.event) (answer_of entry)) same more.keeps
-          ∙ (sym (keeps-alike (lane_of head number) openings entry.event (answer_of entry))
-          ∙ ap (kept_of (lane_of head number)) (sym (openings-more (lane_of head number) [] journal entry)));
+          subst (λ keeps. keeping_all (taken_after taken entry.event) kept' ≡ needed (keeps_in (lane_of head number) keeps entry.event (wish_of head.terms entry.event) (answer_of entry))) same more.keeps
+          ∙ (sym (keeps_needed (lane_of head number) (kept_of (lane_of head number) openings) entry.event (wish_of head.terms entry.event) (answer_of entry))
+          ∙ (ap needed (sym (keeps-alike (lane_of head number) openings entry.event (answer_of entry)))
+          ∙ ap (λ os. needed (kept_of (lane_of head number) os)) (sym (openings-more (lane_of head number) [] journal entry))));
       few = rw (length-append journal (entry ∷ [])) (later taken entry.event (length journal) lane.few);
       lanes = lane.lanes;
+      credit = lane.credit;
     }
 
 -- want of memory spoils what is kept, and nothing else
 pub lane_spent : (head : LaneHead) (number : ℕ) (journal : List Entry) (taken : ℕ) (kept kept' : List KeptState) (b : Bool) → IsConnLane head number journal taken kept b → IsConnLane head number journal taken kept' true
-lane_spent head number journal taken kept kept' b lane = record { legal = lane.legal; keeps = λ e. absurd (cc); few = lane.few; lanes = lane.lanes }
+lane_spent head number journal taken kept kept' b lane = record { legal = lane.legal; keeps = λ e. absurd (cc); few = lane.few; lanes = lane.lanes; credit = lane.credit }
 
 -- An event that opens no connection, and one that opens one.
 

@@ -7,4 +7,5 @@ pub mod Free
 pub mod Heard
 pub mod Keeps
 pub mod Parts
+pub mod Needless
 pub mod LaneGrows

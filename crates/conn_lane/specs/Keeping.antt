@@ -1,13 +1,12 @@
 -- What a connection lane keeps of each of its openings: the connection while it isn't over, and the local references that it took.
-use Rattle.std.specs.Prelude.{ℕ, ◌+◌, ◌-◌, ◌*◌, ◌==◌, ◌&&◌, ◌||◌, not, Bool, true, false, List, [], ◌∷◌, ◌++◌, length, map, take, filter, if◌then◌else◌, Option, Some, None, option_map}
+use Rattle.std.specs.Prelude.{ℕ, ◌-◌, ◌==◌, ◌&&◌, ◌||◌, not, Bool, true, false, List, [], ◌∷◌, take, filter, if◌then◌else◌, Option, Some, None, option_map, is_some}
 use Rattle.std.specs.List.{list_any, range_with_len, flat_map}
 use Rattle.relay_base.specs.declared.words.Event.{Event}
-use Rattle.relay_base.specs.declared.words.Event.TheVariants.{Message as Arrived, Asked as Requested, Tick}
 use Rattle.relay_base.specs.declared.words.Output.{Output}
 use Rattle.plant_core.specs.declared.terms.Ticks.{Ticks}
 use Rattle.section_model.specs.Ends.{End, Connection}
 use Rattle.section_model.specs.Step.{connection_step, hears, end_is_gone, is_over}
-use Rattle.section_model.specs.Lane.{Lane, Opening, state_of, fed, gone_for, reference_of, slot_of, reference_at, enough, is_tick, stray_answer}
+use Rattle.section_model.specs.Lane.{Lane, Opening, state_of, fed, gone_for, reference_of, slot_of, enough, is_tick}
 use Rattle.conn_lane.specs.declared.kept.Seat.{Seat}
 
 -- a connection that isn't over, with the ticks of its timers
@@ -116,3 +115,15 @@ free_in keeps = filter (λ slot. not (list_any (takes_slot slot) keeps)) (range_
 -- the references of so many lowest free slots, or none where there are too few
 abbrev pub lowest_in : Lane → List Keeping → ℕ → List ℕ
 lowest_in lane keeps count = enough lane count (take count (free_in keeps))
+
+-- An opening does nothing more once its connection is over and no reference of it is held or frozen.
+
+abbrev pub holds_out : Option Seat → Bool
+holds_out None = false
+holds_out (Some s) = not (is_frozen_out s.left)
+
+abbrev pub is_needed : Keeping → Bool
+is_needed k = is_some k.live || holds_out k.this || holds_out k.that
+
+abbrev pub needed : List Keeping → List Keeping
+needed keeps = filter is_needed keeps

@@ -1,5 +1,5 @@
 -- What a connection lane is seen as, and what it does with an event.
-use Rattle.std.specs.Prelude.{◌≡◌, ℕ, List, [], ◌∷◌, ◌++◌, Option, None}
+use Rattle.std.specs.Prelude.{◌≡◌, ℕ, List, [], ◌∷◌, ◌++◌, Option}
 use Rattle.relay_base.specs.declared.words.Event.{Event}
 use Rattle.relay_base.specs.declared.words.Stamp.{Stamp}
 use Rattle.plant_core.specs.Plant.{PlantState}
@@ -7,7 +7,7 @@ use Rattle.plant_core.specs.declared.entry.Asked.{Asked}
 use Rattle.plant_core.specs.declared.entry.Entry.{Entry}
 use Rattle.plant_core.specs.declared.terms.LaneHead.{LaneHead}
 use Rattle.data_lane.specs.Legal.{asked_at}
-use Rattle.section_model.specs.Opening.{Wish, by_cr, by_user, no_wish, wish_of, question_of}
+use Rattle.section_model.specs.Opening.{wish_of, question_of}
 use Rattle.section_model.specs.Lane.{Lane, IsConnectionJournal}
 
 pub record ConnLaneState : Type 0 where

@@ -9,8 +9,9 @@ use Rattle.plant_core.specs.declared.terms.LaneHead.{LaneHead}
 use Rattle.plant_core.specs.declared.terms.Ticks.{Ticks}
 use Rattle.section_model.specs.Ends.{Connection}
 use Rattle.section_model.specs.Opening.{Wish, by_cr, by_user, no_wish, slots_needed, opened, Opened}
-use Rattle.section_model.specs.Lane.{Lane, Opening, stray_answer, openings_from}
-use Rattle.conn_lane.specs.Keeping.{Keeping, keeping_of, keeping_after, first_part, all_parts, lowest_in}
+use Rattle.section_model.specs.Lane.{Lane, stray_answer, openings_from}
+use Rattle.section_coupling.specs.Sound.{IsCredit}
+use Rattle.conn_lane.specs.Keeping.{Keeping, keeping_of, keeping_after, first_part, all_parts, lowest_in, needed}
 use Rattle.conn_lane.specs.Views.{KeptState, keeping_all}
 use Rattle.conn_lane.specs.Laws.{unheard}
 use Rattle.conn_lane.specs.Lanes.{IsConnJournal, lane_of}
@@ -38,10 +39,10 @@ abbrev pub keeps_in : Lane → List Keeping → Event → Wish → Option Answer
 keeps_in lane keeps event wish answer =
     map (keeping_after event) keeps ++ new_keeping lane.terms.ticks (opened_in lane keeps wish answer).connection
 
--- what the lane keeps is that of its journal's openings
+-- what the lane keeps is that of its journal's openings that is needed
 abbrev pub Keeps : LaneHead → ℕ → List Entry → ℕ → List KeptState → Type 0
 Keeps head number journal taken kept =
-    keeping_all taken kept ≡ map (keeping_of head.terms.ticks) (openings_from (lane_of head number) [] journal)
+    keeping_all taken kept ≡ needed (map (keeping_of head.terms.ticks) (openings_from (lane_of head number) [] journal))
 
 -- the journal is legal, and unless want of memory spoilt it the lane keeps what it has to
 pub record IsConnLane (head : LaneHead) (number : ℕ) (journal : List Entry) (taken : ℕ) (kept : List KeptState) (spent : Bool) : Type 0 where
@@ -49,3 +50,4 @@ pub record IsConnLane (head : LaneHead) (number : ℕ) (journal : List Entry) (t
   pub keeps : spent ≡ false → Keeps head number journal taken kept
   pub few : taken ≤ length journal
   pub lanes : number < 16
+  pub credit : IsCredit head.terms.credit

@@ -1,7 +1,7 @@
 //! What the connections of a lane do with an event.
 ghost use Rattle.std.specs.Prelude.{◌≡◌, ◌≤◌, ◌++◌, map, IfOk, OnOk};
 ghost use Rattle.section_coupling.specs.Duos.{taken_after};
-ghost use Rattle.conn_lane.specs.Keeping.{keeping_after, first_of, first_part, all_parts};
+ghost use Rattle.conn_lane.specs.Keeping.{keeping_after, first_of, first_part, all_parts, needed};
 ghost use Rattle.conn_lane.specs.Views.{keeping_all};
 
 use crate::kept::Kept;
@@ -53,6 +53,19 @@ pub fn tell_all(
         next.push(one)?;
     }
     Ok((next, outs))
+}
+
+/// The openings that are needed: one whose connection is over and whose references are free again does nothing more.
+pub fn needed(alloc: Global, now: u64, kept: Vec<Kept>) -> Result<Vec<Kept>, Memory>
+    ensures { IfOk result (λ r. keeping_all now r.items ≡ needed (keeping_all now kept.items)) }
+{
+    let mut next = Vec::with_capacity(alloc, kept.len())?;
+    for one in kept {
+        if one.is_needed() {
+            next.push(one)?;
+        }
+    }
+    Ok(next)
 }
 
 /// The first of two parts that is there.

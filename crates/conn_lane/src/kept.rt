@@ -5,7 +5,7 @@ ghost use Rattle.plant_core.specs.declared.terms.Ticks.{Ticks as TimerTicks};
 ghost use Rattle.section_model.specs.Step.{is_over, end_is_gone};
 ghost use Rattle.section_model.specs.Lane.{fed, reference_of};
 ghost use Rattle.section_coupling.specs.Duos.{duo_at, taken_after, side_of};
-ghost use Rattle.conn_lane.specs.Keeping.{keeping_of, keeping_after, seat_after, ticks_in, part_in, part_at, left_after, live_of, seat_by};
+ghost use Rattle.conn_lane.specs.Keeping.{keeping_of, keeping_after, seat_after, ticks_in, part_in, part_at, left_after, live_of, seat_by, holds_out, is_needed};
 ghost use Rattle.conn_lane.specs.Views.{IsAlive, live_at, keeping_at};
 
 use relay_base::{Event, Memory, Outs, Ref24};
@@ -20,7 +20,7 @@ pub struct Seat {
 }
 
 /// What a lane keeps of an opening: the connection until it is over, and the local references of its two ends.
-#[derive(Debug, Drop)]
+#[derive(Drop)]
 pub struct Kept {
     pub duo: Option<Duo>,
     pub this: Option<Seat>,
@@ -89,6 +89,13 @@ fn feed(duo: Duo, now: u64, event: &Event) -> Result<(Duo, Option<Outs>), Memory
 }
 
 impl Kept {
+    /// Whether its connection isn't over, or a reference of it is held or frozen.
+    pub fn is_needed(&self) -> bool
+        ensures { (now : ℕ) → result ≡ is_needed (keeping_at now self.now) }
+    {
+        self.duo.is_some() || holds_out(&self.this) || holds_out(&self.that)
+    }
+
     /// What is kept of a connection that was just opened.
     #[tactic(auto, unfolding(section_model::specs::Lane::gone_for, section_model::specs::Lane::follow, section_model::specs::Lane::heard))]
     pub fn opened(duo: Duo) -> Kept
@@ -122,6 +129,16 @@ impl Kept {
         let that = seat_after(freeze, event, duo.gone(1), that);
         let duo = unless_over(duo);
         Ok((Kept { duo, this, that }, outs))
+    }
+}
+
+/// Whether a reference is held, or frozen for some ticks yet.
+fn holds_out(seat: &Option<Seat>) -> bool
+    ensures { result ≡ holds_out seat.now }
+{
+    match seat {
+        Some(seat) => seat.left != Some(0),
+        None => false,
     }
 }
 

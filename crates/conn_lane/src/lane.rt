@@ -8,14 +8,15 @@ ghost use Rattle.data_lane.specs.Legal.{answer_to, asked_at, answer_in};
 ghost use Rattle.section_model.specs.Opening.{wish_of, question_of, slots_needed};
 ghost use Rattle.section_model.specs.Lane.{stray_answer};
 ghost use Rattle.section_coupling.specs.Duos.{duo_at, taken_after};
-ghost use Rattle.section_coupling.specs.Openings.{IsAnswered, WantsNotThird, is_wish};
-ghost use Rattle.conn_lane.specs.Keeping.{keeping_after};
+ghost use Rattle.section_coupling.specs.Openings.{IsAnswered, is_wish};
+ghost use Rattle.section_coupling.specs.Sound.{IsCredit};
+ghost use Rattle.conn_lane.specs.Keeping.{keeping_after, needed as needed_of};
 ghost use Rattle.conn_lane.specs.Views.{keeping_all};
 ghost use Rattle.conn_lane.specs.Turns.{new_keeping, opened_in, outs_in, other_outs_in, keeps_in, IsConnLane};
 ghost use Rattle.conn_lane.specs.Lanes.{lane_of, conn_asked_of};
 ghost use Rattle.conn_lane.specs.Grown.{Grows};
 
-use crate::feeding::{hear_all, tell_all};
+use crate::feeding::{hear_all, needed as needed_of, tell_all};
 use crate::kept::Kept;
 use crate::slots::lowest_free;
 use plant_core::{Answer, Ask, Asked, Entry, EntryList, LaneHead, Plant};
@@ -141,7 +142,7 @@ impl Context {
     fn begin(&self, event: &Event, asked: &Option<Asked>, kept: &[Kept]) -> Result<Begun, Memory>
         requires taken { self.now.taken ≤ 4_294_967_295 }
         requires number { self.now.number < 16 }
-        requires class { WantsNotThird (wish_of self.now.head.terms event.now) }
+        requires credit { IsCredit self.now.head.terms.credit }
         requires answered { IsAnswered (wish_of self.now.head.terms event.now) (answer_in asked.now) }
         ensures opened { IfOk result (λ b. opened_in (lane_of self.now.head self.now.number) (keeping_all self.now.taken kept.now) (wish_of self.now.head.terms event.now) (answer_in asked.now) ≡ record { connection = option_map (duo_at self.now.taken) b.duo; outs = b.outs }) }
         ensures ticks { IfOk result (λ b. IfSome b.duo (λ d. d.ticks ≡ self.now.head.terms.ticks)) }
@@ -165,7 +166,7 @@ impl Context {
     fn open(&self, plant: &Plant, event: &Event, kept: Vec<Kept>) -> Result<Turn, Memory>
         requires taken { self.now.taken ≤ 4_294_967_295 }
         requires number { self.now.number < 16 }
-        requires class { WantsNotThird (wish_of self.now.head.terms event.now) }
+        requires credit { IsCredit self.now.head.terms.credit }
         requires wish { is_wish (wish_of self.now.head.terms event.now) ≡ true }
         ensures asked { IfOk result (λ turn. turn.asked ≡ conn_asked_of self.now.head plant.now event.now) }
         ensures outs { IfOk result (λ turn. turn.outs ≡ outs_in (lane_of self.now.head self.now.number) (keeping_all self.now.taken kept.items) event.now (wish_of self.now.head.terms event.now) (answer_in turn.asked)) }
@@ -206,7 +207,7 @@ impl Context {
     fn turn(&self, plant: &Plant, event: &Event, kept: Vec<Kept>) -> Result<Turn, Memory>
         requires taken { self.now.taken ≤ 4_294_967_295 }
         requires number { self.now.number < 16 }
-        requires class { WantsNotThird (wish_of self.now.head.terms event.now) }
+        requires credit { IsCredit self.now.head.terms.credit }
         ensures asked { IfOk result (λ turn. turn.asked ≡ conn_asked_of self.now.head plant.now event.now) }
         ensures outs { IfOk result (λ turn. turn.outs ≡ outs_in (lane_of self.now.head self.now.number) (keeping_all self.now.taken kept.items) event.now (wish_of self.now.head.terms event.now) (answer_in turn.asked)) }
         ensures keeps { IfOk result (λ turn. keeping_all (taken_after self.now.taken event.now) turn.kept.items ≡ keeps_in (lane_of self.now.head self.now.number) (keeping_all self.now.taken kept.items) event.now (wish_of self.now.head.terms event.now) (answer_in turn.asked)) }
@@ -220,6 +221,20 @@ impl Context {
 }
 
 impl Context {
+    /// What comes of an event, and what is needed then of what is kept.
+    fn needed_turn(&self, plant: &Plant, event: &Event, kept: Vec<Kept>) -> Result<Turn, Memory>
+        requires taken { self.now.taken ≤ 4_294_967_295 }
+        requires number { self.now.number < 16 }
+        requires credit { IsCredit self.now.head.terms.credit }
+        ensures asked { IfOk result (λ turn. turn.asked ≡ conn_asked_of self.now.head plant.now event.now) }
+        ensures outs { IfOk result (λ turn. turn.outs ≡ outs_in (lane_of self.now.head self.now.number) (keeping_all self.now.taken kept.items) event.now (wish_of self.now.head.terms event.now) (answer_in turn.asked)) }
+        ensures keeps { IfOk result (λ turn. keeping_all (taken_after self.now.taken event.now) turn.kept.items ≡ needed_of (keeps_in (lane_of self.now.head self.now.number) (keeping_all self.now.taken kept.items) event.now (wish_of self.now.head.terms event.now) (answer_in turn.asked))) }
+    {
+        let Turn { kept, asked, outs } = self.turn(plant, event, kept)?;
+        let kept = needed_of(self.alloc, taken_after(self.taken, event), kept)?;
+        Ok(Turn { kept, asked, outs })
+    }
+
     /// The entry of an event, and what is kept then.
     fn entry(
         &self,
@@ -230,12 +245,12 @@ impl Context {
     ) -> Result<(Vec<Kept>, Entry), Memory>
         requires taken { self.now.taken ≤ 4_294_967_295 }
         requires number { self.now.number < 16 }
-        requires class { WantsNotThird (wish_of self.now.head.terms event.now) }
+        requires credit { IsCredit self.now.head.terms.credit }
         ensures grows { IfOk result (λ r. Grows plant.now self.now.head self.now.number self.now.taken kept.items r.0.items r.1) }
         ensures stamp { IfOk result (λ r. r.1.stamp ≡ stamp) }
         ensures event { IfOk result (λ r. r.1.event ≡ event.now) }
     {
-        let Turn { kept, asked, outs } = self.turn(plant, event, kept)?;
+        let Turn { kept, asked, outs } = self.needed_turn(plant, event, kept)?;
         let event = copy_of(event)?;
         let entry = Entry {
             stamp,
@@ -250,9 +265,10 @@ impl Context {
 impl ConnLane {
     ghost use Rattle.conn_lane.specs.Lanes.{IsConnJournal, Takes};
 
-    /// The connection lane of this number, 0 to 15, before its first event.
+    /// The connection lane of this number, 0 to 15, before its first event. The greatest credit of its head is 127 at most.
     pub fn new(alloc: Global, head: &LaneHead, number: u8) -> Result<ConnLane, Memory>
-        requires { number < 16 }
+        requires number { number < 16 }
+        requires credit { IsCredit head.now.terms.credit }
         ensures { IfOk result (λ lane. lane ≡ record { head = head.now; number = number; journal = [] }) }
     {
         Ok(ConnLane {
@@ -270,7 +286,6 @@ impl ConnLane {
     #[tactic(auto, using(crate::proofs::LaneGrows::lane_spent, crate::proofs::LaneGrows::few_taken))]
     pub fn step(&mut self, plant: &Plant, stamp: Stamp, event: &Event) -> Result<(), Memory>
         requires few { length self.old.journal < 2 ^ 32 }
-        requires class { WantsNotThird (wish_of self.old.head.terms event.now) }
         ensures ok { OnOk result (Takes plant.now stamp event.now self.old self.new) }
         ensures err { OnErr result (self.new ≡ self.old) }
     {

@@ -1,11 +1,10 @@
 -- An opening of its parts.
-use Rattle.std.proofs.Common.{◌≡◌, ℕ, ◌==◌, false, List, refl}
+use Rattle.std.proofs.Common.{◌≡◌, ℕ, List, refl}
 use Rattle.std.specs.Prelude.{Some, Ok, Err, IfOk}
 use Rattle.std.specs.declared.result.Result.{Result}
 use Rattle.relay_base.specs.declared.words.Output.{Output}
-use Rattle.plant_core.specs.declared.terms.Terms.{Terms}
 use Rattle.section_model.specs.Ends.{End}
-use Rattle.section_model.specs.Opening.{opened_with, offered}
+use Rattle.section_model.specs.Opening.{opened_with}
 use Rattle.section_coupling.specs.declared.side.Side.{Side}
 use Rattle.section_coupling.specs.Openings.{opened_at}
 use Rattle.section_coupling.specs.Views.{end_at}
@@ -17,15 +16,3 @@ if-ok (Err e) f p = tt
 pub composed : (now : ℕ) (this that : Side) (outs : List Output) (c d : End) (more : List Output) → end_at now this ≡ c → end_at now that ≡ d → outs ≡ more
     → opened_at now (record { pair = Some (record { this = this; that = that }); outs = outs }) ≡ opened_with (record { this = c; that = d }) more
 composed now this that outs c d more e f g = rw (e, f, g) refl
-
--- terms, whatever they are
-pub some-terms : Terms
-some-terms = record {
-  own = 0;
-  credit = 0;
-  ticks = record { connect = 0; ias = 0; iar = 0; rel = 0; repeat = 0; int = 0; reset = 0; reassembly = 0; freeze = 0; status = 0; status_max = 0; coord = 0 };
-}
-
--- no credit is offered but in class 3
-pub no-credit : (terms : Terms) (class credit : ℕ) → (class == 3) ≡ false → 0 ≡ offered terms class credit
-no-credit terms class credit e = rw e refl

@@ -1,5 +1,5 @@
 -- One turn of what the ends hand to each other.
-use Rattle.std.proofs.Common.{◌≡◌, ℕ, zero, suc, ◌-◌, ◌==◌, false, List, [], fold, refl, sym, subst, ◌∙◌, arith}
+use Rattle.std.proofs.Common.{◌≡◌, ℕ, suc, ◌-◌, List, [], fold, refl, sym, subst, ◌∙◌, arith}
 use Rattle.plant_core.specs.declared.terms.Ticks.{Ticks}
 use Rattle.relay_base.specs.declared.words.Output.{Output}
 use Rattle.section_model.specs.declared.hand.Acted.{Acted}

@@ -1,7 +1,7 @@
 -- One tick more leaves one tick less.
-use Rattle.std.proofs.Common.{◌≡◌, ℕ, ◌+◌, ◌-◌, refl, sym, subst, ap, arith}
+use Rattle.std.proofs.Common.{◌≡◌, ℕ, ◌+◌, ◌-◌, refl, subst, ap, arith}
 use Rattle.std.specs.Prelude.{pred, Option, Some, None, option_map}
-use Rattle.section_model.specs.Ends.{Connection, wire, owner}
+use Rattle.section_model.specs.Ends.{wire}
 use Rattle.section_model.specs.Step.{ticked}
 use Rattle.section_model.specs.Timing.{lowered}
 use Rattle.section_coupling.specs.declared.timers.Timers.{Timers}

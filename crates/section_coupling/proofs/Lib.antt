@@ -1,10 +1,11 @@
-pub mod SecondLines
-pub mod SecondCells
-pub mod SecondTakes
+pub mod SoundLines
+pub mod SoundWindows
+pub mod SoundUsers
+pub mod ByTable
+pub mod Arriving
 pub mod Exchanging
-pub mod SecondAsks
 pub mod LaterTimers
-pub mod AfterEvents
 pub mod Fitting
 pub mod Opened
 pub mod Composed
+pub mod Keeping

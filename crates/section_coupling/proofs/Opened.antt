@@ -1,20 +1,17 @@
 -- What an opening comes to, by its cases.
-use Rattle.std.proofs.Common.{◌≡◌, ℕ, ◌≤◌, ◌<◌, ◌==◌, ◌||◌, Bool, true, false, List, [], ◌∷◌, length, get_or, refl, sym, subst, ◌∙◌, arith, if◌then◌else◌}
+use Rattle.std.proofs.Common.{◌≡◌, ℕ, ◌≤◌, ◌<◌, true, false, List, [], ◌∷◌, length, get_or, refl, sym, subst, arith}
 use Rattle.std.specs.Prelude.{slice_get, Option, Some, None, is_some}
-use Rattle.sccp_address.specs.Parsing.{address_of}
 use Rattle.plant_core.specs.declared.answer.Rewrite.{Rewrite}
 use Rattle.plant_core.specs.declared.answer.Answer.{Answer}
 use Rattle.plant_core.specs.declared.answer.Answer.TheVariants.{Local, Forward}
-use Rattle.plant_core.specs.declared.answer.Origin.TheVariants.{Network}
 use Rattle.plant_core.specs.declared.terms.Terms.{Terms}
 use Rattle.q713_codec.specs.Writing.{InRange}
 use Rattle.connectionless.specs.Routed.{called_onward}
 use Rattle.connectionless.proofs.AddressLengths.{length-called_onward}
 use Rattle.section_model.specs.Line.{credit_of}
 use Rattle.section_model.specs.Lengths.{IsAddress, IsData}
-use Rattle.section_model.specs.Opening.{Wanted, by_cr, question_of, asked_for, onward, fits, refused, not_opened, opened_onward, opened_by_cr, opened, slots_needed}
+use Rattle.section_model.specs.Opening.{Wanted, by_cr, onward, fits, refused, not_opened, opened_onward, opened_by_cr, opened, slots_needed}
 use Rattle.section_model.proofs.InRanges.{cr-in_range}
-use Rattle.section_coupling.specs.Openings.{IsAnswered}
 
 -- CR that doesn't fit, one for which too few references are free, and one that goes on
 pub onward-unfit : (terms : Terms) (w : Wanted) (point : ℕ) (rewrite : Rewrite) (hop : Option ℕ) (refs : List ℕ) → fits w rewrite hop ≡ false
@@ -55,25 +52,6 @@ pub user-in_range : (w : Wanted) (rewrite : Rewrite) (hop : Option ℕ) (mine : 
 user-in_range w rewrite hop mine called calling body =
     let short : length (called_onward rewrite w.called) ≤ 253 = omega (arith, called, length-called_onward rewrite w.called) in
     cr-in_range mine w.class (called_onward rewrite w.called) (credit_of w.class w.credit) w.calling w.body hop w.importance short calling body
-
--- a class that is 2 or 3, and not 3
-pub two-of : (class : ℕ) → (class == 2 || class == 3) ≡ true → (class == 3) ≡ false → class ≡ 2
-two-of class e f = grind arith
-
-pub not_third : (class : ℕ) → (class ≡ 3 → ⊥) → (class == 3) ≡ false
-not_third class h = grind arith
-
--- where a CR's routing is answered, its class is 2 or 3
-pub asked-class : (w : Wanted) → true ≡ is_some (question_of (by_cr w)) → (w.class == 2 || w.class == 3) ≡ true
-unfolding question_of
-asked-class w e = by_test (w.class == 2 || w.class == 3) (asked_for w.hop Network (address_of w.called)) e
-  where
-    by_test : {A : Type 0} (b : Bool) (x : Option A) → true ≡ is_some (if b then x else None) → b ≡ true
-    by_test true x f = refl
-    by_test false x f = absurd (cc)
-
-pub answered-class : (w : Wanted) (a : Option Answer) → is_some a ≡ true → IsAnswered (by_cr w) a → (w.class == 3) ≡ false → w.class ≡ 2
-answered-class w a e f g = two-of w.class (asked-class w (sym e ∙ f)) g
 
 -- a CR of which routing wasn't asked
 pub unasked : (terms : Terms) (w : Wanted) (a : Option Answer) (refs : List ℕ) → is_some a ≡ false → opened terms (by_cr w) a refs ≡ not_opened (refused w 0x0F ∷ [])

@@ -1,15 +1,24 @@
 -- A connection with the ticks of its timers, as the code keeps it.
-use Rattle.std.specs.Prelude.{ℕ, ◌+◌, ◌==◌, if◌then◌else◌}
+use Rattle.std.specs.Prelude.{ℕ, ◌+◌, ◌/◌, ◌%◌, ◌==◌, if◌then◌else◌, Option, None, slice_index_or}
 use Rattle.relay_base.specs.declared.words.Event.{Event}
 use Rattle.relay_base.specs.declared.words.Event.TheVariants.{Message as Arrives, Asked as Requested, Tick}
 use Rattle.plant_core.specs.declared.terms.Ticks.{Ticks}
-use Rattle.section_model.specs.Ends.{End, Connection}
+use Rattle.section_model.specs.declared.cell.Timer.{Timer}
+use Rattle.section_model.specs.declared.cell.Timer.TheVariants.{Repeat}
+use Rattle.section_model.specs.Ends.{End, wire, owner, Connection}
+use Rattle.section_model.specs.Timing.{firing_order, timer_in}
+use Rattle.flow_law.specs.Kept.{IsKept}
 use Rattle.section_coupling.specs.declared.pair.Pair.{Pair}
+use Rattle.section_coupling.specs.Sound.{SoundPair}
 use Rattle.section_coupling.specs.Views.{connection_at}
 
 pub record DuoState : Type 0 where
   pub ticks : Ticks
   pub pair : Pair
+
+-- What holds of every connection: lengths and credits, and what its two ends keep of windows, which hangs on no timer.
+abbrev pub HoldsAt : Pair → Type 0
+HoldsAt p = SoundPair p × IsKept (connection_at 0 p)
 
 -- the connection that it stands for after so many ticks
 abbrev pub duo_at : ℕ → DuoState → Connection
@@ -18,6 +27,19 @@ duo_at now d = connection_at now d.pair
 -- the end of a number
 abbrev pub side_of : ℕ → Connection → End
 side_of side c = if side == 0 then c.this else c.that
+
+-- the timer at a place, from 0, of the order in which timers fire
+abbrev pub timer_placed : ℕ → Timer
+timer_placed place = slice_index_or firing_order place Repeat
+
+-- the ticks that are left of a timer of an end; a user's end has none
+abbrev pub left_of_timer : Timer → End → Option ℕ
+left_of_timer timer (wire x) = timer_in timer x.timers
+left_of_timer timer (owner u) = None
+
+-- A timer's number is 7 times that of its end, and its place in the order in which timers fire.
+abbrev pub ticks_left : ℕ → Connection → Option ℕ
+ticks_left timer c = left_of_timer (timer_placed (timer % 7)) (side_of (timer / 7) c)
 
 -- how many ticks a lane has taken after an event
 abbrev pub taken_after : ℕ → Event → ℕ

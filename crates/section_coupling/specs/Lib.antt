@@ -1,5 +1,5 @@
 pub mod Views
-pub mod Second
+pub mod Sound
 pub mod Acts
 pub mod Arrived
 pub mod Openings

@@ -5,28 +5,22 @@ use Rattle.plant_core.specs.declared.answer.Answer.{Answer}
 use Rattle.plant_core.specs.declared.terms.Terms.{Terms}
 use Rattle.section_model.specs.Lengths.{IsAddress, IsData}
 use Rattle.section_model.specs.Opening.{Wanted, Wish, by_cr, by_user, no_wish, Opened, question_of, offered}
-use Rattle.section_coupling.specs.declared.opening.Calling.{Calling}
-use Rattle.section_coupling.specs.declared.opening.Calling.TheVariants.{Absent, Given, Subsystem}
-use Rattle.section_coupling.specs.declared.opening.WantedView.{WantedView}
-use Rattle.section_coupling.specs.declared.opening.Incoming.{Incoming}
-use Rattle.section_coupling.specs.declared.opening.Outgoing.{Outgoing}
-use Rattle.section_coupling.specs.declared.opening.WishView.{WishView}
-use Rattle.section_coupling.specs.declared.opening.WishView.TheVariants.{ByCr, ByUser, NoWish}
+use Rattle.section_coupling.specs.declared.wish.Calling.{Calling}
+use Rattle.section_coupling.specs.declared.wish.Calling.TheVariants.{Absent, Given, Subsystem}
+use Rattle.section_coupling.specs.declared.wish.WantedView.{WantedView}
+use Rattle.section_coupling.specs.declared.wish.Incoming.{Incoming}
+use Rattle.section_coupling.specs.declared.wish.Outgoing.{Outgoing}
+use Rattle.section_coupling.specs.declared.wish.WishView.{WishView}
+use Rattle.section_coupling.specs.declared.wish.WishView.TheVariants.{ByCr, ByUser, NoWish}
 use Rattle.section_coupling.specs.declared.opening.Opening.{Opening}
 use Rattle.section_coupling.specs.Views.{connection_at}
-use Rattle.section_coupling.specs.Second.{SecondConnection}
+use Rattle.section_coupling.specs.Sound.{SoundPair}
 
 -- an event that wants a connection
 abbrev pub is_wish : Wish → Bool
 is_wish (by_cr w) = true
 is_wish (by_user ssn tag w) = true
 is_wish no_wish = false
-
--- an opening that wants class 3
-abbrev pub WantsNotThird : Wish → Type 0
-WantsNotThird (by_cr w) = w.class ≡ 3 → ⊥
-WantsNotThird (by_user ssn tag w) = w.class ≡ 3 → ⊥
-WantsNotThird no_wish = Unit {0}
 
 -- routing is answered where it was asked, and only there
 abbrev pub IsAnswered : Wish → Option Answer → Type 0
@@ -64,10 +58,6 @@ seen_wish terms (ByCr i) = by_cr (seen_incoming terms i)
 seen_wish terms (ByUser o) = by_user o.ssn o.tag (seen_outgoing terms o)
 seen_wish terms NoWish = no_wish
 
--- what is wanted isn't of class 3
-abbrev pub IsNotThird : WantedView → Type 0
-IsNotThird w = (w.class == 3) ≡ false
-
 -- what a user wants is in its ranges
 pub record IsGivenWithin (w : WantedView) : Type 0 where
   pub class : IsTrue (w.class == 2 || w.class == 3)
@@ -84,6 +74,6 @@ UserWithin NoWish = Unit {0}
 abbrev pub opened_at : ℕ → Opening → Opened
 opened_at now o = record { connection = option_map (connection_at now) o.pair; outs = o.outs }
 
--- a connection that is opened is of class 2
-abbrev pub OpensSecond : ℕ → Opening → Type 0
-OpensSecond now o = IfSome o.pair (λ p. SecondConnection (connection_at now p))
+-- the connection that is opened, if any
+abbrev pub OpensSound : Opening → Type 0
+OpensSound o = IfSome o.pair SoundPair

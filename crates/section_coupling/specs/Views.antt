@@ -1,9 +1,10 @@
 -- The connection that the code stands for, after so many ticks of its lane.
-use Rattle.std.specs.Prelude.{ℕ, ◌-◌, [], Option, option_map}
-use Rattle.section_model.specs.Ends.{Section, End, wire, owner, Connection, section_of, cleared, Timers as TicksLeft}
+use Rattle.std.specs.Prelude.{ℕ, ◌-◌, Option, option_map}
+use Rattle.section_model.specs.Ends.{Section, User, End, wire, owner, Connection, section_of, Timers as TicksLeft}
 use Rattle.section_user.specs.Side.{user_of}
 use Rattle.section_coupling.specs.declared.timers.Timers.{Timers}
 use Rattle.section_coupling.specs.declared.wire.Wire.{Wire}
+use Rattle.section_coupling.specs.declared.owner.Owner.{Owner}
 use Rattle.section_coupling.specs.declared.side.Side.{Side}
 use Rattle.section_coupling.specs.declared.side.Side.TheVariants as side
 use Rattle.section_coupling.specs.declared.pair.Pair.{Pair}
@@ -23,13 +24,16 @@ timers_at now t = record {
   repeat = left_at now t.repeat;
 }
 
--- in class 2 nothing is counted
 abbrev pub section_at : ℕ → Wire → Section
-section_at now w = record { head = section_of w.head; kept = w.line.kept; windows = cleared 0; timers = timers_at now w.timers }
+section_at now w = record { head = section_of w.head; kept = w.line.kept; windows = w.windows.windows; timers = timers_at now w.timers }
+
+-- a user's end, with what the user gave
+abbrev pub user_at : Owner → User
+user_at o = user_of o.side o.given.value.got o.given.value.passed
 
 abbrev pub end_at : ℕ → Side → End
 end_at now (side.Wire w) = wire (section_at now w)
-end_at now (side.User u) = owner (user_of u [] 0)
+end_at now (side.User o) = owner (user_at o)
 
 abbrev pub connection_at : ℕ → Pair → Connection
 connection_at now p = record { this = end_at now p.this; that = end_at now p.that }

@@ -1,22 +1,21 @@
 //! A user's request on a connection (Q.714).
-ghost use Rattle.std.specs.Prelude.{◌≡◌, ◌≤◌, ℕ, [], ◌∷◌, None, IsTrue, IfOk};
+ghost use Rattle.std.specs.Prelude.{◌≡◌, ◌≤◌, ◌==◌, ◌&&◌, ◌+◌, ℕ, List, nat_lt, None, IsTrue, IfOk};
 ghost use Rattle.relay_base.specs.declared.words.Event.TheVariants.{Asked as Requested};
 ghost use Rattle.relay_base.specs.declared.words.Reason.TheVariants as reason;
-ghost use Rattle.section_model.specs.Ends.{Section};
+ghost use Rattle.relay_base.specs.declared.words.Request.TheVariants as request;
 ghost use Rattle.section_model.specs.Step.{asking_cell, refusal, reason_against, said_no, asks_owner, asks, asked_by, is_in_range};
-ghost use Rattle.section_model.specs.UserEnd.{user_asks};
-ghost use Rattle.section_user.specs.Side.{user_of};
-ghost use Rattle.section_coupling.specs.Views.{section_at, end_at, connection_at};
-ghost use Rattle.section_coupling.specs.Second.{SecondSection, SecondUser, SecondEnd, SecondConnection, SecondActed};
+ghost use Rattle.section_model.specs.UserEnd.{user_asks, unit_count};
+ghost use Rattle.section_coupling.specs.Views.{user_at, section_at, end_at, connection_at};
+ghost use Rattle.section_coupling.specs.Sound.{SoundWire, SoundOwner, SoundSide, SoundPair, SoundActed};
 
 use crate::clock::Clock;
 use crate::coupling::settle;
+use crate::owner::Owner;
 use crate::pair::Pair;
 use crate::side::Side;
 use crate::wire::Wire;
-use relay_base::{Event, Memory, Output, Outs, Reason, Request, Ssn, Tell};
-use section_grid::{Acted, Cell, Input, UserOccasion, UserState, user_cell};
-use section_user::UserSide;
+use relay_base::{Event, Memory, Octets, Output, Outs, Reason, Request, Ssn, Tell};
+use section_grid::{Acted, Cell, SectionState, UserOccasion, UserState, user_cell};
 use std::alloc::Global;
 
 /// What a request is to a user's end.
@@ -34,14 +33,74 @@ fn asking_cell(state: UserState, request: &Request) -> Cell
     }
 }
 
-/// Why a request is refused whose cell is named: in class 2 a higher class, expedited data, and a reset.
-fn refusal(request: &Request, user: &UserSide) -> Option<Reason>
-    requires { SecondUser (user_of user.now [] 0) }
-    ensures { (x : Section) → result ≡ refusal request.now (user_of user.now [] 0) x }
+/// The most units that may wait on a section.
+const MOST_UNITS: usize = 127;
+
+/// How many units a text is cut into.
+fn unit_count(body: &Octets) -> usize
+    ensures { result ≡ unit_count body.now }
+{
+    body.len().div_ceil(255)
+}
+
+/// Whether more units don't fit beside those that wait.
+fn is_too_much(waiting: usize, more: usize) -> bool
+    ensures { result ≡ nat_lt 127 (waiting + more) }
+{
+    waiting > MOST_UNITS || more > MOST_UNITS - waiting
+}
+
+/// Why a text is refused: in class 3 no more than 127 units may wait.
+fn refusal_to_send(body: &Octets, user: &Owner, wire: &Wire) -> Option<Reason>
+    ensures { (now mine : ℕ) → result ≡ refusal (request.Send mine body.now) (user_at user.now) (section_at now wire.now) }
+{
+    if user.side.class == 3 && is_too_much(wire.windows.waiting_units(), unit_count(body)) {
+        return Some(Reason::Full);
+    }
+    None
+}
+
+/// Why expedited data are refused: class 2 has none, and in class 3 no more than one message of them waits.
+fn refusal_to_expedite(user: &Owner, wire: &Wire) -> Option<Reason>
+    ensures { (now mine : ℕ) (body : List ℕ) → result ≡ refusal (request.Expedite mine body) (user_at user.now) (section_at now wire.now) }
+{
+    if user.side.class == 2 {
+        return Some(Reason::Class);
+    }
+    if wire.windows.has_waiting_expedited() {
+        return Some(Reason::Expedited);
+    }
+    None
+}
+
+/// Why a reset is refused: class 2 has none, and one may be under way.
+fn refusal_to_reset(user: &Owner, wire: &Wire) -> Option<Reason>
+    ensures { (now mine : ℕ) → result ≡ refusal (request.Reset mine) (user_at user.now) (section_at now wire.now) }
+{
+    if user.side.class == 2 {
+        return Some(Reason::Class);
+    }
+    if wire.head.state() == SectionState::Up {
+        return None;
+    }
+    Some(Reason::State)
+}
+
+/// Why a request is refused whose cell is named.
+fn refusal(request: &Request, user: &Owner, wire: &Wire) -> Option<Reason>
+    ensures { (now : ℕ) → result ≡ refusal request.now (user_at user.now) (section_at now wire.now) }
 {
     match request {
-        Request::Accept { class, .. } if *class > user.class => Some(Reason::Class),
-        Request::Expedite { .. } | Request::Reset { .. } => Some(Reason::Class),
+        Request::Accept { class, .. } => {
+            if *class > user.side.class {
+                Some(Reason::Class)
+            } else {
+                None
+            }
+        }
+        Request::Send { body, .. } => refusal_to_send(body, user, wire),
+        Request::Expedite { .. } => refusal_to_expedite(user, wire),
+        Request::Reset { .. } => refusal_to_reset(user, wire),
         _ => None,
     }
 }
@@ -59,34 +118,30 @@ fn said_no(alloc: Global, ssn: Ssn, reason: Reason) -> Result<Outs, Memory>
 }
 
 /// Why a request has no effect: no cell is named for it, or it is refused.
-fn reason_against(request: &Request, user: &UserSide) -> Option<Reason>
-    requires { SecondUser (user_of user.now [] 0) }
-    ensures { (x : Section) → result ≡ reason_against request.now (user_of user.now [] 0) x }
+fn reason_against(request: &Request, user: &Owner, wire: &Wire) -> Option<Reason>
+    ensures { (now : ℕ) → result ≡ reason_against request.now (user_at user.now) (section_at now wire.now) }
 {
-    if asking_cell(user.state, request) == Cell::Nothing {
+    if asking_cell(user.side.state, request) == Cell::Nothing {
         return Some(Reason::State);
     }
-    refusal(request, user)
+    refusal(request, user, wire)
 }
 
 /// A user's end does what is asked.
 fn user_asks(
     alloc: Global,
-    mut user: UserSide,
-    ssn: Ssn,
+    user: Owner,
     request: &Request,
     event: &Event,
-) -> Result<(UserSide, Acted), Memory>
-    requires user { SecondUser (user_of user [] 0) }
+) -> Result<(Owner, Acted), Memory>
+    requires user { SoundOwner user }
     requires range { IsTrue (is_in_range request.now) }
-    requires allowed { (x : Section) → reason_against request.now (user_of user [] 0) x ≡ None }
-    requires event { event.now ≡ Requested ssn request.now }
-    ensures asks { IfOk result (λ r. user_asks (asking_cell user.state request.now) request.now (user_of user [] 0) ≡ (user_of r.0 [] 0, r.1)) }
-    ensures second { IfOk result (λ r. SecondUser (user_of r.0 [] 0) × SecondActed r.1) }
+    requires event { event.now ≡ Requested user.side.ssn request.now }
+    ensures asks { IfOk result (λ r. user_asks (asking_cell user.side.state request.now) request.now (user_at user) ≡ (user_at r.0, r.1)) }
+    ensures sound { IfOk result (λ r. SoundOwner r.0 × SoundActed r.1) }
 {
-    let cell = asking_cell(user.state, request);
-    let acted = user.act(alloc, cell, &Input::Event(event))?;
-    Ok((user, acted))
+    let cell = asking_cell(user.side.state, request);
+    user.ask(alloc, cell, event)
 }
 
 /// A request of the user itself.
@@ -95,25 +150,26 @@ fn ask_owner(
     clock: &Clock,
     request: &Request,
     event: &Event,
-    user: UserSide,
+    user: Owner,
     wire: Wire,
 ) -> Result<(Pair, Outs), Memory>
     requires clock { clock.now.taken ≤ 4_294_967_296 }
-    requires user { SecondUser (user_of user [] 0) }
-    requires section { SecondSection (section_at clock.now.taken wire) }
+    requires user { SoundOwner user }
+    requires section { SoundWire wire }
     requires range { IsTrue (is_in_range request.now) }
-    requires event { event.now ≡ Requested user.ssn request.now }
-    ensures asks { IfOk result (λ r. asks_owner clock.now.ticks request.now (user_of user [] 0) (section_at clock.now.taken wire) ≡ (connection_at clock.now.taken r.0, r.1)) }
-    ensures second { IfOk result (λ r. SecondConnection (connection_at clock.now.taken r.0)) }
+    requires event { event.now ≡ Requested user.side.ssn request.now }
+    ensures asks { IfOk result (λ r. asks_owner clock.now.ticks request.now (user_at user) (section_at clock.now.taken wire) ≡ (connection_at clock.now.taken r.0, r.1)) }
+    ensures sound { IfOk result (λ r. SoundPair r.0) }
 {
+    let ssn = user.ssn();
+    let against = reason_against(request, &user, &wire);
     let that = Side::Wire(wire);
-    if let Some(reason) = reason_against(request, &user) {
-        let outs = said_no(alloc, user.ssn, reason)?;
+    if let Some(reason) = against {
+        let outs = said_no(alloc, ssn, reason)?;
         let this = Side::User(user);
         return Ok((Pair { this, that }, outs));
     }
-    let ssn = user.ssn;
-    let (user, acted) = user_asks(alloc, user, ssn, request, event)?;
+    let (user, acted) = user_asks(alloc, user, request, event)?;
     settle(alloc, clock, Side::User(user), acted, that)
 }
 
@@ -136,16 +192,16 @@ fn ask_this(
     pair: Pair,
 ) -> Result<(Pair, Outs), Memory>
     requires clock { clock.now.taken ≤ 4_294_967_296 }
-    requires pair { SecondConnection (connection_at clock.now.taken pair) }
+    requires pair { SoundPair pair }
     requires range { IsTrue (is_in_range request.now) }
     requires event { event.now ≡ Requested ssn request.now }
     ensures asks { IfOk result (λ r. asks clock.now.ticks ssn request.now (end_at clock.now.taken pair.this) (end_at clock.now.taken pair.that) ≡ (connection_at clock.now.taken r.0, r.1)) }
-    ensures second { IfOk result (λ r. SecondConnection (connection_at clock.now.taken r.0)) }
+    ensures sound { IfOk result (λ r. SoundPair r.0) }
 {
     let Pair { this, that } = pair;
     match this {
         Side::User(user) => match that {
-            Side::Wire(wire) if user.ssn == ssn => {
+            Side::Wire(wire) if user.side.ssn == ssn => {
                 ask_owner(alloc, clock, request, event, user, wire)
             }
             that => not_owner(alloc, ssn, Side::User(user), that),
@@ -164,11 +220,11 @@ pub fn ask(
     pair: Pair,
 ) -> Result<(Pair, Outs), Memory>
     requires clock { clock.now.taken ≤ 4_294_967_296 }
-    requires pair { SecondConnection (connection_at clock.now.taken pair) }
+    requires pair { SoundPair pair }
     requires range { IsTrue (is_in_range request.now) }
     requires event { event.now ≡ Requested ssn request.now }
     ensures asks { IfOk result (λ r. asked_by clock.now.ticks ssn request.now (connection_at clock.now.taken pair) ≡ (connection_at clock.now.taken r.0, r.1)) }
-    ensures second { IfOk result (λ r. SecondConnection (connection_at clock.now.taken r.0)) }
+    ensures sound { IfOk result (λ r. SoundPair r.0) }
 {
     if matches!(pair.this, Side::User(_)) {
         return ask_this(alloc, clock, ssn, request, event, pair);

@@ -2,7 +2,7 @@
 ghost use Rattle.std.specs.Prelude.{◌≡◌, ◌≤◌, ◌++◌, IfOk, OnOk, fold};
 ghost use Rattle.section_model.specs.Coupling.{exchange, offered, settles};
 ghost use Rattle.section_coupling.specs.Views.{connection_at, end_at};
-ghost use Rattle.section_coupling.specs.Second.{SecondActed, SecondConnection, SecondEnd, SecondHands};
+ghost use Rattle.section_coupling.specs.Sound.{SoundActed, SoundPair, SoundSide, SoundHands};
 
 use crate::clock::Clock;
 use crate::pair::Pair;
@@ -35,10 +35,10 @@ fn offer(
     hands: &HandList,
 ) -> Result<(Pair, Outs), Memory>
     requires clock { clock.now.taken ≤ 4_294_967_296 }
-    requires pair { SecondConnection (connection_at clock.now.taken pair) }
-    requires hands { SecondHands hands.now }
+    requires pair { SoundPair pair }
+    requires hands { SoundHands hands.now }
     ensures offered { IfOk result (λ r. fold (offered (exchange turns clock.now.ticks) clock.now.ticks) (connection_at clock.now.taken pair, outs) hands.now ≡ (connection_at clock.now.taken r.0, r.1)) }
-    ensures second { IfOk result (λ r. SecondConnection (connection_at clock.now.taken r.0)) }
+    ensures sound { IfOk result (λ r. SoundPair r.0) }
 {
     let mut pair = pair;
     let mut outs = outs;
@@ -64,11 +64,11 @@ fn exchange(
     that: Side,
 ) -> Result<(Pair, Outs), Memory>
     requires clock { clock.now.taken ≤ 4_294_967_296 }
-    requires this { SecondEnd (end_at clock.now.taken this) }
-    requires acted { SecondActed acted }
-    requires that { SecondEnd (end_at clock.now.taken that) }
+    requires this { SoundSide this }
+    requires acted { SoundActed acted }
+    requires that { SoundSide that }
     ensures exchanged { IfOk result (λ r. exchange turns clock.now.ticks (end_at clock.now.taken this, acted) (end_at clock.now.taken that) ≡ (connection_at clock.now.taken r.0, r.1)) }
-    ensures second { IfOk result (λ r. SecondConnection (connection_at clock.now.taken r.0)) }
+    ensures sound { IfOk result (λ r. SoundPair r.0) }
 {
     let Acted { first, outs, then } = acted;
     let pair = Pair { this, that };
@@ -91,11 +91,11 @@ pub fn settle(
     that: Side,
 ) -> Result<(Pair, Outs), Memory>
     requires clock { clock.now.taken ≤ 4_294_967_296 }
-    requires this { SecondEnd (end_at clock.now.taken this) }
-    requires acted { SecondActed acted }
-    requires that { SecondEnd (end_at clock.now.taken that) }
+    requires this { SoundSide this }
+    requires acted { SoundActed acted }
+    requires that { SoundSide that }
     ensures settled { IfOk result (λ r. settles clock.now.ticks (end_at clock.now.taken this, acted) (end_at clock.now.taken that) ≡ (connection_at clock.now.taken r.0, r.1)) }
-    ensures second { IfOk result (λ r. SecondConnection (connection_at clock.now.taken r.0)) }
+    ensures sound { IfOk result (λ r. SoundPair r.0) }
 {
     exchange(alloc, clock, 3, this, acted, that)
 }

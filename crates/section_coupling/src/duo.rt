@@ -4,18 +4,22 @@ ghost use Rattle.section_model.specs.Step.{connection_step, event_step, hears, i
 ghost use Rattle.std.specs.Option.{option_map};
 ghost use Rattle.section_model.specs.Lane.{reference_of};
 ghost use Rattle.section_model.specs.Opening.{wish_of, slots_needed, opened};
-ghost use Rattle.section_coupling.specs.Openings.{IsAnswered, WantsNotThird};
+ghost use Rattle.section_coupling.specs.Openings.{IsAnswered};
 ghost use Rattle.section_model.specs.Parameters.{arrival_in};
-ghost use Rattle.section_coupling.specs.Views.{connection_at};
-ghost use Rattle.section_coupling.specs.Second.{SecondConnection};
-ghost use Rattle.section_coupling.specs.Duos.{duo_at, taken_after, side_of};
+ghost use Rattle.section_coupling.specs.Views.{connection_at, left_at};
+ghost use Rattle.section_coupling.specs.Sound.{IsCredit, SoundPair};
+ghost use Rattle.flow_law.specs.Kept.{IsKept};
+ghost use Rattle.flow_law.specs.FlowLaw.{FlowKept};
+ghost use Rattle.section_coupling.specs.Duos.{duo_at, taken_after, side_of, ticks_left};
 
 use crate::asking::ask;
 use crate::clock::Clock;
+use crate::following::follow;
 use crate::hearing::hear_message;
-use crate::opening::{Opening, begin, needs};
+use crate::opening::{Opening, begin};
 use crate::pair::Pair;
-use crate::ticking::tick;
+use crate::sizes::needs;
+use crate::ticking::{tick, timer_placed};
 use crate::unheard::{is_in_range, named};
 use plant_core::{Answer, Terms, Ticks};
 use relay_base::{Event, Memory, Outs, Ref24};
@@ -24,7 +28,7 @@ use std::alloc::Global;
 use std::marker::Model;
 
 /// A connection, with the ticks of its timers.
-#[derive(Debug, Drop)]
+#[derive(Drop)]
 pub struct Duo {
     alloc: Global,
     ticks: Ticks,
@@ -32,19 +36,17 @@ pub struct Duo {
 }
 
 impl Model for Duo {
-    ghost use Rattle.section_coupling.specs.Duos.{DuoState};
-    ghost use Rattle.section_coupling.specs.Views.{connection_at};
-    ghost use Rattle.section_coupling.specs.Second.{SecondConnection};
+    ghost use Rattle.section_coupling.specs.Duos.{DuoState, HoldsAt};
 
     ghost Value = { DuoState };
 
     ghost view = { λ d. record { ticks = d.ticks; pair = d.pair } };
 
-    ghost invariant = { λ d. SecondConnection (connection_at 0 d.pair) };
+    ghost invariant = { λ d. HoldsAt d.pair };
 }
 
 /// A connection after an event, and the outputs of that.
-#[derive(Debug, Drop)]
+#[derive(Drop)]
 pub struct Heard {
     pub duo: Duo,
     pub outs: Outs,
@@ -70,10 +72,10 @@ fn take(
     pair: Pair,
 ) -> Result<(Pair, Outs), Memory>
     requires now { now ≤ 4_294_967_295 }
-    requires pair { SecondConnection (connection_at now pair) }
+    requires pair { SoundPair pair }
     requires hears { IsTrue (hears (connection_at now pair) event.now) }
     ensures step { IfOk result (λ r. event_step ticks (connection_at now pair) event.now ≡ (connection_at (taken_after now event.now) r.0, r.1)) }
-    ensures second { IfOk result (λ r. SecondConnection (connection_at (taken_after now event.now) r.0)) }
+    ensures sound { IfOk result (λ r. SoundPair r.0) }
 {
     let clock = Clock {
         ticks,
@@ -90,7 +92,7 @@ fn take(
 }
 
 /// What an opening gives: the connection, unless it is refused, and the outputs.
-#[derive(Debug, Drop)]
+#[derive(Drop)]
 pub struct Begun {
     pub duo: Option<Duo>,
     pub outs: Outs,
@@ -115,7 +117,7 @@ impl Duo {
         refs: &[Ref24],
     ) -> Result<Begun, Memory>
         requires now { now ≤ 4_294_967_295 }
-        requires class { WantsNotThird (wish_of terms.now event.now) }
+        requires credit { IsCredit terms.now.credit }
         requires answered { IsAnswered (wish_of terms.now event.now) (option_map (λ a. a.now) asked) }
         ensures opened { IfOk result (λ b. opened terms.now (wish_of terms.now event.now) (option_map (λ a. a.now) asked.entry) refs.now ≡ record { connection = option_map (duo_at now) b.duo; outs = b.outs }) }
         ensures ticks { IfOk result (λ b. IfSome b.duo (λ d. d.ticks ≡ terms.now.ticks)) }
@@ -159,16 +161,23 @@ impl Duo {
     }
 
     /// The connection after an event that it hears, and its outputs. `now` is the number of ticks that its lane took before the event,
-    /// 0 to 4,294,967,295. It works on a copy.
-    #[tactic(auto, using(crate::proofs::AfterEvents::after_second), unfolding(section_model::specs::Step::connection_step))]
+    /// 0 to 4,294,967,295. It works on a copy. The law of the windows holds of what it leaves, as of every connection: what was sent is the first
+    /// of what came in at the other end, and no window is overrun.
+    #[tactic(auto, unfolding(section_model::specs::Step::connection_step))]
     pub fn hear(&self, now: u64, event: &Event) -> Result<Heard, Memory>
         requires now { now ≤ 4_294_967_295 }
         requires hears { IsTrue (hears (duo_at now self.now) event.now) }
         ensures step { IfOk result (λ heard. connection_step self.now.ticks (duo_at now self.now) event.now ≡ (duo_at (taken_after now event.now) heard.duo, heard.outs)) }
         ensures ticks { IfOk result (λ heard. heard.duo.ticks ≡ self.now.ticks) }
+        ensures windows { IfOk result (λ heard. FlowKept (duo_at (taken_after now event.now) heard.duo)) }
     {
         let Duo { alloc, ticks, pair } = self.copy()?;
         let (pair, outs) = take(alloc, ticks, now, event, pair)?;
+        let clock = Clock {
+            ticks,
+            taken: taken_after(now, event),
+        };
+        let (pair, outs) = follow(alloc, &clock, pair, outs)?;
         let duo = Duo { alloc, ticks, pair };
         Ok(Heard { duo, outs })
     }
@@ -189,6 +198,20 @@ impl Duo {
             self.pair.this.reference()
         } else {
             self.pair.that.reference()
+        }
+    }
+
+    /// The lane's tick, counted from 1, at which a timer fires; None where it doesn't run. The number of a timer, 0 to 13, is 7 times
+    /// that of its end, and its place in the order in which timers fire: connect, reset, iar, ias, rel, int, repeat.
+    pub fn deadline(&self, timer: u8) -> Option<u64>
+        requires { timer < 14 }
+        ensures { (now : ℕ) → left_at now result ≡ ticks_left timer (duo_at now self.now) }
+    {
+        let (end, placed) = (timer / 7, timer_placed(timer % 7));
+        if end == 0 {
+            self.pair.this.deadline(placed)
+        } else {
+            self.pair.that.deadline(placed)
         }
     }
 

@@ -8,7 +8,7 @@ ghost use Rattle.section_model.specs.Views.{seen_arrival, seen_parameters};
 ghost use Rattle.section_model.specs.Step.{names_both, ends_both, names_another, is_of_class_2, is_of_class_3, is_of_other_class, checked, hears_checked, hears_message, is_from_elsewhere, in_touch, keeps, is_named, at_this, heard_by};
 ghost use Rattle.section_coupling.specs.Arrived.{arrived_in};
 ghost use Rattle.section_coupling.specs.Views.{section_at, end_at, connection_at};
-ghost use Rattle.section_coupling.specs.Second.{SecondSection, SecondEnd, SecondConnection, SecondActed};
+ghost use Rattle.section_coupling.specs.Sound.{SoundWire, SoundSide, SoundPair, SoundActed};
 
 use crate::clock::Clock;
 use crate::coupling::settle;
@@ -110,7 +110,8 @@ impl Wire {
     /// A message from the section's point starts its receive inactivity timer again.
     fn in_touch(self, clock: &Clock) -> Wire
         requires { clock.now.taken ≤ 4_294_967_296 }
-        ensures { section_at clock.now.taken result ≡ in_touch clock.now.ticks (section_at clock.now.taken self) }
+        ensures value { section_at clock.now.taken result ≡ in_touch clock.now.ticks (section_at clock.now.taken self) }
+        ensures sound { SoundWire self → SoundWire result }
     {
         Wire {
             timers: self.timers.heard_again(clock),
@@ -121,7 +122,8 @@ impl Wire {
     /// Gives an output, and keeps its state.
     fn keep(self, alloc: Global, clock: &Clock, output: Output) -> Result<(Wire, Acted), Memory>
         requires { clock.now.taken ≤ 4_294_967_296 }
-        ensures { IfOk result (λ r. keeps clock.now.ticks output (section_at clock.now.taken self) ≡ (wire (section_at clock.now.taken r.0), r.1)) }
+        ensures sound { SoundWire self → IfOk result (λ r. SoundWire r.0 × SoundActed r.1) }
+        ensures keeps { IfOk result (λ r. keeps clock.now.ticks output (section_at clock.now.taken self) ≡ (wire (section_at clock.now.taken r.0), r.1)) }
     {
         let state = self.head.state();
         let is_sent = is_sent(&output);
@@ -134,7 +136,7 @@ impl Wire {
     }
 
     /// Hears a message, by a check or by the cell.
-    #[tactic(auto, using(crate::proofs::SecondCells::section_hears_second))]
+    #[tactic(auto, unfolding(section_model::specs::Acting::section_hears), using(crate::proofs::ByTable::sets_up_once, crate::proofs::Arriving::acts_heard))]
     fn hear(
         self,
         alloc: Global,
@@ -143,10 +145,10 @@ impl Wire {
         event: &Event,
     ) -> Result<(Wire, Acted), Memory>
         requires clock { clock.now.taken ≤ 4_294_967_296 }
-        requires section { SecondSection (section_at clock.now.taken self) }
+        requires section { SoundWire self }
         requires arrives { (arrived_in event.now).arrival ≡ Some (seen_arrival arrival.now) }
         ensures hears { IfOk result (λ r. hears_checked clock.now.ticks arrival.now.occasion (arrived_in event.now).point (seen_parameters arrival.now.parameters) (section_at clock.now.taken self) (checked arrival.now.occasion (seen_parameters arrival.now.parameters) (section_of self.head)) ≡ (wire (section_at clock.now.taken r.0), r.1)) }
-        ensures second { IfOk result (λ r. SecondSection (section_at clock.now.taken r.0) × SecondActed r.1) }
+        ensures sound { IfOk result (λ r. SoundWire r.0 × SoundActed r.1) }
     {
         match checked(alloc, arrival, &self.head)? {
             Some(output) => self.keep(alloc, clock, output),
@@ -170,11 +172,11 @@ fn hear_on(
     that: Side,
 ) -> Result<(Pair, Outs), Memory>
     requires clock { clock.now.taken ≤ 4_294_967_296 }
-    requires section { SecondSection (section_at clock.now.taken wire) }
-    requires that { SecondEnd (end_at clock.now.taken that) }
+    requires section { SoundWire wire }
+    requires that { SoundSide that }
     requires arrives { arrived_in event.now ≡ record { point = point; arrival = Some (seen_arrival arrival.now) } }
     ensures hears { IfOk result (λ r. hears_message clock.now.ticks arrival.now.occasion point (seen_parameters arrival.now.parameters) (section_at clock.now.taken wire) (end_at clock.now.taken that) ≡ (connection_at clock.now.taken r.0, r.1)) }
-    ensures second { IfOk result (λ r. SecondConnection (connection_at clock.now.taken r.0)) }
+    ensures sound { IfOk result (λ r. SoundPair r.0) }
 {
     if is_from_elsewhere(point, &wire.head) {
         let mut outs = Outs::new(alloc);
@@ -197,10 +199,10 @@ pub fn hear_message(
     pair: Pair,
 ) -> Result<(Pair, Outs), Memory>
     requires clock { clock.now.taken ≤ 4_294_967_296 }
-    requires pair { SecondConnection (connection_at clock.now.taken pair) }
+    requires pair { SoundPair pair }
     requires arrives { arrived_in event.now ≡ record { point = point; arrival = Some (seen_arrival arrival.now) } }
     ensures hears { IfOk result (λ r. heard_by clock.now.ticks point (Some (seen_arrival arrival.now)) (connection_at clock.now.taken pair) ≡ (connection_at clock.now.taken r.0, r.1)) }
-    ensures second { IfOk result (λ r. SecondConnection (connection_at clock.now.taken r.0)) }
+    ensures sound { IfOk result (λ r. SoundPair r.0) }
 {
     if pair.this.is_named(arrival.parameters.dlr) {
         return hear_at_this(alloc, clock, arrival, point, event, pair);
@@ -219,10 +221,10 @@ fn hear_at_this(
     pair: Pair,
 ) -> Result<(Pair, Outs), Memory>
     requires clock { clock.now.taken ≤ 4_294_967_296 }
-    requires pair { SecondConnection (connection_at clock.now.taken pair) }
+    requires pair { SoundPair pair }
     requires arrives { arrived_in event.now ≡ record { point = point; arrival = Some (seen_arrival arrival.now) } }
     ensures hears { IfOk result (λ r. at_this (hears_message clock.now.ticks arrival.now.occasion point (seen_parameters arrival.now.parameters)) (connection_at clock.now.taken pair) ≡ (connection_at clock.now.taken r.0, r.1)) }
-    ensures second { IfOk result (λ r. SecondConnection (connection_at clock.now.taken r.0)) }
+    ensures sound { IfOk result (λ r. SoundPair r.0) }
 {
     let Pair { this, that } = pair;
     match this {

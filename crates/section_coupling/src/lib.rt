@@ -6,17 +6,21 @@ mod asking;
 mod clock;
 mod coupling;
 mod duo;
+mod following;
 mod hearing;
 mod opening;
+mod owner;
 mod pair;
 mod side;
+mod sizes;
 #[cfg(test)]
 mod tests;
 mod ticking;
 mod timers;
 mod unheard;
 mod wire;
+mod wish;
 
 pub use duo::{Begun, Duo, Heard};
-pub use opening::{ask_of, opens};
 pub use unheard::stray;
+pub use wish::{ask_of, opens};

@@ -3,12 +3,13 @@ ghost use Rattle.std.specs.Prelude.{◌≡◌, ℕ, Some, IfOk};
 ghost use Rattle.section_model.specs.Ends.{turned};
 ghost use Rattle.section_model.specs.Step.{names};
 ghost use Rattle.section_coupling.specs.Views.{connection_at};
+ghost use Rattle.section_coupling.specs.Sound.{SoundPair};
 
 use crate::side::Side;
 use relay_base::{Memory, Ref24};
 
 /// A connection, seen from one of its ends.
-#[derive(Debug, Drop)]
+#[derive(Drop)]
 pub struct Pair {
     pub this: Side,
     pub that: Side,
@@ -17,7 +18,8 @@ pub struct Pair {
 impl Pair {
     /// The connection seen from its other end.
     pub fn turned(self) -> Pair
-        ensures { (now : ℕ) → connection_at now result ≡ turned (connection_at now self) }
+        ensures value { (now : ℕ) → connection_at now result ≡ turned (connection_at now self) }
+        ensures sound { SoundPair self → SoundPair result }
     {
         Pair {
             this: self.that,

@@ -1,30 +1,29 @@
 //! An end of a connection.
-ghost use Rattle.std.specs.Prelude.{◌≡◌, ◌≤◌, IfOk, ℕ, []};
+ghost use Rattle.std.specs.Prelude.{◌≡◌, ◌≤◌, IfOk, ℕ};
 ghost use Rattle.section_model.specs.Acting.{end_takes, section_takes, section_takes_by, user_takes_by};
 ghost use Rattle.section_model.specs.Ends.{section_of, owner};
 ghost use Rattle.section_model.specs.UserEnd.{user_takes};
-ghost use Rattle.section_user.specs.Side.{user_of};
 ghost use Rattle.section_model.specs.Lane.{reference_of};
 ghost use Rattle.section_model.specs.Step.{end_is_gone, is_named};
-ghost use Rattle.section_coupling.specs.Views.{end_at, section_at};
-ghost use Rattle.section_coupling.specs.Second.{SecondEnd, SecondSection, SecondUser, OfSecond, SecondActed};
+ghost use Rattle.section_coupling.specs.Views.{end_at, section_at, user_at};
+ghost use Rattle.section_coupling.specs.Sound.{SoundSide, SoundWire, SoundOwner, IsGranted, SoundActed};
 ghost use Rattle.section_model.specs.Lengths.{HandWithin};
 
 use crate::clock::Clock;
+use crate::owner::Owner;
 use crate::wire::Wire;
 use relay_base::{Memory, Ref24};
 use section_grid::{
     Acted, Cell, Hand, Input, Occasion, SectionState, UserOccasion, UserState, section_cell,
     user_cell,
 };
-use section_user::UserSide;
 use std::alloc::Global;
 
 /// An end of a connection: a section of the network, or a user of this node.
-#[derive(Debug, Drop)]
+#[derive(Drop)]
 pub enum Side {
     Wire(Wire),
-    User(UserSide),
+    User(Owner),
 }
 
 /// What an effect of the other end is to a section.
@@ -60,7 +59,7 @@ fn user_takes_by(state: UserState, hand: &Hand) -> Cell
 }
 
 /// A section takes an effect of the other end.
-#[tactic(auto, using(crate::proofs::SecondCells::section_takes_second))]
+#[tactic(auto, unfolding(section_model::specs::Acting::section_takes), using(crate::proofs::ByTable::takes_sets_up_once))]
 fn wire_takes(
     alloc: Global,
     clock: &Clock,
@@ -68,11 +67,11 @@ fn wire_takes(
     hand: &Hand,
 ) -> Result<(Side, Acted), Memory>
     requires clock { clock.now.taken ≤ 4_294_967_296 }
-    requires section { SecondSection (section_at clock.now.taken wire) }
-    requires of_second { OfSecond hand.now }
+    requires section { SoundWire wire }
+    requires granted { IsGranted hand.now }
     requires within { HandWithin hand.now }
     ensures takes { IfOk result (λ r. section_takes clock.now.ticks (section_takes_by (section_of wire.head).state hand.now) hand.now (section_at clock.now.taken wire) ≡ (end_at clock.now.taken r.0, r.1)) }
-    ensures second { IfOk result (λ r. SecondEnd (end_at clock.now.taken r.0) × SecondActed r.1) }
+    ensures sound { IfOk result (λ r. SoundSide r.0 × SoundActed r.1) }
 {
     let cell = section_takes_by(wire.head.state(), hand);
     let (wire, acted) = wire.act(alloc, clock, cell, &Input::Hand(hand))?;
@@ -80,34 +79,31 @@ fn wire_takes(
 }
 
 /// A user's end takes an effect of the section.
-#[tactic(auto, using(crate::proofs::SecondTakes::user_kept))]
-fn user_takes(alloc: Global, mut user: UserSide, hand: &Hand) -> Result<(UserSide, Acted), Memory>
-    requires user { SecondUser (user_of user [] 0) }
-    requires of_second { OfSecond hand.now }
-    ensures takes { IfOk result (λ r. user_takes (user_takes_by user.state hand.now) hand.now (user_of user [] 0) ≡ (user_of r.0 [] 0, r.1)) }
-    ensures second { IfOk result (λ r. SecondUser (user_of r.0 [] 0) × SecondActed r.1) }
+fn user_takes(alloc: Global, user: Owner, hand: &Hand) -> Result<(Side, Acted), Memory>
+    requires user { SoundOwner user }
+    requires granted { IsGranted hand.now }
+    ensures takes { IfOk result (λ r. (now : ℕ) → owner (user_takes (user_takes_by user.side.state hand.now) hand.now (user_at user)).0 ≡ end_at now r.0) }
+    ensures does { IfOk result (λ r. (user_takes (user_takes_by user.side.state hand.now) hand.now (user_at user)).1 ≡ r.1) }
+    ensures sound { IfOk result (λ r. SoundSide r.0 × SoundActed r.1) }
 {
-    let cell = user_takes_by(user.state, hand);
-    let acted = user.act(alloc, cell, &Input::Hand(hand))?;
-    Ok((user, acted))
+    let cell = user_takes_by(user.side.state, hand);
+    let (user, acted) = user.take(alloc, cell, hand)?;
+    Ok((Side::User(user), acted))
 }
 
 impl Side {
     /// Takes an effect of the other end.
     pub fn take(self, alloc: Global, clock: &Clock, hand: &Hand) -> Result<(Side, Acted), Memory>
         requires clock { clock.now.taken ≤ 4_294_967_296 }
-        requires end { SecondEnd (end_at clock.now.taken self) }
-        requires of_second { OfSecond hand.now }
+        requires end { SoundSide self }
+        requires granted { IsGranted hand.now }
         requires within { HandWithin hand.now }
         ensures takes { IfOk result (λ r. end_takes clock.now.ticks hand.now (end_at clock.now.taken self) ≡ (end_at clock.now.taken r.0, r.1)) }
-        ensures second { IfOk result (λ r. SecondEnd (end_at clock.now.taken r.0) × SecondActed r.1) }
+        ensures sound { IfOk result (λ r. SoundSide r.0 × SoundActed r.1) }
     {
         match self {
             Side::Wire(wire) => wire_takes(alloc, clock, wire, hand),
-            Side::User(user) => {
-                let (user, acted) = user_takes(alloc, user, hand)?;
-                Ok((Side::User(user), acted))
-            }
+            Side::User(user) => user_takes(alloc, user, hand),
         }
     }
 
@@ -149,7 +145,7 @@ impl Side {
     {
         match self {
             Side::Wire(wire) => wire.head.state() == SectionState::Gone,
-            Side::User(user) => user.state == UserState::Gone,
+            Side::User(user) => user.side.state == UserState::Gone,
         }
     }
 }

@@ -1,11 +1,12 @@
 //! A tick on a connection (Q.714, timers).
-ghost use Rattle.std.specs.Prelude.{◌≡◌, ◌≤◌, ◌+◌, [], fold, IfOk};
+ghost use Rattle.std.specs.Prelude.{◌≡◌, ◌≤◌, ◌+◌, ℕ, [], fold, IfOk};
 ghost use Rattle.section_model.specs.Timing.{firing, firing_order, rearmed};
 ghost use Rattle.section_model.specs.Ends.{wire};
 ghost use Rattle.section_model.specs.Acting.{section_fires};
 ghost use Rattle.section_model.specs.Step.{is_due_at, fires, fires_next, fires_due, ticks_by};
-ghost use Rattle.section_coupling.specs.Views.{section_at, end_at, connection_at};
-ghost use Rattle.section_coupling.specs.Second.{SecondSection, SecondEnd, SecondConnection, SecondActed};
+ghost use Rattle.section_coupling.specs.Views.{section_at, end_at, connection_at, left_at};
+ghost use Rattle.section_coupling.specs.Duos.{timer_placed, left_of_timer};
+ghost use Rattle.section_coupling.specs.Sound.{SoundWire, SoundSide, SoundPair, SoundActed};
 ghost use Rattle.section_model.specs.Table.{section_cell};
 
 use crate::clock::Clock;
@@ -28,6 +29,21 @@ const FIRING_ORDER: [Timer; 7] = [
     Timer::Repeat,
 ];
 
+/// The timer at a place, from 0, of this order.
+pub fn timer_placed(place: u8) -> Timer
+    ensures { result ≡ timer_placed place }
+{
+    match place {
+        0 => Timer::Connect,
+        1 => Timer::Reset,
+        2 => Timer::Iar,
+        3 => Timer::Ias,
+        4 => Timer::Rel,
+        5 => Timer::Int,
+        _ => Timer::Repeat,
+    }
+}
+
 /// What a section meets where a timer fires.
 fn firing(timer: Timer) -> Occasion
     ensures { result ≡ firing timer }
@@ -45,12 +61,12 @@ fn firing(timer: Timer) -> Occasion
 
 impl Wire {
     /// A timer fires.
-    #[tactic(auto, using(crate::proofs::SecondCells::section_fires_second))]
+    #[tactic(auto, unfolding(section_model::specs::Acting::section_fires), using(crate::proofs::ByTable::sets_up_once))]
     fn fire(self, alloc: Global, clock: &Clock, timer: Timer) -> Result<(Wire, Acted), Memory>
         requires clock { clock.now.taken ≤ 4_294_967_296 }
-        requires section { SecondSection (section_at clock.now.taken self) }
+        requires section { SoundWire self }
         ensures fires { IfOk result (λ r. section_fires clock.now.ticks (section_cell (section_at clock.now.taken self).head.state (firing timer)) (record (section_at clock.now.taken self) { timers = rearmed clock.now.ticks timer (section_at clock.now.taken self).timers }) ≡ (wire (section_at clock.now.taken r.0), r.1)) }
-        ensures second { IfOk result (λ r. SecondSection (section_at clock.now.taken r.0) × SecondActed r.1) }
+        ensures sound { IfOk result (λ r. SoundWire r.0 × SoundActed r.1) }
     {
         let cell = section_cell(self.head.state(), firing(timer));
         let wire = Wire {
@@ -62,6 +78,16 @@ impl Wire {
 }
 
 impl Side {
+    /// The number of the tick at which a timer of this end fires; None where it doesn't run.
+    pub fn deadline(&self, timer: Timer) -> Option<u64>
+        ensures { (now : ℕ) → left_at now result ≡ left_of_timer timer (end_at now self.now) }
+    {
+        match self {
+            Side::Wire(wire) => wire.timers.deadline(timer),
+            Side::User(_) => None,
+        }
+    }
+
     /// Whether a timer of this end fires at this tick; a user's end has none.
     fn is_due(&self, now: u64, timer: Timer) -> bool
         ensures { result ≡ is_due_at timer (end_at now self.now) }
@@ -81,9 +107,9 @@ fn fire_if_due(
     pair: Pair,
 ) -> Result<(Pair, Outs), Memory>
     requires clock { clock.now.taken ≤ 4_294_967_296 }
-    requires pair { SecondConnection (connection_at clock.now.taken pair) }
+    requires pair { SoundPair pair }
     ensures fires { IfOk result (λ r. fires clock.now.ticks timer (end_at clock.now.taken pair.this) (end_at clock.now.taken pair.that) ≡ (connection_at clock.now.taken r.0, r.1)) }
-    ensures second { IfOk result (λ r. SecondConnection (connection_at clock.now.taken r.0)) }
+    ensures sound { IfOk result (λ r. SoundPair r.0) }
 {
     if !pair.this.is_due(clock.taken, timer) {
         return Ok((pair, Outs::new(alloc)));
@@ -106,9 +132,9 @@ fn fire_each(
     pair: Pair,
 ) -> Result<(Pair, Outs), Memory>
     requires clock { clock.now.taken ≤ 4_294_967_296 }
-    requires pair { SecondConnection (connection_at clock.now.taken pair) }
+    requires pair { SoundPair pair }
     ensures fires { IfOk result (λ r. fold (fires_next clock.now.ticks) (connection_at clock.now.taken pair, []) timers.now ≡ (connection_at clock.now.taken r.0, r.1)) }
-    ensures second { IfOk result (λ r. SecondConnection (connection_at clock.now.taken r.0)) }
+    ensures sound { IfOk result (λ r. SoundPair r.0) }
 {
     let mut pair = pair;
     let mut outs = Outs::new(alloc);
@@ -124,9 +150,9 @@ fn fire_each(
 #[tactic(auto, unfolding(section_model::specs::Step::fires_due))]
 fn fire_due(alloc: Global, clock: &Clock, pair: Pair) -> Result<(Pair, Outs), Memory>
     requires clock { clock.now.taken ≤ 4_294_967_296 }
-    requires pair { SecondConnection (connection_at clock.now.taken pair) }
+    requires pair { SoundPair pair }
     ensures fires { IfOk result (λ r. fires_due clock.now.ticks (connection_at clock.now.taken pair) ≡ (connection_at clock.now.taken r.0, r.1)) }
-    ensures second { IfOk result (λ r. SecondConnection (connection_at clock.now.taken r.0)) }
+    ensures sound { IfOk result (λ r. SoundPair r.0) }
 {
     fire_each(alloc, clock, &FIRING_ORDER, pair)
 }
@@ -136,9 +162,9 @@ fn fire_due(alloc: Global, clock: &Clock, pair: Pair) -> Result<(Pair, Outs), Me
 pub fn tick(alloc: Global, clock: &Clock, before: u64, pair: Pair) -> Result<(Pair, Outs), Memory>
     requires clock { clock.now.taken ≤ 4_294_967_296 }
     requires before { before + 1 ≡ clock.now.taken }
-    requires pair { SecondConnection (connection_at before pair) }
+    requires pair { SoundPair pair }
     ensures ticks { IfOk result (λ r. ticks_by clock.now.ticks (connection_at before pair) ≡ (connection_at clock.now.taken r.0, r.1)) }
-    ensures second { IfOk result (λ r. SecondConnection (connection_at clock.now.taken r.0)) }
+    ensures sound { IfOk result (λ r. SoundPair r.0) }
 {
     let (pair, mut outs) = fire_due(alloc, clock, pair)?;
     let (pair, more) = fire_due(alloc, clock, pair.turned())?;

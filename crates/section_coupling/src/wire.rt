@@ -1,25 +1,28 @@
 //! A connection section with its timers.
-ghost use Rattle.std.specs.Prelude.{◌≡◌, ◌≤◌, ◌==◌, IfOk, Bool};
+ghost use Rattle.std.specs.Prelude.{◌≡◌, ◌≤◌, ℕ, IfOk};
 ghost use Rattle.std.specs.List.{list_any};
-ghost use Rattle.section_model.specs.Ends.{wire};
-ghost use Rattle.section_model.specs.Acting.{is_sent};
-ghost use Rattle.section_class2.specs.Lines.{TakesDataOfDt1};
-ghost use Rattle.section_coupling.specs.Views.{section_at};
-ghost use Rattle.section_coupling.specs.Second.{SecondSection, SecondInput, SecondActed};
-ghost use Rattle.section_coupling.specs.Acts.{section_acts};
+ghost use Rattle.section_model.specs.Ends.{wire, section_of, is_connected};
+ghost use Rattle.section_model.specs.Acting.{is_sent, is_windowed, is_by_class, in_windows, by_line, by_windows, line_acts, windows_act, timed};
+ghost use Rattle.section_model.specs.Timing.{timers_after};
+ghost use Rattle.section_model.specs.declared.input.Input.TheVariants as input;
+ghost use Rattle.section_coupling.specs.Views.{section_at, timers_at};
+ghost use Rattle.section_coupling.specs.Sound.{IsCredit, SoundWire, SoundInput, SoundActed};
+ghost use Rattle.section_coupling.specs.Acts.{untimed_acts, section_acts, windows_begun, SetsUpOnce, TakesData};
 
 use crate::clock::Clock;
 use crate::timers::Timers;
 use relay_base::{Memory, Output, Outs};
 use section_class2::Line;
-use section_grid::{Acted, Cell, Input, WireHead};
+use section_class3::Windows;
+use section_grid::{Acted, Cell, Input, SectionState, WireHead};
 use std::alloc::Global;
 
 /// A connection section of the network.
-#[derive(Debug, Drop)]
+#[derive(Drop)]
 pub struct Wire {
     pub head: WireHead,
     pub line: Line,
+    pub windows: Windows,
     pub timers: Timers,
 }
 
@@ -40,6 +43,49 @@ fn has_sent(outs: &Outs) -> bool
     outs.as_slice().iter().any(|output| is_sent(output))
 }
 
+/// Whether a cell is one of class 3 alone.
+fn is_windowed(cell: Cell) -> bool
+    ensures { result ≡ is_windowed cell }
+{
+    match cell {
+        Cell::TakeNumberedData | Cell::TakeAcknowledgement => true,
+        Cell::TakeExpedited | Cell::TakeExpeditedAcknowledgement => true,
+        Cell::ResetByPeer | Cell::ResetComplete | Cell::Left => true,
+        _ => false,
+    }
+}
+
+/// Whether the class decides what a cell does.
+fn is_by_class(cell: Cell) -> bool
+    ensures { result ≡ is_by_class cell }
+{
+    match cell {
+        Cell::SendTest | Cell::PassUnit | Cell::PassExpedited => true,
+        Cell::PassReset | Cell::ClearCounts => true,
+        _ => false,
+    }
+}
+
+/// Whether data may pass in a state, now or after a reset.
+fn is_connected(state: SectionState) -> bool
+    ensures { result ≡ is_connected state }
+{
+    matches!(state, SectionState::Up | SectionState::Resetting)
+}
+
+/// The windows after an act of the line: where the section is set up they begin, with the credit that was agreed on.
+fn windows_after(alloc: Global, old: SectionState, head: &WireHead, windows: Windows) -> Windows
+    requires { IsCredit head.now.credit }
+    ensures { result ≡ windows_begun old head.now windows }
+{
+    let is_set_up = head.state() == SectionState::Up && !is_connected(old);
+    if is_set_up {
+        Windows::new(alloc, head.credit)
+    } else {
+        windows
+    }
+}
+
 impl Wire {
     /// An equal section.
     pub fn copy(&self) -> Result<Wire, Memory>
@@ -48,12 +94,118 @@ impl Wire {
         Ok(Wire {
             head: self.head,
             line: self.line.copy()?,
+            windows: self.windows.copy()?,
             timers: self.timers,
         })
     }
 
+    /// Whether a cell is one of class 3 here.
+    fn in_windows(&self, cell: Cell) -> bool
+        ensures { (now : ℕ) → result ≡ in_windows cell (section_at now self.now) }
+    {
+        is_windowed(cell) || (is_by_class(cell) && self.head.class == 3)
+    }
+
+    /// An act of the line; the timers stay.
+    #[tactic(auto, using(crate::proofs::SoundLines::line_acts_granted))]
+    fn by_line(
+        self,
+        alloc: Global,
+        now: u64,
+        cell: Cell,
+        input: &Input<'_>,
+    ) -> Result<(Wire, Acted), Memory>
+        requires sound { SoundWire self }
+        requires input { SoundInput input.now }
+        requires sets_up { SetsUpOnce cell (section_of self.head).state }
+        requires data { TakesData cell input.now }
+        ensures acts { IfOk result (λ r. by_line (line_acts cell input.now) (section_at now self) ≡ (section_at now r.0, r.1)) }
+        ensures sound { IfOk result (λ r. SoundWire r.0 × SoundActed r.1) }
+    {
+        let Wire {
+            mut head,
+            mut line,
+            windows,
+            timers,
+        } = self;
+        let old = head.state();
+        let acted = line.act(alloc, &mut head, cell, input)?;
+        let windows = windows_after(alloc, old, &head, windows);
+        let wire = Wire {
+            head,
+            line,
+            windows,
+            timers,
+        };
+        Ok((wire, acted))
+    }
+
+    /// An act of the windows; the timers stay.
+    #[tactic(auto, using(crate::proofs::SoundWindows::windows_act_granted))]
+    fn by_windows(
+        self,
+        alloc: Global,
+        now: u64,
+        cell: Cell,
+        input: &Input<'_>,
+    ) -> Result<(Wire, Acted), Memory>
+        requires sound { SoundWire self }
+        requires input { SoundInput input.now }
+        requires data { TakesData cell input.now }
+        ensures acts { IfOk result (λ r. by_windows (windows_act cell input.now) (section_at now self) ≡ (section_at now r.0, r.1)) }
+        ensures sound { IfOk result (λ r. SoundWire r.0 × SoundActed r.1) }
+    {
+        let Wire {
+            mut head,
+            line,
+            mut windows,
+            timers,
+        } = self;
+        let acted = windows.act(alloc, &mut head, cell, input)?;
+        let wire = Wire {
+            head,
+            line,
+            windows,
+            timers,
+        };
+        Ok((wire, acted))
+    }
+
+    /// An act, but for the timers.
+    fn act_untimed(
+        self,
+        alloc: Global,
+        now: u64,
+        cell: Cell,
+        input: &Input<'_>,
+    ) -> Result<(Wire, Acted), Memory>
+        requires sound { SoundWire self }
+        requires input { SoundInput input.now }
+        requires sets_up { SetsUpOnce cell (section_of self.head).state }
+        requires data { TakesData cell input.now }
+        ensures acts { IfOk result (λ r. untimed_acts cell input.now (section_at now self) ≡ (section_at now r.0, r.1)) }
+        ensures sound { IfOk result (λ r. SoundWire r.0 × SoundActed r.1) }
+    {
+        if self.in_windows(cell) {
+            self.by_windows(alloc, now, cell, input)
+        } else {
+            self.by_line(alloc, now, cell, input)
+        }
+    }
+
+    /// The section with its timers, after an act in which it was in this state before and gave these outputs.
+    fn timed(self, clock: &Clock, old: SectionState, outs: &Outs) -> Wire
+        requires { clock.now.taken ≤ 4_294_967_296 }
+        ensures timers { section_at clock.now.taken result ≡ record (section_at clock.now.taken self) { timers = timers_after clock.now.ticks old (section_of self.head).state (list_any is_sent outs.now) (timers_at clock.now.taken self.timers) } }
+        ensures sound { SoundWire self → SoundWire result }
+    {
+        let timers = self
+            .timers
+            .after(clock, old, self.head.state(), has_sent(outs));
+        Wire { timers, ..self }
+    }
+
     /// Acts by the table's cell for an input.
-    #[tactic(auto, using(crate::proofs::SecondLines::line_acts_second))]
     pub fn act(
         self,
         alloc: Global,
@@ -62,21 +214,34 @@ impl Wire {
         input: &Input<'_>,
     ) -> Result<(Wire, Acted), Memory>
         requires clock { clock.now.taken ≤ 4_294_967_296 }
-        requires section { SecondSection (section_at clock.now.taken self) }
-        requires input { SecondInput input.now }
-        requires data { TakesDataOfDt1 cell input.now }
+        requires sound { SoundWire self }
+        requires input { SoundInput input.now }
+        requires sets_up { SetsUpOnce cell (section_of self.head).state }
+        requires data { TakesData cell input.now }
         ensures acts { IfOk result (λ r. section_acts clock.now.ticks cell input.now (section_at clock.now.taken self) ≡ (wire (section_at clock.now.taken r.0), r.1)) }
-        ensures second { IfOk result (λ r. SecondSection (section_at clock.now.taken r.0) × SecondActed r.1) }
+        ensures sound { IfOk result (λ r. SoundWire r.0 × SoundActed r.1) }
     {
-        let Wire {
-            mut head,
-            mut line,
-            timers,
-        } = self;
-        let old = head.state();
-        let acted = line.act(alloc, &mut head, cell, input)?;
-        let timers = timers.after(clock, old, head.state(), has_sent(&acted.outs));
-        let wire = Wire { head, line, timers };
+        let old = self.head.state();
+        let (wire, acted) = self.act_untimed(alloc, clock.taken, cell, input)?;
+        let wire = wire.timed(clock, old, &acted.outs);
+        Ok((wire, acted))
+    }
+
+    /// Does a part of what follows each event in class 3: what waits leaves, or what left on the other end is acknowledged.
+    pub fn take_turn(
+        self,
+        alloc: Global,
+        clock: &Clock,
+        cell: Cell,
+    ) -> Result<(Wire, Acted), Memory>
+        requires clock { clock.now.taken ≤ 4_294_967_296 }
+        requires sound { SoundWire self }
+        ensures acts { IfOk result (λ r. timed clock.now.ticks (section_at clock.now.taken self) (by_windows (windows_act cell input.Turn) (section_at clock.now.taken self)) ≡ (wire (section_at clock.now.taken r.0), r.1)) }
+        ensures sound { IfOk result (λ r. SoundWire r.0 × SoundActed r.1) }
+    {
+        let old = self.head.state();
+        let (wire, acted) = self.by_windows(alloc, clock.taken, cell, &Input::Turn)?;
+        let wire = wire.timed(clock, old, &acted.outs);
         Ok((wire, acted))
     }
 }

@@ -1,7 +1,4 @@
-use Rattle.std.proofs.Common.{sym, subst, ◌≡◌, ◌∙◌, map}
-use Rattle.section_coupling.specs.Duos.{taken_after}
-use Rattle.conn_lane.specs.Keeping.{keeping_after}
-use Rattle.conn_lane.specs.Views.{keeping_all}
+use Rattle.std.proofs.Common.{◌∙◌}
 use Rattle.conn_lane.proofs.Parts.{first_step, keeps_step}
 use Rattle.conn_lane.proofs.feeding.hear_all.Goals as goal
 

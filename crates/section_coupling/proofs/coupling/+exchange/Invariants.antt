@@ -1,7 +1,7 @@
 use Rattle.std.proofs.Common.{◌≡◌, ◌+◌, ◌*◌, drop, fold}
 use Rattle.section_model.specs.Coupling.{exchange, offered}
 use Rattle.section_coupling.specs.Views.{connection_at}
-use Rattle.section_coupling.specs.Second.{SecondConnection, SecondHands}
+use Rattle.section_coupling.specs.Sound.{SoundPair, SoundHands}
 use Rattle.section_coupling.proofs.coupling.+exchange.Given as goal
 
 abbrev pub decreases-exchange : goal.decreases-exchange
@@ -14,6 +14,6 @@ decreases-offer l = 2 * l.turns + 1
 abbrev pub invariant-offer-loop-hand : goal.invariant-offer-loop-hand
 invariant-offer-loop-hand l = record {
   same : fold (offered (exchange l.turns l.clock.ticks) l.clock.ticks) (connection_at l.clock.taken l.pair, l.outs) (drop l.hand-index l.hands) ≡ fold (offered (exchange l.turns l.clock.ticks) l.clock.ticks) (connection_at l.clock.taken l.initial.pair, l.initial.outs) l.hands;
-  second : SecondConnection (connection_at l.clock.taken l.pair);
-  hands : SecondHands (drop l.hand-index l.hands);
+  sound : SoundPair l.pair;
+  hands : SoundHands (drop l.hand-index l.hands);
 }

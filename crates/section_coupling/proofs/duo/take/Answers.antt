@@ -1,4 +1,4 @@
-use Rattle.section_coupling.proofs.AfterEvents.{range-of}
+use Rattle.section_coupling.proofs.Arriving.{range-of}
 use Rattle.section_coupling.proofs.duo.take.Goals as goal
 
 pub ask-requires-clause-range : goal.ask-requires-clause-range

@@ -1,12 +1,8 @@
 use Rattle.std.proofs.Common.{sym, refl, ◌∙◌}
 use Rattle.section_coupling.specs.Openings.{seen_incoming}
 use Rattle.section_coupling.proofs.Composed.{if-ok}
-use Rattle.section_coupling.proofs.Opened.{answered-class, unasked}
+use Rattle.section_coupling.proofs.Opened.{unasked}
 use Rattle.section_coupling.proofs.opening.begin_by_cr.Goals as goal
-
-pub returns-in-Some-clause-second : goal.returns-in-Some-clause-second
-returns-in-Some-clause-second c = λ e.
-    c.by_cr.ensures.second (answered-class (seen_incoming c.args.terms.now c.args.incoming.now) _ (rw c.in-Some.is refl) e c.requires.class)
 
 pub returns-in-None-clause-value : goal.returns-in-None-clause-value
 returns-in-None-clause-value c =

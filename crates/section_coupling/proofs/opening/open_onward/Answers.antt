@@ -4,11 +4,11 @@ use Rattle.section_coupling.proofs.Fitting.{fits-from}
 use Rattle.section_coupling.proofs.Composed.{composed}
 use Rattle.section_coupling.proofs.opening.open_onward.Goals as goal
 
-pub sent_onward-requires-clause-in_range : goal.sent_onward-requires-clause-in_range
-sent_onward-requires-clause-in_range c = λ terms from slr.
-    fits-from (seen_incoming terms c.args.incoming.now) c.args.to.now.rewrite.now c.args.to.now.hop c.args.next (c.requires.fits terms)
+pub sent_onward-requires : goal.sent_onward-requires
+sent_onward-requires c = λ from slr.
+    fits-from (seen_incoming c.args.terms.now c.args.incoming.now) c.args.to.now.rewrite.now c.args.to.now.hop c.args.next c.requires.fits
 
 pub returns-clause-value : goal.returns-clause-value
 returns-clause-value c =
     composed c.args.now _ _ _ _ _ _ c.asked_side-this.ensures.value (c.asking_side-that.ensures.value c.args.incoming.now.point c.args.incoming.now.slr)
-    (c.in_ok-outs.ensures ∙ ap (λ output. output ∷ []) (c.in_ok-sent_onward.ensures c.args.terms.now c.args.incoming.now.point c.args.incoming.now.slr))
+    (c.in_ok-outs.ensures ∙ ap (λ output. output ∷ []) (c.in_ok-sent_onward.ensures c.args.incoming.now.point c.args.incoming.now.slr))

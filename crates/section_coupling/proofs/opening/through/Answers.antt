@@ -19,7 +19,7 @@ returns-then-refs-lt2-clause-value c =
     c.refused-then-refs-lt2.ensures.value
 
 pub open_onward-requires-clause-fits : goal.open_onward-requires-clause-fits
-open_onward-requires-clause-fits c = λ own. sym (c.fits.ensures own c.args.incoming.now.point c.args.incoming.now.slr) ∙ c.if-not-fits.false
+open_onward-requires-clause-fits c = sym (c.fits.ensures c.args.terms.now c.args.incoming.now.point c.args.incoming.now.slr) ∙ c.if-not-fits.false
 
 pub returns-clause-value : goal.returns-clause-value
 returns-clause-value c =

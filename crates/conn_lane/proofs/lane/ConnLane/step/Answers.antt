@@ -1,5 +1,4 @@
 use Rattle.std.proofs.Common.{◌≡◌, ◌<◌, ◌^◌, ◌++◌, ◌∷◌, [], length, sym, subst, ap, ◌∙◌, true, false, refl}
-use Rattle.std.specs.declared.result.Result.{Result}
 use Rattle.relay_base.specs.declared.errors.Memory.{Memory}
 use Rattle.section_coupling.specs.Duos.{taken_after}
 use Rattle.conn_lane.specs.Lanes.{ConnLaneState, Takes, conn_asked_of}

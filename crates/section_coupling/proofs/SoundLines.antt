@@ -1,0 +1,160 @@
+-- What a section's line hands over, and the credit that it has then.
+use Rattle.std.proofs.Common.{◌≡◌, ℕ, ◌==◌, ◌&&◌, not, Bool, true, false, List, [], ◌∷◌, if◌then◌else◌, refl, sym, subst, arith}
+use Rattle.std.specs.Prelude.{Option, Some, None, max}
+use Rattle.std.proofs.Math.Nat.{min-le_right}
+use Rattle.section_model.specs.declared.cell.Cell.{Cell}
+use Rattle.section_model.specs.declared.cell.Cell.TheVariants as cell
+use Rattle.section_model.specs.declared.hand.Hand.{Hand}
+use Rattle.section_model.specs.declared.hand.Hand.TheVariants as hand
+use Rattle.section_model.specs.declared.hand.Acted.{Acted}
+use Rattle.section_model.specs.declared.input.Input.{Input}
+use Rattle.section_model.specs.declared.input.Input.TheVariants as input
+use Rattle.relay_base.specs.declared.words.Event.{Event}
+use Rattle.relay_base.specs.declared.words.Event.TheVariants.{Message as Arrived, Asked as Requested, Tick}
+use Rattle.section_model.specs.Parameters.{Parameters, Arrival, arrival_in}
+use Rattle.relay_base.specs.declared.words.Output.{Output}
+use Rattle.section_model.specs.declared.cell.SectionState.{SectionState}
+use Rattle.section_model.specs.declared.cell.SectionState.TheVariants.{Up, Gone}
+use Rattle.section_model.specs.Ends.{Line, no_effect, gives_then, is_up, is_connected}
+use Rattle.section_model.specs.Line.{granted, agreed, reached, released, in_state, line_hears, line_fires, line_takes, confirmed, failed, tested, accepted, refused, ended, ended_early, passed}
+use Rattle.section_model.specs.Acting.{line_hears_arrival, line_hears_event, line_acts}
+use Rattle.section_model.specs.declared.wire.WireHead.{WireHead}
+use Rattle.section_model.specs.Ends.{section_of, cleared}
+use Rattle.section_model.specs.Lengths.{WindowsWithin}
+use Rattle.section_class2.specs.declared.line.Line.{Line as CodeLine}
+use Rattle.section_class2.specs.Lines.{line_of}
+use Rattle.section_class3.specs.Windows.{WindowsState}
+use Rattle.section_coupling.specs.Sound.{IsCredit, IsGranted, AreGranted, IsGrantedInput}
+use Rattle.section_coupling.specs.Acts.{SetsUpOnce, windows_begun}
+
+-- an act of a line in a state, with a credit that changes only where the section is set up
+pub record GrantedLine (s : SectionState) (was : ℕ) (r : Line × Acted) : Type 0 where
+  pub credit : IsCredit r.0.head.credit
+  pub stays : (is_up r.0.head.state && not (is_connected s)) ≡ false → r.0.head.credit ≡ was
+  pub first : AreGranted r.1.first
+  pub then_ : AreGranted r.1.then
+
+either : (s : SectionState) (credit : ℕ) (b : Bool) (r t : Line × Acted) → GrantedLine s credit r → GrantedLine s credit t → GrantedLine s credit (if b then r else t)
+either s credit true r t f g = f
+either s credit false r t f g = g
+
+-- the credit stays
+keeps : (s : SectionState) (x : Line) (acted : Acted) → IsCredit x.head.credit → AreGranted acted.first → AreGranted acted.then → GrantedLine s x.head.credit (x, acted)
+keeps s x acted h f g = record { credit = h; stays = λ e. refl; first = f; then_ = g }
+
+ends : (s : SectionState) (x : Line) (outs : List Output) (cause : ℕ) → IsCredit x.head.credit → GrantedLine s x.head.credit (x, gives_then outs (hand.End cause None None ∷ []))
+ends s x outs cause h = record { credit = h; stays = λ e. refl; first = tt; then_ = (tt, tt) }
+
+refuses : (s : SectionState) (x : Line) (outs : List Output) → IsCredit x.head.credit → GrantedLine s x.head.credit (x, gives_then outs (hand.Refuse 0x0F None None None ∷ []))
+refuses s x outs h = record { credit = h; stays = λ e. refl; first = tt; then_ = (tt, tt) }
+
+-- the section is set up
+set-up : (s : SectionState) → is_connected s ≡ false → not (is_connected s) ≡ false → ⊥
+set-up s e f = absurd (cc)
+
+opens : (s : SectionState) (was : ℕ) (x : Line) (class credit : ℕ) (called body : Option (List ℕ)) (importance : Option ℕ) → is_connected s ≡ false → IsCredit credit
+    → GrantedLine s was (record x { head = record x.head { state = Up; class = class; credit = credit } }, gives_then [] (hand.Accept class credit called body importance ∷ []))
+opens s was x class credit called body importance n h = record { credit = h; stays = λ e. absurd (set-up s n e); first = tt; then_ = (h, tt) }
+
+pub granted-most : (credit most : ℕ) → IsCredit most → IsCredit (granted credit most)
+granted-most credit most h = omega (arith, h, min-le_right (max credit 1) most)
+
+pub agreed-credit : (b : Bool) (credit most : ℕ) → IsCredit most → IsCredit (if b then granted credit most else 0)
+agreed-credit true credit most h = granted-most credit most h
+agreed-credit false credit most h = omega arith
+
+confirmed-granted : (point : ℕ) (m : Parameters) (x : Line) → IsCredit x.head.credit → is_connected x.head.state ≡ false → GrantedLine x.head.state x.head.credit (confirmed point m x)
+confirmed-granted point m x h n =
+    let credit : IsCredit (agreed x.head m) = agreed-credit (m.class == 3) _ x.head.credit h in
+    either x.head.state x.head.credit _ _ _
+    (opens x.head.state x.head.credit (reached point m.slr x) m.class (agreed x.head m) _ _ _ n credit)
+    (refuses x.head.state (released 0x05 None None (reached point m.slr x)) _ h)
+
+failed-granted : (m : Parameters) (x : Line) → IsCredit x.head.credit → GrantedLine x.head.state x.head.credit (failed m x)
+failed-granted m x h = either x.head.state x.head.credit _ _ _ (ends x.head.state (released 0x0F None None x) _ 0x0F h) (ends x.head.state (in_state Gone x) [] 0x0F h)
+
+tested-granted : (m : Parameters) (x : Line) → IsCredit x.head.credit → GrantedLine x.head.state x.head.credit (tested m x)
+tested-granted m x h = either x.head.state x.head.credit _ _ _ (keeps x.head.state x no_effect h tt tt) (ends x.head.state (released 0x05 None None x) _ 0x05 h)
+
+hears-granted : (c : Cell) (point : ℕ) (m : Parameters) (x : Line) → IsCredit x.head.credit → SetsUpOnce c x.head.state → GrantedLine x.head.state x.head.credit (line_hears c point m x)
+unfolding line_hears
+hears-granted cell.Confirm point m x h n = confirmed-granted point m x h n
+hears-granted cell.ConfirmLate point m x h n = record { credit = h; stays = λ e. refl; first = tt; then_ = tt }
+hears-granted cell.Refused point m x h n = record { credit = h; stays = λ e. refl; first = tt; then_ = (tt, tt) }
+hears-granted cell.Free point m x h n = record { credit = h; stays = λ e. refl; first = tt; then_ = tt }
+hears-granted cell.Released point m x h n = record { credit = h; stays = λ e. refl; first = tt; then_ = (tt, tt) }
+hears-granted cell.ReleaseCollision point m x h n = record { credit = h; stays = λ e. refl; first = tt; then_ = tt }
+hears-granted cell.TakeData point m x h n = record { credit = h; stays = λ e. refl; first = tt; then_ = (tt, tt) }
+hears-granted cell.ErrorReceived point m x h n = failed-granted m x h
+hears-granted cell.TestReceived point m x h n = tested-granted m x h
+hears-granted cell.Discard point m x h n = record { credit = h; stays = λ e. refl; first = tt; then_ = tt }
+hears-granted _ point m x h n = record { credit = h; stays = λ e. refl; first = tt; then_ = tt }
+
+fires-granted : (c : Cell) (x : Line) → IsCredit x.head.credit → GrantedLine x.head.state x.head.credit (line_fires c x)
+unfolding line_fires
+fires-granted cell.NotAnswered x h = record { credit = h; stays = λ e. refl; first = tt; then_ = (tt, tt) }
+fires-granted cell.ResetExpired x h = record { credit = h; stays = λ e. refl; first = tt; then_ = (tt, tt) }
+fires-granted cell.PeerSilent x h = record { credit = h; stays = λ e. refl; first = tt; then_ = (tt, tt) }
+fires-granted cell.SendTest x h = record { credit = h; stays = λ e. refl; first = tt; then_ = tt }
+fires-granted cell.ReleaseUnanswered x h = record { credit = h; stays = λ e. refl; first = tt; then_ = tt }
+fires-granted cell.RepeatRelease x h = record { credit = h; stays = λ e. refl; first = tt; then_ = tt }
+fires-granted cell.Free x h = record { credit = h; stays = λ e. refl; first = tt; then_ = tt }
+fires-granted _ x h = record { credit = h; stays = λ e. refl; first = tt; then_ = tt }
+
+accepted-granted : (hand : Hand) (x : Line) → IsGranted hand → IsCredit x.head.credit → is_connected x.head.state ≡ false → GrantedLine x.head.state x.head.credit (accepted hand x)
+accepted-granted (hand.Accept class credit called body importance) x o h n = record { credit = o; stays = λ e. absurd (set-up x.head.state n e); first = tt; then_ = tt }
+accepted-granted _ x o h n = keeps x.head.state x no_effect h tt tt
+
+refused-granted : (hand : Hand) (x : Line) → IsCredit x.head.credit → GrantedLine x.head.state x.head.credit (refused hand x)
+refused-granted (hand.Refuse cause called body importance) x h = record { credit = h; stays = λ e. refl; first = tt; then_ = tt }
+refused-granted _ x h = keeps x.head.state x no_effect h tt tt
+
+ended-granted : (hand : Hand) (x : Line) → IsCredit x.head.credit → GrantedLine x.head.state x.head.credit (ended hand x)
+ended-granted (hand.End cause body importance) x h = record { credit = h; stays = λ e. refl; first = tt; then_ = tt }
+ended-granted _ x h = keeps x.head.state x no_effect h tt tt
+
+ended_early-granted : (hand : Hand) (x : Line) → IsCredit x.head.credit → GrantedLine x.head.state x.head.credit (ended_early hand x)
+ended_early-granted (hand.End cause body importance) x h = record { credit = h; stays = λ e. refl; first = tt; then_ = tt }
+ended_early-granted _ x h = keeps x.head.state x no_effect h tt tt
+
+passed-granted : (hand : Hand) (x : Line) → IsCredit x.head.credit → GrantedLine x.head.state x.head.credit (passed hand x)
+passed-granted (hand.Unit more body) x h = record { credit = h; stays = λ e. refl; first = tt; then_ = tt }
+passed-granted _ x h = keeps x.head.state x no_effect h tt tt
+
+takes-granted : (c : Cell) (hand : Hand) (x : Line) → IsGranted hand → IsCredit x.head.credit → SetsUpOnce c x.head.state → GrantedLine x.head.state x.head.credit (line_takes c hand x)
+unfolding line_takes
+takes-granted cell.PassAccept hand x o h n = accepted-granted hand x o h n
+takes-granted cell.PassRefuse hand x o h n = refused-granted hand x h
+takes-granted cell.PassEnd hand x o h n = ended-granted hand x h
+takes-granted cell.KeepEnd hand x o h n = ended_early-granted hand x h
+takes-granted cell.PassUnit hand x o h n = passed-granted hand x h
+takes-granted _ hand x o h n = keeps x.head.state x no_effect h tt tt
+
+arrival-granted : (c : Cell) (point : ℕ) (a : Option Arrival) (x : Line) → IsCredit x.head.credit → SetsUpOnce c x.head.state → GrantedLine x.head.state x.head.credit (line_hears_arrival c point a x)
+arrival-granted c point None x h n = keeps x.head.state x no_effect h tt tt
+arrival-granted c point (Some a) x h n = hears-granted c point a.parameters x h n
+
+event-granted : (c : Cell) (e : Event) (x : Line) → IsCredit x.head.credit → SetsUpOnce c x.head.state → GrantedLine x.head.state x.head.credit (line_hears_event c e x)
+event-granted c (Arrived point sls bytes) x h n = arrival-granted c point (arrival_in bytes) x h n
+event-granted c (Requested ssn r) x h n = keeps x.head.state x no_effect h tt tt
+event-granted c Tick x h n = keeps x.head.state x no_effect h tt tt
+
+pub line_acts_granted : (c : Cell) (i : Input) (x : Line) → IsGrantedInput i → IsCredit x.head.credit → SetsUpOnce c x.head.state → GrantedLine x.head.state x.head.credit (line_acts c i x)
+line_acts_granted c (input.Event event) x o h n = event-granted c event.now x h n
+line_acts_granted c (input.Timer number) x o h n = fires-granted c x h
+line_acts_granted c (input.Hand hand) x o h n = takes-granted c hand.now x o h n
+line_acts_granted c input.Turn x o h n = keeps x.head.state x no_effect h tt tt
+
+-- the code's line has acted
+pub line_acted : (c : Cell) (i : Input) (h h' : WireHead) (l l' : CodeLine) (acted : Acted) → IsGrantedInput i → IsCredit h.credit → SetsUpOnce c (section_of h).state
+    → line_acts c i (line_of h l) ≡ (line_of h' l', acted) → GrantedLine (section_of h).state h.credit (line_of h' l', acted)
+line_acted c i h h' l l' acted o k n e = subst (GrantedLine (section_of h).state h.credit) e (line_acts_granted c i (line_of h l) o k n)
+
+-- the windows that begin, or stay
+pub begun-or-same : (old : SectionState) (h : WireHead) (w v : WindowsState) → w ≡ windows_begun old h v → WindowsWithin v.windows
+    → ((is_up (section_of h).state && not (is_connected old)) ≡ false → h.credit ≡ v.agreed) → WindowsWithin w.windows × (w.agreed ≡ h.credit)
+begun-or-same old h w v e f g = by_test (is_up (section_of h).state && not (is_connected old)) e g
+  where
+    by_test : (b : Bool) → w ≡ (if b then record { agreed = h.credit; windows = cleared h.credit } else v) → (b ≡ false → h.credit ≡ v.agreed) → WindowsWithin w.windows × (w.agreed ≡ h.credit)
+    by_test true same stays = subst (λ u. WindowsWithin u.windows × (u.agreed ≡ h.credit)) (sym same) ((tt, tt), refl)
+    by_test false same stays = subst (λ u. WindowsWithin u.windows × (u.agreed ≡ h.credit)) (sym same) (f, sym (stays refl))

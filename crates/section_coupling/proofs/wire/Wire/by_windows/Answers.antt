@@ -1,0 +1,17 @@
+use Rattle.std.proofs.Common.{sym, subst}
+use Rattle.section_coupling.specs.Sound.{IsCredit}
+use Rattle.section_coupling.proofs.SoundWindows.{windows_acted}
+use Rattle.section_coupling.proofs.wire.Wire.by_windows.Goals as goal
+
+pub returns-clause-sound : goal.returns-clause-sound
+returns-clause-sound c =
+    let acts = windows_acted c.args.cell c.args.input.now c.args.self.head c.act.new.wire c.args.self.windows c.act.new.self c.in_ok-acted.acted c.in_ok-acted.ensures.ok in
+    let within = c.in_ok-acted.ensures.hands c.requires.data.1 in (
+      record {
+        kept = c.requires.sound.kept;
+        windows = c.in_ok-acted.ensures.waits;
+        agreed = c.in_ok-acted.ensures.agreed;
+        credit = subst IsCredit (sym acts.credit) c.requires.sound.credit;
+      },
+      ((acts.first, within.0), (acts.then_, within.1)),
+    )

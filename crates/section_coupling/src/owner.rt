@@ -1,0 +1,106 @@
+//! A user's end of a connection, with what clauses count of it.
+ghost use Rattle.std.specs.Prelude.{◌≡◌, [], IfOk};
+ghost use Rattle.section_model.specs.Acting.{user_hears_event};
+ghost use Rattle.section_model.specs.UserEnd.{user_takes};
+ghost use Rattle.section_user.specs.Lengths.{IsRequestInRange};
+ghost use Rattle.section_user.specs.Side.{user_of};
+ghost use Rattle.section_coupling.specs.Views.{user_at};
+ghost use Rattle.section_coupling.specs.Sound.{SoundOwner, IsGranted, SoundActed};
+
+use mark::Mark;
+use relay_base::{Event, Memory, Ssn};
+use section_flow::UnitList;
+use section_model::{Acted, Cell, Hand, Input};
+use section_user::UserSide;
+use std::alloc::Global;
+
+/// What a user gave in class 3 since the counts were cleared: the units, and how many of them left. Only clauses count them.
+#[derive(Debug, Drop)]
+pub struct Given {
+    pub got: UnitList,
+    pub passed: u64,
+}
+
+/// A user's end.
+#[derive(Drop)]
+pub struct Owner {
+    pub side: UserSide,
+    pub given: Mark<Given>,
+}
+
+/// A user's end upon an event, by a cell.
+#[derive(Clone, Copy)]
+struct Asking<'a> {
+    owner: &'a Owner,
+    cell: Cell,
+    event: &'a Event,
+}
+
+/// A user's end upon an effect of the section, by a cell.
+#[derive(Clone, Copy)]
+struct Taking<'a> {
+    owner: &'a Owner,
+    cell: Cell,
+    hand: &'a Hand,
+}
+
+impl Owner {
+    /// A user's end, before the user gives anything.
+    pub fn new(side: UserSide) -> Owner
+        ensures { user_at result ≡ user_of side [] 0 }
+    {
+        let given = Mark::after(&side);
+        Owner { side, given }
+    }
+
+    /// The subsystem whose end it is.
+    pub fn ssn(&self) -> Ssn
+        ensures { result ≡ self.now.side.ssn }
+    {
+        self.side.ssn
+    }
+
+    /// What the end does upon a request, by the cell of the table.
+    pub fn ask(self, alloc: Global, cell: Cell, event: &Event) -> Result<(Owner, Acted), Memory>
+        requires sound { SoundOwner self }
+        requires range { IsRequestInRange event.now }
+        ensures asks { IfOk result (λ r. user_hears_event cell event.now (user_at self) ≡ (user_at r.0, r.1)) }
+        ensures sound { IfOk result (λ r. SoundOwner r.0 × SoundActed r.1) }
+    {
+        let given = Mark::after(&Asking {
+            owner: &self,
+            cell,
+            event,
+        });
+        let mut side = self.side;
+        let acted = side.act(alloc, cell, &Input::Event(event))?;
+        Ok((Owner { side, given }, acted))
+    }
+
+    /// What the end does upon an effect of the section, by the cell of the table.
+    pub fn take(self, alloc: Global, cell: Cell, hand: &Hand) -> Result<(Owner, Acted), Memory>
+        requires sound { SoundOwner self }
+        requires granted { IsGranted hand.now }
+        ensures takes { IfOk result (λ r. user_takes cell hand.now (user_at self) ≡ (user_at r.0, r.1)) }
+        ensures sound { IfOk result (λ r. SoundOwner r.0 × SoundActed r.1) }
+    {
+        let given = Mark::after(&Taking {
+            owner: &self,
+            cell,
+            hand,
+        });
+        let mut side = self.side;
+        let acted = side.act(alloc, cell, &Input::Hand(hand))?;
+        Ok((Owner { side, given }, acted))
+    }
+
+    /// An equal end.
+    pub fn copy(&self) -> Result<Owner, Memory>
+        ensures { IfOk result (λ copy. copy ≡ self.now) }
+    {
+        Ok(Owner {
+            side: self.side.copy()?,
+            given: Mark::after(self),
+        })
+    }
+}
