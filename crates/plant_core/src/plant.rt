@@ -136,6 +136,13 @@ impl Plant {
         self.out_of_service.contains(&ssn)
     }
 
+    /// Whether a subsystem number is that of a user in service.
+    pub fn is_in_service(&self, ssn: Ssn) -> bool
+        ensures { result ≡ is_in_service self.now.routing ssn }
+    {
+        self.is_user(ssn) && !self.is_out(ssn)
+    }
+
     fn is_barred_point(&self, point: Pc) -> bool
         ensures { result ≡ is_among point self.now.routing.barred_points }
     {
@@ -189,7 +196,7 @@ impl Plant {
             Change::BarSub(point, ssn) => alters_if(!self.is_barred_subsystem(*point, *ssn)),
             Change::FreeSub(point, ssn) => alters_if(self.is_barred_subsystem(*point, *ssn)),
             Change::LocalUp(ssn) => alters_if(self.is_user(*ssn) && self.is_out(*ssn)),
-            Change::LocalDown(ssn) => alters_if(self.is_user(*ssn) && !self.is_out(*ssn)),
+            Change::LocalDown(ssn) => alters_if(self.is_in_service(*ssn)),
         }
     }
 

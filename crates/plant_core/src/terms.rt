@@ -1,5 +1,5 @@
 //! What a lane is told at its start.
-use relay_base::Pc;
+use relay_base::{Pc, PlainList, Ssn};
 
 /// The ticks of each timer (Q.714, timers), and those of this node's own: for freezing a reference, and for a repeated release.
 #[derive(Clone, Copy, Debug, PartialEq, Eq)]
@@ -44,3 +44,13 @@ pub struct LaneHead {
     pub terms: Terms,
     pub reassembly: u32,
 }
+
+/// A subsystem that another point has too, by which a local user may be replaced (Q.714, coordinated state change).
+#[derive(Clone, Copy, Debug, PartialEq, Eq)]
+pub struct Replicate {
+    pub ssn: Ssn,
+    pub point: Pc,
+}
+
+/// Replicates.
+pub type ReplicateList = PlainList<Replicate>;

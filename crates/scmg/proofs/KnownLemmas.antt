@@ -1,0 +1,115 @@
+-- A change alters the service of no user but the one that it is about.
+use Rattle.std.proofs.Common.{◌≡◌, ℕ, ◌+◌, ◌==◌, Bool, true, false, not, List, [], ◌∷◌, ◌++◌, map, filter, cond, refl, sym, ap, ◌∙◌, ⊎_elim, arith, zero, suc, Option, Some, append-nil}
+use Rattle.std.specs.Prelude.{◌&&◌, ◌||◌}
+use Rattle.std.specs.List.{range_with_len}
+use Rattle.std.proofs.lemmas.Bool.{cases_Bool, eqb-true, eqb-false, ne_eqb}
+use Rattle.std.proofs.lemmas.List.{map-append}
+use Rattle.std.proofs.lemmas.List.Elements.{filter-append}
+use Rattle.relay_base.specs.declared.words.Output.{Output}
+use Rattle.relay_base.specs.declared.words.Output.TheVariants.{Told}
+use Rattle.relay_base.specs.declared.words.Tell.{Tell}
+use Rattle.plant_core.specs.declared.change.Change.{Change}
+use Rattle.plant_core.specs.declared.change.Change.TheVariants.{AddRow, DelRow, BarPoint, FreePoint, BarSub, FreeSub, LocalUp, LocalDown}
+use Rattle.plant_core.specs.Plant.{RoutingData, is_among}
+use Rattle.plant_core.specs.Changes.{but_for, verdict_on, is_alters, changed, plant_after}
+use Rattle.scmg.specs.declared.head.ControlHead.{ControlHead}
+use Rattle.scmg.specs.Control.{subsystems, is_told, told_among, told_all, made_known, to_concerned}
+
+-- numbers up to one more
+range-past : (a n : ℕ) → range_with_len a (n + 1) ≡ range_with_len a n ++ (a + n) ∷ []
+range-past a zero = let e : a + 0 ≡ a = omega arith in rw e refl
+range-past a (suc n) =
+    let e : suc n + 1 ≡ suc (n + 1) = omega arith in
+    let f : a + suc n ≡ (a + 1) + n = omega arith in
+    rw (e, f) (ap (λ xs. a ∷ xs) (range-past (a + 1) n))
+
+range-more : (n : ℕ) → range_with_len 0 (n + 1) ≡ range_with_len 0 n ++ n ∷ []
+range-more n = let e : 0 + n ≡ n = omega arith in range-past 0 n ∙ ap (λ m. range_with_len 0 n ++ m ∷ []) e
+
+told-parts : (p : RoutingData) (subject : Option ℕ) (t : Tell) (n : ℕ)
+    → told_among p subject t (range_with_len 0 (n + 1)) ≡ told_among p subject t (range_with_len 0 n) ++ told_among p subject t (n ∷ [])
+told-parts p subject t n =
+    let f : ℕ → Output = λ ssn. Told ssn t in
+    ap (told_among p subject t) (range-more n)
+    ∙ ap (map f) (filter-append (is_told p subject) (range_with_len 0 n) (n ∷ []))
+    ∙ map-append f (filter (is_told p subject) (range_with_len 0 n)) (filter (is_told p subject) (n ∷ []))
+
+-- one more user is told, or passed over
+pub told-more : (p : RoutingData) (subject : Option ℕ) (t : Tell) (n : ℕ) → is_told p subject n ≡ true
+    → told_among p subject t (range_with_len 0 (n + 1)) ≡ told_among p subject t (range_with_len 0 n) ++ Told n t ∷ []
+told-more p subject t n e = told-parts p subject t n ∙ ap (λ b. told_among p subject t (range_with_len 0 n) ++ map (λ ssn. Told ssn t) (cond b (n ∷ []) [])) e
+
+pub told-as-before : (p : RoutingData) (subject : Option ℕ) (t : Tell) (n : ℕ) → is_told p subject n ≡ false
+    → told_among p subject t (range_with_len 0 (n + 1)) ≡ told_among p subject t (range_with_len 0 n)
+told-as-before p subject t n e =
+    told-parts p subject t n ∙ ap (λ b. told_among p subject t (range_with_len 0 n) ++ map (λ ssn. Told ssn t) (cond b (n ∷ []) [])) e
+    ∙ append-nil (told_among p subject t (range_with_len 0 n))
+
+-- two routing data with the same users in service but for the subject tell the same
+record ServeAlike (ssn : ℕ) (p q : RoutingData) : Type 0 where
+  users : q.users ≡ p.users
+  out : (x : ℕ) → (x == ssn) ≡ false → is_among x q.out_of_service ≡ is_among x p.out_of_service
+
+and-false : (b : Bool) → (b && false) ≡ false
+and-false true = refl
+and-false false = refl
+
+but-subject : (a b c t : Bool) → (t ≡ false → b ≡ c) → ((a && not b) && not t) ≡ ((a && not c) && not t)
+but-subject a b c true h = and-false (a && not b) ∙ sym (and-false (a && not c))
+but-subject a b c false h = ap (λ x. (a && not x) && true) (h refl)
+
+told-alike : (ssn : ℕ) (p q : RoutingData) → ServeAlike ssn p q → (x : ℕ) → is_told q (Some ssn) x ≡ is_told p (Some ssn) x
+told-alike ssn p q alike x =
+    ap (λ users. (is_among x users && not (is_among x q.out_of_service)) && not (x == ssn)) alike.users
+    ∙ but-subject (is_among x p.users) (is_among x q.out_of_service) (is_among x p.out_of_service) (x == ssn) (alike.out x)
+
+filter-alike : (f g : ℕ → Bool) → ((x : ℕ) → f x ≡ g x) → (xs : List ℕ) → filter f xs ≡ filter g xs
+filter-alike f g h [] = refl
+filter-alike f g h (x ∷ xs) = ap (λ b. cond b (x ∷ filter f xs) (filter f xs)) (h x) ∙ ap (λ l. cond (g x) (x ∷ l) l) (filter-alike f g h xs)
+
+all-alike : (ssn : ℕ) (p q : RoutingData) (t : Tell) → ServeAlike ssn p q → told_all q (Some ssn) t ≡ told_all p (Some ssn) t
+all-alike ssn p q t alike = ap (map (λ n. Told n t)) (filter-alike (is_told q (Some ssn)) (is_told p (Some ssn)) (told-alike ssn p q alike) subsystems)
+
+-- one user goes out of service, or comes back
+goes-out : (ssn x : ℕ) (out : List ℕ) → (x == ssn) ≡ false → is_among x (out ++ ssn ∷ []) ≡ is_among x out
+goes-out ssn x [] e = let f : (ssn == x) ≡ false = ne_eqb ssn x (λ s. eqb-false x ssn e (sym s)) in ap (λ b. b || false) f
+goes-out ssn x (y ∷ out) e = ap (λ b. (y == x) || b) (goes-out ssn x out e)
+
+comes-back : (ssn x : ℕ) (out : List ℕ) → (x == ssn) ≡ false → is_among x (but_for ssn out) ≡ is_among x out
+comes-back ssn x [] e = refl
+comes-back ssn x (y ∷ out) e =
+    ⊎_elim
+    (λ (t : (y == ssn) ≡ true).
+    let same = eqb-true y ssn t in
+    let f : (y == x) ≡ false = ne_eqb y x (λ s. eqb-false x ssn e (sym s ∙ same)) in
+    rw t (comes-back ssn x out e ∙ sym (ap (λ b. b || is_among x out) f)))
+    (λ (t : (y == ssn) ≡ false). rw t (ap (λ b. (y == x) || b) (comes-back ssn x out e)))
+    (cases_Bool (y == ssn))
+
+-- what holds of the routing data with the change, and of those without, holds of those after the change
+after-change : (P : RoutingData → Type 0) (p : RoutingData) (change : Change) → P (changed p change) → P p → P (plant_after p change)
+unfolding plant_after
+after-change P p change with_it without =
+    ⊎_elim
+    (λ (t : is_alters (verdict_on p change) ≡ true). rw t with_it)
+    (λ (t : is_alters (verdict_on p change) ≡ false). rw t without)
+    (cases_Bool (is_alters (verdict_on p change)))
+
+known-changed : (head : ControlHead) (p : RoutingData) (change : Change) → made_known head (changed p change) change ≡ made_known head p change
+unfolding changed
+known-changed head p (AddRow row) = refl
+known-changed head p (DelRow selector prefix) = refl
+known-changed head p (BarPoint point) = refl
+known-changed head p (FreePoint point) = refl
+known-changed head p (BarSub point ssn) = refl
+known-changed head p (FreeSub point ssn) = refl
+known-changed head p (LocalUp ssn) =
+    ap (λ outs. outs ++ to_concerned head p true ssn)
+    (all-alike ssn p (changed p (LocalUp ssn)) _ (record { users = refl; out = λ x e. comes-back ssn x p.out_of_service e }))
+known-changed head p (LocalDown ssn) =
+    ap (λ outs. outs ++ to_concerned head p false ssn)
+    (all-alike ssn p (changed p (LocalDown ssn)) _ (record { users = refl; out = λ x e. goes-out ssn x p.out_of_service e }))
+
+-- so what a change makes known is told by the routing data before it too
+pub known-after : (head : ControlHead) (p : RoutingData) (change : Change) → made_known head (plant_after p change) change ≡ made_known head p change
+known-after head p change = after-change (λ q. made_known head q change ≡ made_known head p change) p change (known-changed head p change) refl

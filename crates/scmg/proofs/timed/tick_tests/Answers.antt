@@ -1,0 +1,10 @@
+use Rattle.std.proofs.Common.{◌<◌, length, arith}
+use Rattle.std.proofs.lemmas.List.Edits.{map_over_more}
+use Rattle.scmg.specs.Control.{test_after_tick}
+use Rattle.scmg.proofs.timed.tick_tests.Goals as goal
+
+pub loop-place-preserved : goal.loop-place-preserved
+loop-place-preserved c =
+    let within : c.loop-place.place < length c.args.tests.now.items = omega arith in
+    rw c.after_tick.ensures
+    (map_over_more (test_after_tick c.args.ticks.now) c.args.tests.now.items c.loop-place.tests.items c.loop-place.place c.index.result.now within c.loop-place.invariant c.index.ensures)

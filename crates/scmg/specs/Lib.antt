@@ -1,0 +1,3 @@
+pub mod Control
+pub mod Lane
+pub mod Messages

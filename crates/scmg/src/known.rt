@@ -1,0 +1,115 @@
+//! What a change of the routing data makes known.
+ghost use Rattle.std.specs.Prelude.{◌≡◌, ◌++◌, IfOk};
+ghost use Rattle.scmg.specs.Control.{is_told, told_all, service_format, to_concerned, service_known, made_known};
+
+use crate::head::ControlHead;
+use crate::message::{Format, sent};
+use plant_core::{Change, Plant};
+use relay_base::{Memory, Output, Outs, Ssn, Tell};
+use std::alloc::{AllocError, Global};
+
+fn copy_of(tell: &Tell) -> Result<Tell, AllocError>
+    ensures { IfOk result (λ copy. copy ≡ tell.now) }
+{
+    tell.clone()
+}
+
+/// Whether this is the number of a user in service, but not the one that it is about.
+fn is_told(plant: &Plant, subject: Option<Ssn>, ssn: Ssn) -> bool
+    ensures { result ≡ is_told plant.now.routing subject ssn }
+{
+    plant.is_in_service(ssn) && subject != Some(ssn)
+}
+
+/// Tells the users in service, by rising number, but not the one that it is about.
+fn told_all(alloc: Global, plant: &Plant, subject: Option<Ssn>, tell: &Tell) -> Result<Outs, Memory>
+    ensures { IfOk result (λ outs. outs ≡ told_all plant.now.routing subject tell.now) }
+{
+    let mut outs = Outs::new(alloc);
+    for number in 0..256u16 {
+        let ssn = Ssn::from(number as u8);
+        if is_told(plant, subject, ssn) {
+            outs.push(Output::Told {
+                ssn,
+                tell: copy_of(tell)?,
+            })?;
+        }
+    }
+    Ok(outs)
+}
+
+/// SSA or SSP.
+fn service_format(up: bool) -> Format
+    ensures { result ≡ service_format up }
+{
+    if up {
+        Format::Allowed
+    } else {
+        Format::Prohibited
+    }
+}
+
+/// Tells each concerned point that a local subsystem is in service again, or out.
+fn tell_concerned(
+    alloc: Global,
+    head: &ControlHead,
+    plant: &Plant,
+    up: bool,
+    ssn: Ssn,
+    mut outs: Outs,
+) -> Result<Outs, Memory>
+    ensures { IfOk result (λ all. all ≡ outs ++ to_concerned head.now plant.now.routing up ssn) }
+{
+    let format = service_format(up);
+    for to in head.concerned.as_slice() {
+        outs.push(sent(alloc, *to, format, ssn, plant.own())?)?;
+    }
+    Ok(outs)
+}
+
+fn service_known(
+    alloc: Global,
+    head: &ControlHead,
+    plant: &Plant,
+    up: bool,
+    ssn: Ssn,
+) -> Result<Outs, Memory>
+    ensures { IfOk result (λ outs. outs ≡ service_known head.now plant.now.routing up ssn) }
+{
+    let tell = Tell::State {
+        ssn,
+        point: plant.own(),
+        up,
+    };
+    let outs = told_all(alloc, plant, Some(ssn), &tell)?;
+    tell_concerned(alloc, head, plant, up, ssn, outs)
+}
+
+/// What a change makes known to the users, and to the concerned points.
+pub fn made_known(
+    alloc: Global,
+    head: &ControlHead,
+    plant: &Plant,
+    change: Change,
+) -> Result<Outs, Memory>
+    ensures { IfOk result (λ outs. outs ≡ made_known head.now plant.now.routing change) }
+{
+    let tell = match change {
+        Change::AddRow(_) | Change::DelRow(_, _) => return Ok(Outs::new(alloc)),
+        Change::BarPoint(point) => Tell::Point { point, up: false },
+        Change::FreePoint(point) => Tell::Point { point, up: true },
+        Change::BarSub(point, ssn) => Tell::State {
+            ssn,
+            point,
+            up: false,
+        },
+        Change::FreeSub(point, ssn) => Tell::State {
+            ssn,
+            point,
+            up: true,
+        },
+        Change::LocalUp(ssn) => return service_known(alloc, head, plant, true, ssn),
+        Change::LocalDown(ssn) => return service_known(alloc, head, plant, false, ssn),
+    };
+    told_all(alloc, plant, None, &tell)
+}

@@ -1,0 +1,186 @@
+//! The control lane.
+ghost use Rattle.std.specs.Prelude.{◌≡◌, ◌+◌, ◌-◌, ◌^◌, ◌<◌, [], ◌∷◌, ◌++◌, length, None, option_to_list, IfOk, OnOk, OnErr};
+ghost use Rattle.scmg.specs.Control.{effect_of, control_after, change_of, edition_after, count_after};
+
+use crate::effect::{Act, Context, Effect};
+use crate::head::ControlHead;
+use crate::kept::Kept;
+use crate::publish::Publish;
+use plant_core::{Change, ControlEntry, ControlEvent, ControlList, Plant, Ticks};
+use relay_base::{Memory, Stamp};
+use std::alloc::{AllocError, Global};
+use std::marker::Model;
+use std::mem;
+use std::snapshot::Snapshot;
+
+/// The control lane: it takes edits, status, messages of management, coordinated changes and ticks. Its journal is a legal one at all times.
+#[derive(Drop)]
+pub struct ControlLane {
+    alloc: Global,
+    head: ControlHead,
+    journal: ControlList,
+    kept: Kept,
+    /// The routing data that the lane began with, which clauses alone read.
+    start: Snapshot<Plant>,
+}
+
+impl Model for ControlLane {
+    ghost use Rattle.scmg.specs.Lane.{ControlState, IsLane};
+
+    ghost Value = { ControlState };
+
+    ghost view = { λ l. record { head = l.head; start = l.start.value.routing; journal = l.journal } };
+
+    ghost invariant = { λ l. IsLane l.head l.start.value.routing l.journal l.kept };
+}
+
+fn copy_of(head: &ControlHead) -> Result<ControlHead, AllocError>
+    ensures { IfOk result (λ copy. copy ≡ head.now) }
+{
+    head.clone()
+}
+
+fn event_of(event: &ControlEvent) -> Result<ControlEvent, AllocError>
+    ensures { IfOk result (λ copy. copy ≡ event.now) }
+{
+    event.clone()
+}
+
+/// The entry of an event, before anything is published, and what is to be done.
+fn prepare(
+    alloc: Global,
+    head: &ControlHead,
+    kept: &Kept,
+    stamp: Stamp,
+    event: &ControlEvent,
+) -> Result<(ControlEntry, Act), Memory>
+    ensures entry { IfOk result (λ x. x.0 ≡ record { stamp = stamp; event = event.now; published = None; outs = (effect_of head.now kept.now.control event.now).outs }) }
+    ensures act { IfOk result (λ x. x.1 ≡ (effect_of head.now kept.now.control event.now).act) }
+{
+    let context = Context { alloc, head, kept };
+    let Effect { outs, act } = context.effect_of(event)?;
+    let entry = ControlEntry {
+        stamp,
+        event: event_of(event)?,
+        published: None,
+        outs,
+    };
+    Ok((entry, act))
+}
+
+/// Publishes a change, where there is one, and gives the number of the new edition.
+fn publish_change<P: Publish>(
+    publish: &mut P,
+    change: Option<Change>,
+) -> Result<Option<u64>, Memory>
+    requires { P.first publish.old + length (P.published publish.old) < 2 ^ 64 - 1 }
+    ensures first { P.first publish.new ≡ P.first publish.old }
+    ensures ok { OnOk result (P.published publish.new ≡ P.published publish.old ++ option_to_list change) }
+    ensures err { OnErr result (P.published publish.new ≡ P.published publish.old) }
+    ensures edition { IfOk result (λ edition. edition ≡ edition_after (P.first publish.old + length (P.published publish.old)) change) }
+{
+    let Some(change) = change else {
+        return Ok(None);
+    };
+    Ok(Some(publish.publish(&change)?))
+}
+
+/// Takes all memory, publishes the change of an act, and then does it, and puts the entry at the end of the journal, with the edition that was
+/// published. After `Memory` all is as before.
+fn write<P: Publish>(
+    kept: &mut Kept,
+    journal: &mut Vec<ControlEntry>,
+    publish: &mut P,
+    ticks: &Ticks,
+    entry: ControlEntry,
+    act: Act,
+) -> Result<(), Memory>
+    requires in_step { P.first publish.old + length (P.published publish.old) ≡ kept.old.edition }
+    requires few { kept.old.edition < 4294967295 }
+    ensures control { OnOk result (kept.new.control ≡ control_after ticks.now kept.old.control act) }
+    ensures edition { OnOk result (kept.new.edition ≡ count_after kept.old.edition (change_of act)) }
+    ensures entry { OnOk result (journal.new.items ≡ journal.old.items ++ record entry { published = edition_after kept.old.edition (change_of act) } ∷ []) }
+    ensures published { OnOk result (P.published publish.new ≡ P.published publish.old ++ option_to_list (change_of act)) }
+    ensures first { P.first publish.new ≡ P.first publish.old }
+    ensures kept { OnErr result ((kept.new.control ≡ kept.old.control) × (kept.new.edition ≡ kept.old.edition)) }
+    ensures journal { OnErr result (journal.new.items ≡ journal.old.items) }
+    ensures unpublished { OnErr result (P.published publish.new ≡ P.published publish.old) }
+{
+    kept.make_room()?;
+    journal.reserve(1)?;
+    let published = publish_change(publish, act.change())?;
+    kept.act(ticks, act)?;
+    journal.push_reserved(ControlEntry { published, ..entry });
+    Ok(())
+}
+
+impl ControlLane {
+    ghost use Rattle.scmg.specs.Control.{IsControlJournal, changes_in, routing_after};
+    ghost use Rattle.scmg.specs.Lane.{changes_of, Takes, GrowAlike};
+
+    /// The control lane before its first event, with these routing data.
+    pub fn new(alloc: Global, head: &ControlHead, plant: Plant) -> Result<ControlLane, Memory>
+        requires edition { plant.edition ≡ 0 }
+        requires users { plant.routing.users ≡ head.now.users }
+        ensures { IfOk result (λ lane. lane ≡ record { head = head.now; start = plant.routing; journal = [] }) }
+    {
+        let head = copy_of(head)?;
+        let start = Snapshot::of(&plant);
+        Ok(ControlLane {
+            alloc,
+            head,
+            journal: ControlList::new(alloc),
+            kept: Kept::start(alloc, plant),
+            start,
+        })
+    }
+
+    /// The routing data after all changes that the journal published.
+    pub fn plant(&self) -> &Plant
+        ensures routing { result.now.routing ≡ routing_after self.now.start (changes_of self.now) }
+        ensures edition { result.now.edition ≡ length (changes_of self.now) }
+        ensures legal { IsControlJournal self.now.head self.now.start self.now.journal }
+    {
+        self.kept.plant()
+    }
+
+    /// What the lane did, event by event.
+    pub fn journal(&self) -> &ControlList
+        ensures value { result.now ≡ self.now.journal }
+        ensures legal { IsControlJournal self.now.head self.now.start self.now.journal }
+    {
+        &self.journal
+    }
+
+    /// What the lane did, as a list of its own.
+    pub fn into_journal(self) -> ControlList
+        ensures value { result ≡ self.journal }
+        ensures legal { IsControlJournal self.head self.start self.journal }
+    {
+        self.journal
+    }
+
+    /// Takes an event: it takes all its memory, publishes the change where there is one, and then changes the lane. The publisher has published
+    /// what the journal has. After `Memory` the lane is as before, and nothing was published.
+    pub fn step<P: Publish>(
+        &mut self,
+        publish: &mut P,
+        stamp: Stamp,
+        event: &ControlEvent,
+    ) -> Result<(), Memory>
+        requires in_step { P.first publish.old + length (P.published publish.old) ≡ length (changes_of self.old) }
+        requires few { length self.old.journal < 4294967295 }
+        ensures ok { OnOk result (Takes stamp event.now self.old self.new) }
+        ensures err { OnErr result (self.new ≡ self.old) }
+        ensures first { P.first publish.new ≡ P.first publish.old }
+        ensures published { OnOk result (GrowAlike (P.published publish.old) (P.published publish.new) (changes_of self.old) (changes_of self.new)) }
+        ensures unpublished { OnErr result (P.published publish.new ≡ P.published publish.old) }
+    {
+        let (entry, act) = prepare(self.alloc, &self.head, &self.kept, stamp, event)?;
+        let ticks = self.head.ticks;
+        let mut journal = mem::replace(&mut self.journal, ControlList::new(self.alloc)).into_vec();
+        let written = write(&mut self.kept, &mut journal, publish, &ticks, entry, act);
+        self.journal = ControlList::from(journal);
+        written
+    }
+}

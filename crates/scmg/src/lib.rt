@@ -1,0 +1,17 @@
+//! SCCP management (Q.714): what the control lane does with edits, status, messages of management and coordinated changes, and its journal.
+#![tactic(auto)]
+
+mod effect;
+mod head;
+mod kept;
+mod known;
+mod lane;
+mod message;
+mod publish;
+#[cfg(test)]
+mod tests;
+mod timed;
+
+pub use head::ControlHead;
+pub use lane::ControlLane;
+pub use publish::Publish;

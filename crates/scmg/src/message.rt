@@ -1,0 +1,132 @@
+//! Messages of management (Q.713, SCMG messages).
+ghost use Rattle.std.specs.Prelude.{◌≡◌, IfOk};
+ghost use Rattle.std.specs.Option.{option_map};
+ghost use Rattle.sccp_address.specs.Parsing.{address_of};
+ghost use Rattle.scmg.specs.Messages.{code_of, octets_of, sent, format_of, notice_in, is_for_management, data_in};
+
+use q713_codec::{Message, View, read, write};
+use relay_base::{Memory, Octets, Output, Pc, Sls, Ssn};
+use sccp_address::parse;
+use std::alloc::Global;
+
+/// The most octets of a UDT.
+const LONGEST: usize = 268;
+
+/// The address of management: it routes on subsystem number 1.
+const MANAGEMENT: [u8; 2] = [0x42, 0x01];
+
+/// SSA, SSP, SST, SOR and SOG.
+#[derive(Clone, Copy, Debug, PartialEq, Eq)]
+pub enum Format {
+    Allowed,
+    Prohibited,
+    StatusTest,
+    OutOfServiceRequest,
+    OutOfServiceGrant,
+}
+
+/// What a message of management says of a subsystem of a point.
+#[derive(Clone, Copy, Debug, PartialEq, Eq)]
+pub struct Notice {
+    pub format: Format,
+    pub ssn: Ssn,
+    pub point: Pc,
+}
+
+impl Format {
+    fn code(self) -> u8
+        ensures { result ≡ code_of self }
+    {
+        match self {
+            Format::Allowed => 0x01,
+            Format::Prohibited => 0x02,
+            Format::StatusTest => 0x03,
+            Format::OutOfServiceRequest => 0x04,
+            Format::OutOfServiceGrant => 0x05,
+        }
+    }
+
+    fn of_code(code: u8) -> Option<Format>
+        ensures { result ≡ format_of code }
+    {
+        match code {
+            0x01 => Some(Format::Allowed),
+            0x02 => Some(Format::Prohibited),
+            0x03 => Some(Format::StatusTest),
+            0x04 => Some(Format::OutOfServiceRequest),
+            0x05 => Some(Format::OutOfServiceGrant),
+            _ => None,
+        }
+    }
+}
+
+/// The octets of a message about a subsystem of a point.
+fn octets_of(alloc: Global, format: Format, ssn: Ssn, point: Pc) -> Result<Octets, Memory>
+    ensures { IfOk result (λ octets. octets ≡ octets_of format ssn point) }
+{
+    let low = (point.number() % 256) as u8;
+    let high = (point.number() / 256) as u8;
+    let data = [format.code(), ssn.number() as u8, low, high, 0x00];
+    let message = Message::Udt {
+        class_octet: 0,
+        called: Octets::from_slice(alloc, &MANAGEMENT)?,
+        calling: Octets::from_slice(alloc, &MANAGEMENT)?,
+        body: Octets::from_slice(alloc, &data)?,
+    };
+    write(alloc, &message)
+}
+
+/// A message about a subsystem of a point, to a point.
+pub fn sent(alloc: Global, to: Pc, format: Format, ssn: Ssn, point: Pc) -> Result<Output, Memory>
+    ensures { IfOk result (λ output. output ≡ sent to format ssn point) }
+{
+    let bytes = octets_of(alloc, format, ssn, point)?;
+    Ok(Output::Sent {
+        point: to,
+        sls: Sls::new(0).ok_or(Memory)?,
+        bytes,
+    })
+}
+
+/// What data say; None where they have fewer than five octets, or a format that isn't known.
+pub fn notice_in(told: &[u8]) -> Option<Notice>
+    ensures { result ≡ notice_in told.now }
+{
+    if told.len() < 5 {
+        return None;
+    }
+    let format = Format::of_code(told[0])?;
+    let point = (u32::from(told[2]) + 256 * u32::from(told[3])) % 16_384;
+    Some(Notice {
+        format,
+        ssn: Ssn::from(told[1]),
+        point: Pc::new(point)?,
+    })
+}
+
+/// Whether a called address routes on the subsystem number of management.
+fn is_for_management(called: &[u8]) -> bool
+    ensures { result ≡ is_for_management (address_of called.now) }
+{
+    match parse(called) {
+        Ok(address) => match address.ssn {
+            Some(ssn) => address.on_ssn && ssn.number() == 1,
+            None => false,
+        },
+        Err(_) => false,
+    }
+}
+
+/// The data that management hears in octets from the network: those of a UDT for subsystem 1.
+#[tactic(auto, unfolding(crate::specs::Messages::data_in))]
+pub fn data_in(bytes: &[u8]) -> Option<&[u8]>
+    ensures { option_map (λ body. body.now) result ≡ data_in bytes.now }
+{
+    if bytes.len() > LONGEST {
+        return None;
+    }
+    match read(bytes) {
+        Ok(View::Udt { called, body, .. }) if is_for_management(called) => Some(body),
+        _ => None,
+    }
+}

@@ -1,0 +1,157 @@
+//! What waits for a tick.
+ghost use Rattle.std.specs.Prelude.{◌≡◌, ◌<◌, map, filter, not, position, vec_len, IsOk, OnOk, OnErr};
+ghost use Rattle.std.specs.Vec.{vec_capacity};
+ghost use Rattle.scmg.specs.Control.{is_due_test, is_due_coordination, is_test_before, is_test_of, with_test, test_after_tick, is_coordination_before, with_coordination, without_coordination, lowered, coordinations_after_tick};
+
+use plant_core::Ticks;
+use relay_base::{Memory, Pc, Ssn};
+
+/// The test of a subsystem of another point that is out of service: the ticks until it is sent, and how many it was armed with.
+#[derive(Clone, Copy, Debug, PartialEq, Eq)]
+pub struct StatusTest {
+    pub point: Pc,
+    pub ssn: Ssn,
+    pub left: u32,
+    pub interval: u32,
+}
+
+/// A coordinated change that a user asked for: the point of its replicate, and the ticks until it is denied.
+#[derive(Clone, Copy, Debug, PartialEq, Eq)]
+pub struct Coordination {
+    pub ssn: Ssn,
+    pub point: Pc,
+    pub left: u32,
+}
+
+impl StatusTest {
+    /// Whether the next tick sends it.
+    pub fn is_due(&self) -> bool
+        ensures { result ≡ is_due_test self.now }
+    {
+        self.left <= 1
+    }
+
+    fn is_before(&self, other: &StatusTest) -> bool
+        ensures { result ≡ is_test_before self.now other.now }
+    {
+        let here = self.point.number();
+        let there = other.point.number();
+        here < there || (here == there && self.ssn.number() < other.ssn.number())
+    }
+
+    /// After a tick: one that was sent has twice the ticks, but no more than the most.
+    fn after_tick(&self, ticks: &Ticks) -> StatusTest
+        ensures { result ≡ test_after_tick ticks.now self.now }
+    {
+        if self.is_due() {
+            let interval = self.interval.saturating_mul(2).min(ticks.status_max);
+            StatusTest {
+                left: interval,
+                interval,
+                ..*self
+            }
+        } else {
+            StatusTest {
+                left: self.left - 1,
+                ..*self
+            }
+        }
+    }
+}
+
+impl Coordination {
+    /// Whether the next tick denies it.
+    pub fn is_due(&self) -> bool
+        ensures { result ≡ is_due_coordination self.now }
+    {
+        self.left <= 1
+    }
+
+    fn is_before(&self, other: &Coordination) -> bool
+        ensures { result ≡ is_coordination_before self.now other.now }
+    {
+        self.ssn.number() < other.ssn.number()
+    }
+
+    fn lowered(&self) -> Coordination
+        ensures { result ≡ lowered self.now }
+    {
+        Coordination {
+            left: self.left.saturating_sub(1),
+            ..*self
+        }
+    }
+}
+
+fn test_place(tests: &[StatusTest], test: &StatusTest) -> Option<usize>
+    ensures { result ≡ position (is_test_before test.now) tests.now }
+{
+    tests.iter().position(|other| test.is_before(other))
+}
+
+/// Puts a test at its place.
+pub fn put_test(tests: &mut Vec<StatusTest>, test: StatusTest) -> Result<(), Memory>
+    ensures ok { OnOk result (tests.new.items ≡ with_test test tests.old.items) }
+    ensures err { OnErr result (tests.new.items ≡ tests.old.items) }
+    ensures memory { vec_len tests.old < vec_capacity tests.old → IsOk result }
+{
+    let place = test_place(tests, &test).unwrap_or(tests.len());
+    tests.insert(place, test)?;
+    Ok(())
+}
+
+/// Takes the test of a subsystem away.
+pub fn drop_test(tests: &mut Vec<StatusTest>, point: Pc, ssn: Ssn)
+    ensures { tests.new.items ≡ filter (λ t. not (is_test_of point ssn t)) tests.old.items }
+{
+    tests.retain(|test| !(test.point == point && test.ssn == ssn));
+}
+
+/// Lowers the ticks of each test, and arms those again that are sent.
+pub fn tick_tests(tests: &mut Vec<StatusTest>, ticks: &Ticks)
+    ensures { tests.new.items ≡ map (test_after_tick ticks.now) tests.old.items }
+{
+    for place in 0..tests.len() {
+        tests[place] = tests[place].after_tick(ticks);
+    }
+}
+
+fn coordination_place(list: &[Coordination], one: &Coordination) -> Option<usize>
+    ensures { result ≡ position (is_coordination_before one.now) list.now }
+{
+    list.iter().position(|other| one.is_before(other))
+}
+
+/// Puts a coordinated change at its place.
+pub fn put_coordination(list: &mut Vec<Coordination>, one: Coordination) -> Result<(), Memory>
+    ensures ok { OnOk result (list.new.items ≡ with_coordination one list.old.items) }
+    ensures err { OnErr result (list.new.items ≡ list.old.items) }
+    ensures memory { vec_len list.old < vec_capacity list.old → IsOk result }
+{
+    let place = coordination_place(list, &one).unwrap_or(list.len());
+    list.insert(place, one)?;
+    Ok(())
+}
+
+/// Takes the coordinated change of a user away.
+pub fn drop_coordination(list: &mut Vec<Coordination>, ssn: Ssn)
+    ensures { list.new.items ≡ without_coordination ssn list.old.items }
+{
+    list.retain(|one| one.ssn != ssn);
+}
+
+fn lower(list: &mut Vec<Coordination>)
+    ensures { list.new.items ≡ map lowered list.old.items }
+{
+    for place in 0..list.len() {
+        list[place] = list[place].lowered();
+    }
+}
+
+/// Takes those away that are denied, and lowers the ticks of the others.
+pub fn tick_coordinations(list: &mut Vec<Coordination>)
+    ensures { list.new.items ≡ coordinations_after_tick list.old.items }
+{
+    list.retain(|one| !one.is_due());
+    lower(list);
+}
