@@ -4,11 +4,12 @@ use Rattle.std.proofs.lemmas.List.{length-replicate, length-set}
 use Rattle.std.proofs.Math.ListN.{set}
 use Rattle.std.specs.List.{AllByRecursion}
 use Rattle.relay_base.specs.Giving.{◌>>=◌}
-use Rattle.relay_base.specs.declared.words.Event.{Event}
 use Rattle.relay_base.specs.declared.words.Stamp.{Stamp}
+use Rattle.plant_core.specs.declared.entry.ControlEvent.{ControlEvent}
 use Rattle.node_head.specs.Lines.{lines, halves}
 use Rattle.node_head.specs.Head.{begun}
 use Rattle.node_head.specs.declared.head.Head.{Head}
+use Rattle.node_head.proofs.Given.{IfGiven, bound, bound_if, either}
 use Rattle.capture_form.specs.Text.{words}
 use Rattle.capture_form.specs.Line.{Linked, event_of}
 use Rattle.capture_form.specs.declared.fault.LineKind.TheVariants.{Words}
@@ -30,12 +31,12 @@ links-empty : (n phase link : ℕ) → AreOfLinks phase link (replicate n [])
 links-empty zero phase link = tt
 links-empty (suc n) phase link = (tt, links-empty n phase (link + 1))
 
-events-push : (phase link : ℕ) (events : Stamped) (e : Stamp × Event) → AllByRecursion (λ f. (f.0.phase ≡ phase) × (f.0.link ≡ link)) events → e.0.phase ≡ phase → e.0.link ≡ link
+events-push : (phase link : ℕ) (events : Stamped) (e : Stamp × ControlEvent) → AllByRecursion (λ f. (f.0.phase ≡ phase) × (f.0.link ≡ link)) events → e.0.phase ≡ phase → e.0.link ≡ link
     → AllByRecursion (λ f. (f.0.phase ≡ phase) × (f.0.link ≡ link)) (events ++ e ∷ [])
 events-push phase link [] e h p l = ((p, l), tt)
 events-push phase link (f ∷ fs) e h p l = (h.0, events-push phase link fs e h.1 p l)
 
-links-set : (phase link k : ℕ) (lists : List Stamped) (e : Stamp × Event) → AreOfLinks phase link lists → e.0.phase ≡ phase → e.0.link ≡ link + k
+links-set : (phase link k : ℕ) (lists : List Stamped) (e : Stamp × ControlEvent) → AreOfLinks phase link lists → e.0.phase ≡ phase → e.0.link ≡ link + k
     → AreOfLinks phase link (set lists k (get_or lists k [] ++ e ∷ []))
 links-set phase link k [] e h p l = tt
 links-set phase link zero (events ∷ more) e h p l = (events-push phase link events e h.0 p (omega (arith, l)), h.1)
@@ -67,25 +68,8 @@ stands-added head r e h = record {
   lists = length-set r.current e.0 _ ∙ h.lists;
 }
 
--- what holds of a value that a definition gives
-abbrev pub IfRead : {A : Type 0} → (A → Type 0) → Result A CaptureFault → Type 0
-IfRead P (Ok x) = P x
-IfRead P (Err e) = Unit {0}
-
-either : {A : Type 0} (P : A → Type 0) (t : Bool) (a b : Result A CaptureFault) → IfRead P a → IfRead P b → IfRead P (cond t a b)
-either P true a b f g = f
-either P false a b f g = g
-
-bound : {A B : Type 0} (P : B → Type 0) (r : Result A CaptureFault) (f : A → Result B CaptureFault) → ((a : A) → IfRead P (f a)) → IfRead P (r >>= f)
-bound P (Ok a) f h = h a
-bound P (Err fault) f h = tt
-
-bound_if : {A B : Type 0} (P : A → Type 0) (Q : B → Type 0) (r : Result A CaptureFault) (f : A → Result B CaptureFault) → IfRead P r → ((a : A) → P a → IfRead Q (f a)) → IfRead Q (r >>= f)
-bound_if P Q (Ok a) f h g = g a h
-bound_if P Q (Err fault) f h g = tt
-
 abbrev StandsIn : Head → Result Reading CaptureFault → Type 0
-StandsIn head r = IfRead (Stands head) r
+StandsIn head r = IfGiven (Stands head) r
 
 abbrev fault_words : Reading → Result Reading CaptureFault
 fault_words r = Err (refused.Line record { line = r.line; kind = Words })
@@ -137,15 +121,15 @@ stamped-phases head r h = stamped-choice head r (r.events == 0) h
 abbrev pub HasStamps : Capture → Type 0
 HasStamps c = IsStamped c.head c.phases
 
-capture-from : (parts : Head × ℕ × List (List ℕ)) → IfRead HasStamps (capture_from parts)
+capture-from : (parts : Head × ℕ × List (List ℕ)) → IfGiven HasStamps (capture_from parts)
 capture-from parts =
     bound_if (Stands parts.0) HasStamps (lines_taken parts.0 (reading_from parts.0 (parts.1 + 2)) parts.2) (λ r. Ok (record { head = parts.0; phases = phases_of r }))
     (stands-lines parts.0 parts.2 (reading_from parts.0 (parts.1 + 2)) (stands-from parts.0 (parts.1 + 2))) (λ r h. stamped-phases parts.0 r h)
 
 -- what is read of an input
-within-stamped : (bytes : List ℕ) → IfRead HasStamps (capture_within bytes)
+within-stamped : (bytes : List ℕ) → IfGiven HasStamps (capture_within bytes)
 within-stamped bytes = bound HasStamps (at_head (begun (halves (lines bytes)))) capture_from capture-from
 
 pub read-stamped : (r : Result Capture CaptureFault) (bytes : List ℕ) → Reads r (capture_within bytes) → IfOk r HasStamps
-read-stamped (Ok capture) bytes e = subst (IfRead HasStamps) e (within-stamped bytes)
+read-stamped (Ok capture) bytes e = subst (IfGiven HasStamps) e (within-stamped bytes)
 read-stamped (Err fault) bytes e = tt

@@ -1,5 +1,5 @@
-pub mod Built
 pub mod Capture
+pub mod Changes
 pub mod Line
 pub mod Note
 pub mod Place

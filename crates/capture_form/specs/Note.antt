@@ -30,7 +30,6 @@ line_word line.Digits = codes "digits"
 line_word line.Entity = codes "entity"
 line_word line.User = codes "user"
 line_word line.Point = codes "point"
-line_word line.NotBuilt = codes "not-built"
 
 abbrev pub limit_word : Limit → List ℕ
 limit_word limit.Bytes = codes "bytes"

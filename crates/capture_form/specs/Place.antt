@@ -12,6 +12,8 @@ use Rattle.sccp_address.specs.declared.address.AddressFault.{AddressFault}
 use Rattle.q713_codec.specs.declared.message.Message.{Message}
 use Rattle.q713_codec.specs.declared.message.Message.TheVariants.{Cr, Cc, Cref, Rlsd, Rlc, Dt1, Dt2, Ak, Udt, Udts, Ed, Ea, Rsr, Rsc, Err as Error, It, Xudt, Xudts, Ludt, Ludts}
 use Rattle.q713_codec.specs.Reading.{reading_of}
+use Rattle.plant_core.specs.declared.entry.ControlEvent.{ControlEvent}
+use Rattle.plant_core.specs.declared.entry.ControlEvent.TheVariants.{Plain, Change as Changed}
 use Rattle.node_head.specs.declared.head.Head.{Head}
 use Rattle.capture_form.specs.declared.lane_place.LanePlace.{LanePlace}
 use Rattle.capture_form.specs.declared.lane_place.LanePlace.TheVariants.{All, Control, Conn, Unit as Data}
@@ -96,7 +98,12 @@ place_of_request head request.Coord = Control
 place_of_request head (request.Grant point) = Control
 
 -- a tick stands in every lane
-unfoldable pub place_of : Head → Event → LanePlace
-place_of head (Arrived opc sls bytes) = place_of_octets head opc sls bytes
-place_of head (Requested ssn r) = place_of_request head r
-place_of head Tick = All
+unfoldable pub place_of_event : Head → Event → LanePlace
+place_of_event head (Arrived opc sls bytes) = place_of_octets head opc sls bytes
+place_of_event head (Requested ssn r) = place_of_request head r
+place_of_event head Tick = All
+
+-- a change of the routing data stands in the control lane
+unfoldable pub place_of : Head → ControlEvent → LanePlace
+place_of head (Plain event) = place_of_event head event
+place_of head (Changed change) = Control

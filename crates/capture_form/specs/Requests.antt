@@ -8,7 +8,7 @@ use Rattle.relay_base.specs.declared.words.Request.TheVariants as request
 use Rattle.capture_form.specs.Text.{same}
 use Rattle.capture_form.specs.Words.{below, class_of, called_of, calling_of, body_of, text_of, asks_return, is_return}
 use Rattle.capture_form.specs.declared.fault.LineKind.{LineKind}
-use Rattle.capture_form.specs.declared.fault.LineKind.TheVariants.{Words, NotBuilt}
+use Rattle.capture_form.specs.declared.fault.LineKind.TheVariants.{Words}
 
 -- what asks for a unit: selection, class, the word on return on error, called and calling address, body
 abbrev pub unit_of : List ℕ → List ℕ → List ℕ → List ℕ → List ℕ → List ℕ → Result Request LineKind
@@ -25,10 +25,6 @@ abbrev pub unit_asked : List (List ℕ) → Result Request LineKind
 unit_asked (sls ∷ class ∷ ret ∷ called ∷ calling ∷ body ∷ []) = unit_of sls class ret called calling body
 unit_asked _ = Err Words
 
--- a connection of class 3 is not run yet
-abbrev pub conn_built : ℕ → ℕ → ℕ → List ℕ → List ℕ → Result Request LineKind
-conn_built tag class credit called body = if class == 3 then Err NotBuilt else Ok (request.Conn tag class credit called body)
-
 -- what asks for a connection: tag, class, credit, called address, data
 abbrev pub conn_of : List ℕ → List ℕ → List ℕ → List ℕ → List ℕ → Result Request LineKind
 conn_of tag class credit called body = do
@@ -37,7 +33,7 @@ conn_of tag class credit called body = do
   granted ← below 128 credit
   to ← called_of called
   octets ← body_of 128 body
-  conn_built name number granted to octets
+  Ok (request.Conn name number granted to octets)
 
 -- conn <tag> <class> <credit> <called> <hex>
 abbrev pub conn_asked : List (List ℕ) → Result Request LineKind
@@ -95,9 +91,17 @@ disc_asked (reference ∷ cause ∷ body ∷ []) = do
   Ok (request.Disc mine number octets)
 disc_asked _ = Err Words
 
--- the words that begin a request that is not run yet
-abbrev pub is_later_request : List ℕ → Bool
-is_later_request word = list_any (same word) (codes "coord" ∷ codes "grant" ∷ [])
+-- coord
+abbrev pub coord_asked : List (List ℕ) → Result Request LineKind
+coord_asked [] = Ok request.Coord
+coord_asked _ = Err Words
+
+-- grant <point>
+abbrev pub grant_asked : List (List ℕ) → Result Request LineKind
+grant_asked (point ∷ []) = do
+  to ← below 16384 point
+  Ok (request.Grant to)
+grant_asked _ = Err Words
 
 -- the six words after `unit`, of which the third says whether return on error is asked
 abbrev pub is_unit : List (List ℕ) → Bool
@@ -106,9 +110,11 @@ is_unit _ = false
 
 -- how many words follow the word of any other request
 abbrev pub request_lengths : List (List ℕ × ℕ)
-request_lengths = (codes "conn", 5) ∷ (codes "accept", 4) ∷ (codes "refuse", 3) ∷ (codes "send", 2) ∷ (codes "ed", 2) ∷ (codes "reset", 1) ∷ (codes "disc", 3) ∷ []
+request_lengths =
+    (codes "conn", 5) ∷ (codes "accept", 4) ∷ (codes "refuse", 3) ∷ (codes "send", 2) ∷ (codes "ed", 2) ∷ (codes "reset", 1)
+    ∷ (codes "disc", 3) ∷ (codes "coord", 0) ∷ (codes "grant", 1) ∷ []
 
--- whether these words are as a whole a request that is run
+-- whether these words are as a whole a request
 abbrev pub is_request : List ℕ → List (List ℕ) → Bool
 is_request word more =
     if same word (codes "unit") then is_unit more
@@ -125,4 +131,6 @@ request_of word more =
     else if same word (codes "ed") then ed_asked more
     else if same word (codes "reset") then reset_asked more
     else if same word (codes "disc") then disc_asked more
+    else if same word (codes "coord") then coord_asked more
+    else if same word (codes "grant") then grant_asked more
     else Err Words

@@ -1,12 +1,14 @@
 -- What the words of a line state, or what is wrong with a word.
-use Rattle.std.specs.Prelude.{ℕ, ◌==◌, ◌||◌, ◌&&◌, nat_lt, nat_le, codes, Bool, List, length, if◌then◌else◌, Option, Some, None, Ok, Err, is_ok}
+use Rattle.std.specs.Prelude.{ℕ, ◌==◌, ◌||◌, ◌&&◌, nat_lt, nat_le, codes, Bool, List, [], length, if◌then◌else◌, Option, Some, None, Ok, Err, is_ok}
 use Rattle.std.specs.List.{list_any}
 use Rattle.std.specs.declared.result.Result.{Result}
 use Rattle.relay_base.specs.Giving.{◌>>=◌}
 use Rattle.sccp_address.specs.Parsing.{address_of}
-use Rattle.capture_form.specs.Text.{same, is_dash, number_of, hex_of}
+use Rattle.gtt_table.specs.declared.row.Entity.{Entity}
+use Rattle.node_head.specs.Entity.{number_of, digits_of, entity_of}
+use Rattle.capture_form.specs.Text.{same, is_dash, hex_of}
 use Rattle.capture_form.specs.declared.fault.LineKind.{LineKind}
-use Rattle.capture_form.specs.declared.fault.LineKind.TheVariants.{Number, Hex, Address, Size, User}
+use Rattle.capture_form.specs.declared.fault.LineKind.TheVariants.{Number, Hex, Address, Size, Digits, Entity as NoEntity, User, Point}
 
 -- the value, or this kind of fault where there is none
 abbrev pub or_kind : {A : Type 0} → Option A → LineKind → Result A LineKind
@@ -42,6 +44,20 @@ abbrev pub user_of : List ℕ → List ℕ → Result ℕ LineKind
 user_of users word = do
   ssn ← below 256 word
   if list_any (λ user. user == ssn) users then Ok ssn else Err User
+
+-- a point other than the own one
+abbrev pub other_point_of : ℕ → List ℕ → Result ℕ LineKind
+other_point_of own word = do
+  point ← below 16384 word
+  if point == own then Err Point else Ok point
+
+-- the digits of a prefix, or a dash for none
+abbrev pub prefix_of : List ℕ → Result (List ℕ) LineKind
+prefix_of word = if is_dash word then Ok [] else or_kind (digits_of word) Digits
+
+-- where a translation leads
+abbrev pub lead_of : ℕ → List ℕ → Result Entity LineKind
+lead_of own word = or_kind (entity_of own word) NoEntity
 
 abbrev pub octets_of : List ℕ → Result (List ℕ) LineKind
 octets_of word = or_kind (hex_of word) Hex

@@ -3,6 +3,7 @@ ghost use Rattle.std.specs.Prelude.{◌≡◌, ◌<◌, ◌≤◌, ◌+◌, ◌^
 ghost use Rattle.node_head.specs.Lines.{lines, halves};
 ghost use Rattle.node_head.specs.Addable.{are_addable};
 ghost use Rattle.node_head.specs.Head.{begun};
+ghost use Rattle.node_head.specs.Ranges.{IsHead};
 ghost use Rattle.capture_form.specs.Capture.{Reads, Takes, HeadReads, at_head, reading_from, lines_taken, phases_of, capture_after, capture_within, capture_of, IsStamped};
 
 use crate::fault::{CaptureFault, Limit};
@@ -28,6 +29,7 @@ fn head_part(alloc: Global, lines: &mut Lines<'_>) -> Result<(Head, usize), Capt
     requires { length lines.old < 2 ^ 64 }
     ensures value { HeadReads lines.new result (at_head (begun (halves lines.old))) }
     ensures addable { IfOk result (λ h. IsTrue (are_addable [] h.0.row)) }
+    ensures range { IfOk result (λ h. IsHead h.0) }
 {
     match take_head(alloc, lines) {
         Ok(head) => Ok(head),
@@ -106,6 +108,7 @@ fn capture_within(alloc: Global, bytes: &[u8]) -> Result<Capture, CaptureFault>
     requires { length bytes.now ≤ 67108864 }
     ensures value { Reads result (capture_within bytes.now) }
     ensures addable { IfOk result (λ c. IsTrue (are_addable [] c.head.row)) }
+    ensures range { IfOk result (λ c. IsHead c.head) }
 {
     let mut lines = bytes.lines();
     let (head, count) = head_part(alloc, &mut lines)?;
@@ -120,6 +123,7 @@ pub fn read_capture(alloc: Global, bytes: &[u8]) -> Result<Capture, CaptureFault
     ensures value { Reads result (capture_of bytes.now) }
     ensures stamped { IfOk result (λ c. IsStamped c.head c.phases) }
     ensures addable { IfOk result (λ c. IsTrue (are_addable [] c.head.row)) }
+    ensures range { IfOk result (λ c. IsHead c.head) }
 {
     if bytes.len() > MOST_BYTES {
         return Err(CaptureFault::TooLong(Limit::Bytes));

@@ -26,8 +26,6 @@ pub enum LineKind {
     User,
     /// The point is the own one.
     Point,
-    /// The line is of a kind that this node does not run yet.
-    NotBuilt,
 }
 
 /// What is wrong with which line, counted from 1 over the whole input.

@@ -1,9 +1,10 @@
 //! In which lane an event stands.
 ghost use Rattle.std.specs.Prelude.{◌≡◌};
 ghost use Rattle.q713_codec.specs.Reading.{seen};
-ghost use Rattle.capture_form.specs.Place.{lane_among, in_conn, in_data, of_reference, is_for_management, is_too_long, place_of_udt, place_of_message, place_of_octets, place_of_request, place_of};
+ghost use Rattle.capture_form.specs.Place.{lane_among, in_conn, in_data, of_reference, is_for_management, is_too_long, place_of_udt, place_of_message, place_of_octets, place_of_request, place_of_event, place_of};
 
 use node_head::Head;
+use plant_core::ControlEvent;
 use q713_codec::{View, read};
 use relay_base::{Event, Pc, Ref24, Request, Sls};
 use sccp_address::parse;
@@ -140,20 +141,31 @@ fn place_of_request(head: &Head, request: &Request) -> LanePlace
     }
 }
 
-/// In which lane an event stands: by the head and the event alone.
-///
-/// A tick stands in all lanes. Of the messages, UDT whose called address routes on subsystem number 1 stands in the control lane, CR in
-/// the connection lane of its origin and source local reference, another one of a connection in that of its destination local
-/// reference, and each other one, also one that is too long or doesn't read, in the data lane of its link selection. Of the requests,
-/// `unit` stands in the data lane of its link selection, `conn` in the connection lane of its tag, `coord` and `grant` in the control
-/// lane, and each other one in the connection lane of its reference.
-#[tactic(auto, unfolding(crate::specs::Place::place_of))]
-pub fn place(head: &Head, event: &Event) -> LanePlace
-    ensures { result ≡ place_of head.now event.now }
+/// The lane of a message, a request or a tick.
+#[tactic(auto, unfolding(crate::specs::Place::place_of_event))]
+fn place_of_event(head: &Head, event: &Event) -> LanePlace
+    ensures { result ≡ place_of_event head.now event.now }
 {
     match event {
         Event::Message { opc, sls, bytes } => place_of_octets(head, *opc, *sls, bytes.as_slice()),
         Event::Asked { request, .. } => place_of_request(head, request),
         Event::Tick => LanePlace::All,
+    }
+}
+
+/// In which lane an event stands: by the head and the event alone.
+///
+/// A change of the routing data stands in the control lane, and a tick in all lanes. Of the messages, UDT whose called address routes on subsystem number 1 stands in the control lane, CR in
+/// the connection lane of its origin and source local reference, another one of a connection in that of its destination local
+/// reference, and each other one, also one that is too long or doesn't read, in the data lane of its link selection. Of the requests,
+/// `unit` stands in the data lane of its link selection, `conn` in the connection lane of its tag, `coord` and `grant` in the control
+/// lane, and each other one in the connection lane of its reference.
+#[tactic(auto, unfolding(crate::specs::Place::place_of))]
+pub fn place(head: &Head, event: &ControlEvent) -> LanePlace
+    ensures { result ≡ place_of head.now event.now }
+{
+    match event {
+        ControlEvent::Plain(event) => place_of_event(head, event),
+        ControlEvent::Change(_) => LanePlace::Control,
     }
 }

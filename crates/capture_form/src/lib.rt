@@ -1,8 +1,8 @@
 //! The text of a capture.
 #![tactic(auto)]
 
-mod built;
 mod capture;
+mod changes;
 mod fault;
 mod lane_place;
 mod line;
@@ -21,5 +21,4 @@ pub use fault::{CaptureFault, Limit, LineFault, LineKind};
 pub use journal_text::{Book, print_book};
 pub use lane_place::{LanePlace, place};
 pub use note::fault_note;
-pub use reading::{Phase, PhaseList};
-pub use relay_base::StampedList;
+pub use reading::{Phase, PhaseList, StampedControlList};

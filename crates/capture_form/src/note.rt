@@ -33,7 +33,6 @@ fn line_word(kind: LineKind) -> &'static str
         LineKind::Entity => "entity",
         LineKind::User => "user",
         LineKind::Point => "point",
-        LineKind::NotBuilt => "not-built",
     }
 }
 

@@ -1,9 +1,13 @@
 //! Lines that are read one after the other.
 
-use relay_base::{PlainList, StampedList};
+use plant_core::ControlEvent;
+use relay_base::{PlainList, Stamp};
+
+/// Events with their stamps.
+pub type StampedControlList = PlainList<(Stamp, ControlEvent)>;
 
 /// The events of a phase, one list for each link from 0.
-pub type Phase = PlainList<StampedList>;
+pub type Phase = PlainList<StampedControlList>;
 
 /// Phases, the first of which is number 1.
 pub type PhaseList = PlainList<Phase>;

@@ -1,7 +1,7 @@
 //! What a user asks for in the words of a request.
 ghost use Rattle.std.specs.Prelude.{◌≡◌, map};
 ghost use Rattle.capture_form.specs.Refused.{States};
-ghost use Rattle.capture_form.specs.Requests.{unit_of, unit_asked, conn_of, conn_asked, accept_asked, refuse_asked, send_asked, ed_asked, reset_asked, disc_asked, is_later_request, is_unit, is_request, request_of};
+ghost use Rattle.capture_form.specs.Requests.{unit_of, unit_asked, conn_of, conn_asked, accept_asked, refuse_asked, send_asked, ed_asked, reset_asked, disc_asked, coord_asked, grant_asked, is_unit, is_request, request_of};
 
 use crate::fault::LineKind;
 use crate::refused::LineRefused;
@@ -49,7 +49,7 @@ fn unit_asked(alloc: Global, words: &[&[u8]]) -> Result<Request, LineRefused>
     )
 }
 
-/// What asks for a connection, which is not run yet in class 3.
+/// What asks for a connection.
 fn conn_of(
     alloc: Global,
     tag: &[u8],
@@ -65,9 +65,6 @@ fn conn_of(
     let credit = below::<128>(credit)?.number() as u8;
     let called = called(alloc, called_word)?;
     let body = body(alloc, 128, body_word)?;
-    if class == 3 {
-        return Err(LineRefused::Kind(LineKind::NotBuilt));
-    }
     Ok(Request::Conn {
         tag,
         class,
@@ -167,11 +164,26 @@ fn disc_asked(alloc: Global, words: &[&[u8]]) -> Result<Request, LineRefused>
     Ok(Request::Disc { mine, cause, body })
 }
 
-/// Whether a word begins a request that this node does not run yet.
-pub fn is_later_request(word: &[u8]) -> bool
-    ensures { result ≡ is_later_request word.now }
+/// `coord`
+fn coord_asked(words: &[&[u8]]) -> Result<Request, LineKind>
+    ensures { result ≡ coord_asked (map (λ w. w.now) words.now) }
 {
-    word == b"coord".as_slice() || word == b"grant".as_slice()
+    if words.is_empty() {
+        Ok(Request::Coord)
+    } else {
+        Err(LineKind::Words)
+    }
+}
+
+/// `grant <point>`
+fn grant_asked(words: &[&[u8]]) -> Result<Request, LineKind>
+    ensures { result ≡ grant_asked (map (λ w. w.now) words.now) }
+{
+    if words.len() != 1 {
+        return Err(LineKind::Words);
+    }
+    let point = below::<16_384>(words[0])?;
+    Ok(Request::Grant { point })
 }
 
 /// The six words after `unit`, of which the third says whether return on error is asked.
@@ -181,7 +193,7 @@ fn is_unit(words: &[&[u8]]) -> bool
     words.len() == 6 && is_return(words[2])
 }
 
-/// Whether these words, after that of a request, are as a whole a request that is run.
+/// Whether these words, after that of a request, are as a whole a request.
 pub fn is_request(word: &[u8], words: &[&[u8]]) -> bool
     ensures { result ≡ is_request word.now (map (λ w. w.now) words.now) }
 {
@@ -196,6 +208,8 @@ pub fn is_request(word: &[u8], words: &[&[u8]]) -> bool
         || word == b"ed".as_slice() && count == 2
         || word == b"reset".as_slice() && count == 1
         || word == b"disc".as_slice() && count == 3
+        || word == b"coord".as_slice() && count == 0
+        || word == b"grant".as_slice() && count == 1
 }
 
 /// What the words after that of a request ask for.
@@ -218,6 +232,10 @@ pub fn request_of(alloc: Global, word: &[u8], words: &[&[u8]]) -> Result<Request
         Ok(reset_asked(words)?)
     } else if word == b"disc".as_slice() {
         disc_asked(alloc, words)
+    } else if word == b"coord".as_slice() {
+        Ok(coord_asked(words)?)
+    } else if word == b"grant".as_slice() {
+        Ok(grant_asked(words)?)
     } else {
         Err(LineRefused::Kind(LineKind::Words))
     }

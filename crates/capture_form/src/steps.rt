@@ -7,11 +7,12 @@ ghost use Rattle.capture_form.specs.Text.{words};
 
 use crate::fault::{CaptureFault, Limit, LineFault, LineKind};
 use crate::line::event_of;
-use crate::reading::{Phase, Reading};
+use crate::reading::{Phase, Reading, StampedControlList};
 use crate::refused::LineRefused;
 use crate::text::split_words;
 use node_head::Head;
-use relay_base::{Event, Memory, Stamp, StampedList};
+use plant_core::ControlEvent;
+use relay_base::{Memory, Stamp};
 use std::alloc::Global;
 use std::mem;
 
@@ -29,15 +30,20 @@ pub fn empty_phase(alloc: Global, links: u8) -> Result<Phase, Memory>
     ensures { IfOk result (λ phase. phase ≡ empty_phase links) }
 {
     let mut phase = Phase::new(alloc);
-    phase.push(StampedList::new(alloc))?;
+    phase.push(StampedControlList::new(alloc))?;
     for _link in 0..links {
-        phase.push(StampedList::new(alloc))?;
+        phase.push(StampedControlList::new(alloc))?;
     }
     Ok(phase)
 }
 
 /// Puts an event at the end of its link's list.
-fn put(alloc: Global, phase: &mut Phase, link: usize, event: (Stamp, Event)) -> Result<(), Memory>
+fn put(
+    alloc: Global,
+    phase: &mut Phase,
+    link: usize,
+    event: (Stamp, ControlEvent),
+) -> Result<(), Memory>
     requires { link < length phase.old }
     ensures { OnOk result (phase.new ≡ slice_set phase.old link (slice_index_or phase.old link [] ++ event ∷ [])) }
 {
@@ -88,7 +94,7 @@ fn event_at(
     head: &Head,
     line: u32,
     words: &[&[u8]],
-) -> Result<(u8, Event), CaptureFault>
+) -> Result<(u8, ControlEvent), CaptureFault>
     ensures value { Reads result (at_line line (event_of head.now (map (λ w. w.now) words.now))) }
     ensures within { IfOk result (λ e. e.0 ≤ head.now.links) }
 {

@@ -1,6 +1,13 @@
-//! Captures with each kind of line fault, the messages that are run already, the limits, and the phases.
-use crate::{Capture, CaptureFault, Limit, LineFault, LineKind, Phase, PhaseList, read_capture};
-use relay_base::{Event, Memory, Octets, Pc, Ref24, Request, Sls, Ssn, Stamp, StampedList};
+//! Captures with each kind of line fault, the limits, the phases, and the places of events.
+use crate::{
+    Capture, CaptureFault, LanePlace, Limit, LineFault, LineKind, Phase, PhaseList,
+    StampedControlList, place, read_capture,
+};
+use gtt_table::Row;
+use node_head::{digits_of, entity_of};
+use plant_core::{Change, ControlEvent};
+use relay_base::{Digits, Event, Memory, Octets, Pc, Ref24, Request, Sls, Ssn, Stamp};
+use sccp_address::Selector;
 use std::alloc::Global;
 use std::test::Fail;
 
@@ -19,145 +26,229 @@ fn at_line(line: u32, kind: LineKind) -> Option<CaptureFault> {
     Some(CaptureFault::Line(LineFault { line, kind }))
 }
 
+/// The first of these lines that has another fault than one of this kind.
+fn first_other<'a>(alloc: Global, kind: LineKind, lines: &'a str) -> Option<&'a str> {
+    for line in lines.lines() {
+        if fault_of(alloc, line) != at_line(4, kind) {
+            return Some(line);
+        }
+    }
+    None
+}
+
 /// The words as a whole are tested first; then the leftmost faulty word decides.
 #[test]
 fn line_faults(rt: HostRuntime) {
-    let cases = [
-        // No form has these words, whatever else is wrong with them.
-        ("x 1 200 5 -", LineKind::Words),
-        ("M 1 200 5 -", LineKind::Words),
-        (" ", LineKind::Words),
-        (" # none", LineKind::Words),
-        ("%%", LineKind::Words),
-        ("m\t1 200 5 -", LineKind::Words),
-        ("w 1", LineKind::Words),
-        ("m", LineKind::Words),
-        ("m 2 16384 16", LineKind::Words),
-        ("m 2 16384 16 0 0", LineKind::Words),
-        ("u 1 8", LineKind::Words),
-        ("u 2 9 units 5 0 r 4209 - aa", LineKind::Words),
-        ("u 2 9 unit 16 2 r 4209 -", LineKind::Words),
-        ("u 2 9 unit 16 2 r 4209 - aa aa", LineKind::Words),
-        ("u 2 9 unit 16 2 x 4209 - a", LineKind::Words),
-        ("u 1 8 unit 5 0 rr 4209 - aa", LineKind::Words),
-        ("t 1", LineKind::Words),
-        ("t t", LineKind::Words),
-        ("T", LineKind::Words),
-        // The link.
-        ("m 0 200 5 -", LineKind::Number),
-        ("m 2 200 5 0", LineKind::Number),
-        ("m 00000000001 200 5 -", LineKind::Number),
-        ("m 4294967297 200 5 -", LineKind::Number),
-        ("m +1 200 5 -", LineKind::Number),
-        ("m - 200 5 -", LineKind::Number),
-        ("u 2 9 unit 5 0 r 4209 - aa", LineKind::Number),
-        // The point and the selection.
-        ("m 1 16384 5 0", LineKind::Number),
-        ("m 1 00000000200 5 -", LineKind::Number),
-        ("m 1 4294967296 5 -", LineKind::Number),
-        ("m 1 -1 5 -", LineKind::Number),
-        ("m 1 0x1 5 -", LineKind::Number),
-        ("m 1 200 16 0b1000000100", LineKind::Number),
-        ("m 1 200 00000000005 -", LineKind::Number),
-        // The octets.
-        ("m 1 200 5 0", LineKind::Hex),
-        ("m 1 200 5 0b100000010", LineKind::Hex),
-        ("m 1 200 5 0g", LineKind::Hex),
-        ("m 1 200 5 0x", LineKind::Hex),
-        ("m 1 200 5 --", LineKind::Hex),
-    ];
-    for (line, kind) in cases {
-        assert_eq!(rt; fault_of(rt.alloc(), line), at_line(4, kind), "{line}");
-    }
+    let lines = "x 1 200 5 -
+M 1 200 5 -
+ 
+ # none
+%%
+m\t1 200 5 -
+w 1
+m
+m 2 16384 16
+m 2 16384 16 0 0
+u 1 8
+u 2 9 units 5 0 r 4209 - aa
+u 2 9 unit 16 2 r 4209 -
+u 2 9 unit 16 2 r 4209 - aa aa
+u 2 9 unit 16 2 x 4209 - a
+u 1 8 unit 5 0 rr 4209 - aa
+t 1
+t t
+T";
+    assert_eq!(rt; first_other(rt.alloc(), LineKind::Words, lines), None);
+    let lines = "m 0 200 5 -
+m 2 200 5 0
+m 00000000001 200 5 -
+m 4294967297 200 5 -
+m +1 200 5 -
+m - 200 5 -
+u 2 9 unit 5 0 r 4209 - aa
+m 1 16384 5 0
+m 1 00000000200 5 -
+m 1 4294967296 5 -
+m 1 -1 5 -
+m 1 0x1 5 -
+m 1 200 16 0b1000000100
+m 1 200 00000000005 -";
+    assert_eq!(rt; first_other(rt.alloc(), LineKind::Number, lines), None);
+    let lines = "m 1 200 5 0
+m 1 200 5 0b100000010
+m 1 200 5 0g
+m 1 200 5 0x
+m 1 200 5 --";
+    assert_eq!(rt; first_other(rt.alloc(), LineKind::Hex, lines), None);
 }
 
+/// Requests for units.
 #[test]
 fn unit_faults(rt: HostRuntime) {
-    let cases = [
-        ("u 1 256 unit 16 2 r - 0 0", LineKind::Number),
-        ("u 1 00000000008 unit 5 0 r 4209 - aa", LineKind::Number),
-        ("u 1 - unit 5 0 r 4209 - aa", LineKind::Number),
-        ("u 1 9 unit 16 2 r - 0 0", LineKind::User),
-        ("u 1 255 unit 5 0 r 4209 - aa", LineKind::User),
-        ("u 1 1 unit 5 0 r 4209 - aa", LineKind::User),
-        ("u 1 8 unit 16 0 r - 0 0", LineKind::Number),
-        ("u 1 8 unit 5 2 r - 0 0", LineKind::Number),
-        ("u 1 8 unit 5 3 r 4209 - aa", LineKind::Number),
-        ("u 1 8 unit 5 4294967296 r 4209 - aa", LineKind::Number),
-        // The called address: no octet, no subsystem, no whole point code, titles that end before their digits.
-        ("u 1 8 unit 5 0 r 420 42 0", LineKind::Hex),
-        ("u 1 8 unit 5 0 r - 0 0", LineKind::Address),
-        ("u 1 8 unit 5 0 r 42 0 0", LineKind::Address),
-        ("u 1 8 unit 5 0 r 4101 0 0", LineKind::Address),
-        ("u 1 8 unit 5 0 r 12080012 - aa", LineKind::Address),
-        ("u 1 8 unit 5 0 r 1208001104 - aa", LineKind::Address),
-        // The calling address, and the body.
-        ("u 1 8 unit 5 0 - 4209 0 0", LineKind::Hex),
-        ("u 1 8 unit 5 0 - 4209 42 0", LineKind::Address),
-        ("u 1 8 unit 5 0 - 4209 12080012 aa", LineKind::Address),
-        ("u 1 8 unit 5 0 - 4209 - 0", LineKind::Hex),
-        ("u 1 8 unit 5 0 - 4209 4208 r", LineKind::Hex),
-    ];
-    for (line, kind) in cases {
-        assert_eq!(rt; fault_of(rt.alloc(), line), at_line(4, kind), "{line}");
-    }
+    let lines = "u 1 256 unit 16 2 r - 0 0
+u 1 00000000008 unit 5 0 r 4209 - aa
+u 1 - unit 5 0 r 4209 - aa
+u 1 8 unit 16 0 r - 0 0
+u 1 8 unit 5 2 r - 0 0
+u 1 8 unit 5 3 r 4209 - aa
+u 1 8 unit 5 4294967296 r 4209 - aa";
+    assert_eq!(rt; first_other(rt.alloc(), LineKind::Number, lines), None);
+    let lines = "u 1 9 unit 16 2 r - 0 0
+u 1 255 unit 5 0 r 4209 - aa
+u 1 1 unit 5 0 r 4209 - aa";
+    assert_eq!(rt; first_other(rt.alloc(), LineKind::User, lines), None);
+    let lines = "u 1 8 unit 5 0 r 420 42 0
+u 1 8 unit 5 0 - 4209 0 0
+u 1 8 unit 5 0 - 4209 - 0
+u 1 8 unit 5 0 - 4209 4208 r";
+    assert_eq!(rt; first_other(rt.alloc(), LineKind::Hex, lines), None);
+    let lines = "u 1 8 unit 5 0 r - 0 0
+u 1 8 unit 5 0 r 42 0 0
+u 1 8 unit 5 0 r 4101 0 0
+u 1 8 unit 5 0 r 12080012 - aa
+u 1 8 unit 5 0 r 1208001104 - aa
+u 1 8 unit 5 0 - 4209 42 0
+u 1 8 unit 5 0 - 4209 12080012 aa";
+    assert_eq!(rt; first_other(rt.alloc(), LineKind::Address, lines), None);
 }
 
 /// Requests on connections: first the number of their words, then the leftmost faulty one.
 #[test]
 fn connection_faults(rt: HostRuntime) {
-    let cases = [
-        ("u 2 9 conn 65536 1 128 -", LineKind::Words),
-        ("u 2 9 conn 65536 1 128 - 0 0", LineKind::Words),
-        ("u 2 9 accept 16777216 1 128", LineKind::Words),
-        ("u 2 9 refuse 16777216 256 0 0", LineKind::Words),
-        ("u 2 9 send 16777216", LineKind::Words),
-        ("u 2 9 ed 16777216 0 0", LineKind::Words),
-        ("u 2 9 reset", LineKind::Words),
-        ("u 2 9 reset 16777216 -", LineKind::Words),
-        ("u 2 9 disc 16777216 256", LineKind::Words),
-        ("u 2 9 Conn 65536 1 128 - 0", LineKind::Words),
-        ("u 2 9 conn 65536 1 128 - 0", LineKind::Number),
-        ("u 1 9 conn 65536 1 128 - 0", LineKind::User),
-        ("u 1 9 accept 16777216 1 128 0", LineKind::User),
-        ("u 2 9 refuse 16777216 256 0", LineKind::Number),
-        ("u 1 9 send 16777216 0", LineKind::User),
-        ("u 1 9 ed 16777216 0", LineKind::User),
-        ("u 1 9 reset 16777216", LineKind::User),
-        ("u 1 256 disc 16777216 256 0", LineKind::Number),
-        // A request for a connection: its tag, class, credit, called address and data.
-        ("u 1 8 conn 65536 2 0 4209 -", LineKind::Number),
-        ("u 1 8 conn 7 1 0 4209 -", LineKind::Number),
-        ("u 1 8 conn 7 4 0 - 0", LineKind::Number),
-        ("u 1 8 conn 7 2 128 - 0", LineKind::Number),
-        ("u 1 8 conn 7 3 128 4209 -", LineKind::Number),
-        ("u 1 8 conn 7 2 127 420 0", LineKind::Hex),
-        ("u 1 8 conn 7 2 127 - 0", LineKind::Address),
-        ("u 1 8 conn 7 3 0 12080012 0", LineKind::Address),
-        ("u 1 8 conn 7 3 0 4209 0", LineKind::Hex),
-        // The other requests: their reference, class, credit or cause, and data.
-        ("u 1 8 accept 16777216 2 0 -", LineKind::Number),
-        ("u 1 8 accept 16 1 0 0", LineKind::Number),
-        ("u 1 8 accept 16 4 0 0", LineKind::Number),
-        ("u 1 8 accept 16 2 128 0", LineKind::Number),
-        ("u 1 8 accept 16 2 127 0", LineKind::Hex),
-        ("u 1 8 refuse 16777216 0 0", LineKind::Number),
-        ("u 1 8 refuse 16 256 0", LineKind::Number),
-        ("u 1 8 refuse 16 255 0", LineKind::Hex),
-        ("u 1 8 send 16777216 0", LineKind::Number),
-        ("u 1 8 send 16 0", LineKind::Hex),
-        ("u 1 8 send 16 -", LineKind::Size),
-        ("u 1 8 ed 16777216 0", LineKind::Number),
-        ("u 1 8 ed 16 0", LineKind::Hex),
-        ("u 1 8 ed 16 -", LineKind::Size),
-        ("u 1 8 reset 16777216", LineKind::Number),
-        ("u 1 8 disc 16777216 0 0", LineKind::Number),
-        ("u 1 8 disc 16 256 0", LineKind::Number),
-        ("u 1 8 disc 16 255 0", LineKind::Hex),
-    ];
-    for (line, kind) in cases {
-        assert_eq!(rt; fault_of(rt.alloc(), line), at_line(4, kind), "{line}");
-    }
+    let lines = "u 2 9 conn 65536 1 128 -
+u 2 9 conn 65536 1 128 - 0 0
+u 2 9 accept 16777216 1 128
+u 2 9 refuse 16777216 256 0 0
+u 2 9 send 16777216
+u 2 9 ed 16777216 0 0
+u 2 9 reset
+u 2 9 reset 16777216 -
+u 2 9 disc 16777216 256
+u 2 9 Conn 65536 1 128 - 0";
+    assert_eq!(rt; first_other(rt.alloc(), LineKind::Words, lines), None);
+    let lines = "u 2 9 conn 65536 1 128 - 0
+u 2 9 refuse 16777216 256 0
+u 1 256 disc 16777216 256 0
+u 1 8 conn 65536 2 0 4209 -
+u 1 8 conn 7 1 0 4209 -
+u 1 8 conn 7 4 0 - 0
+u 1 8 conn 7 2 128 - 0
+u 1 8 conn 7 3 128 4209 -
+u 1 8 accept 16777216 2 0 -
+u 1 8 accept 16 1 0 0
+u 1 8 accept 16 4 0 0
+u 1 8 accept 16 2 128 0
+u 1 8 refuse 16777216 0 0
+u 1 8 refuse 16 256 0
+u 1 8 send 16777216 0
+u 1 8 ed 16777216 0
+u 1 8 reset 16777216
+u 1 8 disc 16777216 0 0
+u 1 8 disc 16 256 0";
+    assert_eq!(rt; first_other(rt.alloc(), LineKind::Number, lines), None);
+    let lines = "u 1 9 conn 65536 1 128 - 0
+u 1 9 accept 16777216 1 128 0
+u 1 9 send 16777216 0
+u 1 9 ed 16777216 0
+u 1 9 reset 16777216";
+    assert_eq!(rt; first_other(rt.alloc(), LineKind::User, lines), None);
+    let lines = "u 1 8 conn 7 2 127 420 0
+u 1 8 conn 7 3 0 4209 0
+u 1 8 accept 16 2 127 0
+u 1 8 refuse 16 255 0
+u 1 8 send 16 0
+u 1 8 ed 16 0
+u 1 8 disc 16 255 0";
+    assert_eq!(rt; first_other(rt.alloc(), LineKind::Hex, lines), None);
+    let lines = "u 1 8 conn 7 2 127 - 0
+u 1 8 conn 7 3 0 12080012 0";
+    assert_eq!(rt; first_other(rt.alloc(), LineKind::Address, lines), None);
+    let lines = "u 1 8 send 16 -
+u 1 8 ed 16 -";
+    assert_eq!(rt; first_other(rt.alloc(), LineKind::Size, lines), None);
+}
+
+/// Rows: the number of their words, then indicator, type, plan, nature, digits and entities from left to right.
+#[test]
+fn row_faults(rt: HostRuntime) {
+    let lines = "e
+e begin
+e commit
+e set 4 0 1 4 49 300/8/s
+e add
+e add 2 256 16 128 4g
+e add 2 256 16 128 4g x x x
+e del 2 256 16 128
+e del 2 256 16 128 4g x";
+    assert_eq!(rt; first_other(rt.alloc(), LineKind::Words, lines), None);
+    let lines = "e add 0 0 0 0 4g x
+e add 2 0 0 0 - 300/8/s
+e add 5 0 0 0 - 300/8/s
+e add - 0 0 0 4g x
+e add 1 1 0 4 - 300/8/s
+e add 1 0 1 4 - 300/8/s
+e add 1 0 0 128 - 300/8/s
+e add 3 256 0 0 - 300/8/s
+e add 3 0 16 0 - 300/8/s
+e add 3 0 0 1 4g x
+e add 4 256 16 128 4g x
+e add 4 255 16 128 4g x
+e add 4 255 15 128 4g x
+e del 2 0 0 0 -
+e del 1 1 0 0 4g
+e del 3 0 0 1 4g";
+    assert_eq!(rt; first_other(rt.alloc(), LineKind::Number, lines), None);
+    let lines = "e add 4 255 15 127 4g x
+e add 4 0 1 4 0x49 300/8/s
+e add 4 0 1 4 0123456789012345678901234 x
+e add 4 0 1 4 -- 300/8/s
+e del 4 0 1 4 4g";
+    assert_eq!(rt; first_other(rt.alloc(), LineKind::Digits, lines), None);
+    let lines = "e add 4 0 1 4 - 300/8/x
+e add 4 0 1 4 49 -
+e add 4 0 1 4 49 100/8/g
+e add 4 0 1 4 49 100/-/g
+e add 4 0 1 4 49 300/-/s
+e add 4 0 1 4 49 16384/8/s
+e add 4 0 1 4 49 300/256/s
+e add 4 0 1 4 49 300/8/s -
+e add 4 0 1 4 49 300/8/s 100/8/g";
+    assert_eq!(rt; first_other(rt.alloc(), LineKind::Entity, lines), None);
+}
+
+/// The status of another point, the service of a user, and coordinated state change.
+#[test]
+fn status_faults(rt: HostRuntime) {
+    let lines = "p
+p pause
+p stop 16384
+p pause 100 100
+p 300 pause
+s
+s 8
+s 256 up
+s in 8
+s 9 in out
+u 2 9 coord 0
+u 2 9 grant
+u 2 9 grant 16384 0";
+    assert_eq!(rt; first_other(rt.alloc(), LineKind::Words, lines), None);
+    let lines = "p pause 16384
+p resume -
+s 256 in
+s - out
+u 2 9 coord
+u 1 8 grant 16384
+u 1 8 grant -";
+    assert_eq!(rt; first_other(rt.alloc(), LineKind::Number, lines), None);
+    let lines = "p pause 100
+p resume 0000000100";
+    assert_eq!(rt; first_other(rt.alloc(), LineKind::Point, lines), None);
+    let lines = "s 255 in
+s 9 out
+u 1 9 coord
+u 1 9 grant 16384";
+    assert_eq!(rt; first_other(rt.alloc(), LineKind::User, lines), None);
 }
 
 /// An address has at most 40 octets, the body of a unit at most 2,560, data of one call 128, a text 8,192 and expedited data 32.
@@ -184,7 +275,7 @@ fn sizes(rt: HostRuntime) -> Result<(), Fail> {
         ("u 1 8 conn 7 2 0 4208", 39, " 0", Some(LineKind::Size)),
         ("u 1 8 conn 7 2 0 4209 ", 128, "", None),
         ("u 1 8 conn 7 2 0 4209 ", 129, "", Some(LineKind::Size)),
-        ("u 1 8 conn 7 3 0 4209 ", 128, "", Some(LineKind::NotBuilt)),
+        ("u 1 8 conn 7 3 0 4209 ", 128, "", None),
         ("u 1 8 conn 7 3 0 4209 ", 129, "", Some(LineKind::Size)),
         ("u 1 8 accept 16 3 0 ", 128, "", None),
         ("u 1 8 accept 16 3 0 ", 129, "", Some(LineKind::Size)),
@@ -208,117 +299,6 @@ fn sizes(rt: HostRuntime) -> Result<(), Fail> {
         );
     }
     Ok(())
-}
-
-/// Messages by how they begin and how many octets 61 follow, and whether they are run.
-const MESSAGES: [(&str, usize, bool); 58] = [
-    // UDT, UDTS, XUDT without and with segmentation, XUDTS, LUDT, LUDTS.
-    ("090003050702420802420601aa", 0, true),
-    ("098203050702420802420601aa", 0, true),
-    ("0a0403050702420602420901aa", 0, true),
-    ("118001040c0e0008120800120494712102420601aa", 0, true),
-    ("11810f0406080902420802420601611004c201000000", 0, true),
-    ("120e0f0406080902420602420801611004c201000000", 0, true),
-    ("13000f07000800090000000242080242060200aabb", 0, true),
-    ("14000f07000800090000000242080242060200aabb", 0, true),
-    // Management: on its subsystem alone, with a point code or without, and in a UDT alone.
-    ("090003050702420102420601aa", 0, false),
-    ("09000307090443c8000102420601aa", 0, false),
-    ("090003050702020102420601aa", 0, true),
-    ("0900030406014002420601aa", 0, true),
-    ("0900030406014202420601aa", 0, true),
-    ("0a0403050702420102420901aa", 0, true),
-    ("11000f0406080002420102420601aa", 0, true),
-    // CR: of class 2, and of another one; of class 3, whatever else the class octet has; cut, and of 268 and more octets.
-    ("01010000020200024208", 0, true),
-    ("0107000002020a08120800120494712111010100", 0, true),
-    ("01010000000200024208", 0, true),
-    ("01010000040200024208", 0, true),
-    ("01010000030200024208", 0, false),
-    ("01010000130200024208", 0, false),
-    ("01010000830200024208", 0, false),
-    ("0107000003020a08120800120494712109010700", 0, false),
-    ("010100000302000242", 0, true),
-    ("01", 0, true),
-    ("01010000020200024208", 259, true),
-    ("01010000030200024208", 258, false),
-    ("01010000030200024208", 259, false),
-    // The other types of the connection-oriented service, whole and cut.
-    ("021000005500000200", 0, true),
-    ("030700001000", 0, true),
-    ("041000000200000000", 0, true),
-    ("05100000010000", 0, true),
-    ("0610000000010161", 0, true),
-    ("075500000000010101", 0, true),
-    ("081000000402", 0, true),
-    ("0b1000000100", 0, true),
-    ("0b100000010177", 0, true),
-    ("0c100000", 0, true),
-    ("0d10000007000006", 0, true),
-    ("0e100000550000", 0, true),
-    ("0f10000000", 0, true),
-    ("1001000010000002000000", 0, true),
-    ("1001000010000003000000", 0, true),
-    ("02", 0, true),
-    ("041000000200", 0, true),
-    ("10", 0, true),
-    // What does not read.
-    ("-", 0, true),
-    ("00", 0, true),
-    ("15", 0, true),
-    ("77", 0, true),
-    ("0900ff050702420802420601aa", 0, true),
-    ("09000305090443c80001024206", 0, true),
-    // 268 and 269 octets.
-    ("77", 268, true),
-    ("061000000101ff", 261, true),
-    ("061000000101ff", 262, true),
-    ("0900030507024201024206ff", 256, false),
-    ("0900030507024201024206ff", 257, true),
-    ("0b1000000100", 263, true),
-];
-
-/// Which messages are run: all but a UDT for management and a CR of class 3, and what is lost for its length or form.
-#[test]
-fn built(rt: HostRuntime) -> Result<(), Fail> {
-    for (start, count, is_run) in MESSAGES {
-        let rest = "61".repeat(rt.alloc(), count)?;
-        let line = format!(in rt.alloc(); "m 1 200 5 {start}{rest}")?;
-        let fault = if is_run {
-            None
-        } else {
-            at_line(4, LineKind::NotBuilt)
-        };
-        assert_eq!(rt;
-            fault_of(rt.alloc(), line.as_str()),
-            fault,
-            "{start} {count}"
-        );
-    }
-    Ok(())
-}
-
-/// Lines and requests that are not run yet have no other fault.
-#[test]
-fn later_lines(rt: HostRuntime) {
-    for line in [
-        "e",
-        "e add 4 0 1 4 49 300/8/s",
-        "p pause 100",
-        "p",
-        "s 9 in",
-        "u 1 8 coord",
-        "u 2 9 coord 0",
-        "u 1 8 grant 16384",
-        "u - - grant",
-    ] {
-        assert_eq!(rt;
-            fault_of(rt.alloc(), line),
-            at_line(4, LineKind::NotBuilt),
-            "{line}"
-        );
-    }
-    assert_eq!(rt; fault_of(rt.alloc(), "u 1 8 unit 5 0 r 4209 - aa"), None);
 }
 
 /// The fault of a line many times, after another one and before a last one.
@@ -415,16 +395,16 @@ fn stamp(phase: u32, link: u8, line: u32) -> Stamp {
     Stamp { phase, link, line }
 }
 
-fn message(alloc: Global, opc: u32, sls: u32, bytes: &[u8]) -> Result<Event, Memory> {
-    Ok(Event::Message {
+fn message(alloc: Global, opc: u32, sls: u32, bytes: &[u8]) -> Result<ControlEvent, Memory> {
+    Ok(ControlEvent::Plain(Event::Message {
         opc: Pc::new(opc).ok_or(Memory)?,
         sls: Sls::new(sls).ok_or(Memory)?,
         bytes: Octets::from_slice(alloc, bytes)?,
-    })
+    }))
 }
 
 /// A unit of user 8 in class 1, with return on error.
-fn unit(alloc: Global, called: &[u8], body: &[u8]) -> Result<Event, Memory> {
+fn unit(alloc: Global, called: &[u8], body: &[u8]) -> Result<ControlEvent, Memory> {
     let request = Request::Unit {
         sls: Sls::new(15).ok_or(Memory)?,
         class: 1,
@@ -434,12 +414,12 @@ fn unit(alloc: Global, called: &[u8], body: &[u8]) -> Result<Event, Memory> {
         body: Octets::from_slice(alloc, body)?,
     };
     let ssn = Ssn::from(8);
-    Ok(Event::Asked { ssn, request })
+    Ok(ControlEvent::Plain(Event::Asked { ssn, request }))
 }
 
 /// What the capture below holds on link 1 in a phase.
-fn on_link_1(alloc: Global, number: u32) -> Result<StampedList, Memory> {
-    let mut events = StampedList::new(alloc);
+fn on_link_1(alloc: Global, number: u32) -> Result<StampedControlList, Memory> {
+    let mut events = StampedControlList::new(alloc);
     if number == 1 {
         events.push((stamp(1, 1, 7), message(alloc, 200, 5, b"")?))?;
         events.push((stamp(1, 1, 9), unit(alloc, &[0x42, 0x09], &[0xAA])?))?;
@@ -451,13 +431,13 @@ fn on_link_1(alloc: Global, number: u32) -> Result<StampedList, Memory> {
 }
 
 /// What it holds on link 0: ticks.
-fn on_link_0(alloc: Global, number: u32) -> Result<StampedList, Memory> {
-    let mut events = StampedList::new(alloc);
+fn on_link_0(alloc: Global, number: u32) -> Result<StampedControlList, Memory> {
+    let mut events = StampedControlList::new(alloc);
     if number == 1 {
-        events.push((stamp(1, 0, 8), Event::Tick))?;
+        events.push((stamp(1, 0, 8), ControlEvent::Plain(Event::Tick)))?;
     }
     if number == 2 {
-        events.push((stamp(2, 0, 12), Event::Tick))?;
+        events.push((stamp(2, 0, 12), ControlEvent::Plain(Event::Tick)))?;
     }
     Ok(events)
 }
@@ -559,20 +539,33 @@ fn request(alloc: Global, place: u32) -> Result<Request, Memory> {
     })
 }
 
-/// One phase: nothing on link 0, and the requests on link 1.
-fn requests_wanted(alloc: Global) -> Result<PhaseList, Memory> {
-    let mut events = StampedList::new(alloc);
-    for place in 0..7u32 {
-        let request = request(alloc, place)?;
-        let ssn = Ssn::from(8);
-        events.push((stamp(1, 1, 4 + place), Event::Asked { ssn, request }))?;
-    }
+/// One phase, with these events on link 0 and those on link 1.
+fn one_phase(
+    alloc: Global,
+    on_link_0: StampedControlList,
+    on_link_1: StampedControlList,
+) -> Result<PhaseList, Memory> {
     let mut phase = Phase::new(alloc);
-    phase.push(StampedList::new(alloc))?;
-    phase.push(events)?;
+    phase.push(on_link_0)?;
+    phase.push(on_link_1)?;
     let mut phases = PhaseList::new(alloc);
     phases.push(phase)?;
     Ok(phases)
+}
+
+fn asked(request: Request) -> ControlEvent {
+    let ssn = Ssn::from(8);
+    ControlEvent::Plain(Event::Asked { ssn, request })
+}
+
+/// The requests on link 1.
+fn requests_wanted(alloc: Global) -> Result<PhaseList, Memory> {
+    let mut events = StampedControlList::new(alloc);
+    for place in 0..7u32 {
+        let event = asked(request(alloc, place)?);
+        events.push((stamp(1, 1, 4 + place), event))?;
+    }
+    one_phase(alloc, StampedControlList::new(alloc), events)
 }
 
 /// Each request on connections, with the greatest numbers that it may have.
@@ -591,4 +584,130 @@ u 1 8 disc 16777215 254 -";
         Err(fault) => assert_eq!(rt; Some(fault), None),
     }
     Ok(())
+}
+
+/// The changes of the lines below.
+fn changes(alloc: Global) -> Result<StampedControlList, Fail> {
+    let own = Pc::new(100).ok_or("a point")?;
+    let selector = Selector {
+        gti: 4,
+        tt: 255,
+        np: 15,
+        nai: 127,
+    };
+    let row = Row {
+        selector,
+        prefix: digits_of(b"49aF").ok_or("digits")?,
+        first: entity_of(own, b"100/8/s").ok_or("an entity")?,
+        second: Some(entity_of(own, b"300/-/g").ok_or("an entity")?),
+    };
+    let all = Row {
+        selector: Selector {
+            gti: 1,
+            tt: 0,
+            np: 0,
+            nai: 4,
+        },
+        prefix: Digits::new(),
+        first: entity_of(own, b"300/8/s").ok_or("an entity")?,
+        second: None,
+    };
+    let point = Pc::new(300).ok_or("a point")?;
+    let mut found = StampedControlList::new(alloc);
+    for (line, change) in [
+        (4, Change::AddRow(row)),
+        (5, Change::AddRow(all)),
+        (6, Change::DelRow(selector, row.prefix)),
+        (7, Change::DelRow(all.selector, all.prefix)),
+        (8, Change::BarPoint(point)),
+        (9, Change::FreePoint(point)),
+        (10, Change::LocalUp(Ssn::from(8))),
+        (11, Change::LocalDown(Ssn::from(8))),
+    ] {
+        found.push((stamp(1, 0, line), ControlEvent::Change(change)))?;
+    }
+    Ok(found)
+}
+
+/// Coordinated state change, also for the own point; a unit for management; a connection of class 3.
+fn plain_events(alloc: Global) -> Result<StampedControlList, Fail> {
+    let point = Pc::new(100).ok_or("a point")?;
+    let unit = hex::decode(alloc, b"090003050702420102420601aa")?;
+    let connection = hex::decode(alloc, b"01010000030200024208")?;
+    let mut found = StampedControlList::new(alloc);
+    found.push((stamp(1, 1, 12), asked(Request::Coord)))?;
+    found.push((stamp(1, 1, 13), asked(Request::Grant { point })))?;
+    found.push((stamp(1, 1, 14), message(alloc, 200, 5, unit.as_slice())?))?;
+    found.push((
+        stamp(1, 1, 15),
+        message(alloc, 200, 5, connection.as_slice())?,
+    ))?;
+    Ok(found)
+}
+
+/// Rows with the greatest numbers and with the empty prefix, the status of a point, and the service of a user, all on link 0; and
+/// lines of management and of class 3 on link 1.
+#[test]
+fn lines_of_every_kind(rt: HostRuntime) -> Result<(), Fail> {
+    let lines = "e add 4 255 15 127 49aF 100/8/s 300/-/g
+e add 1 0 0 4 - 300/8/s
+e del 4 255 15 127 49AF
+ e  del 1 00 0 4 -
+p pause 300
+p resume 300
+s 8 in
+s 8 out
+u 1 8 coord
+u 1 8 grant 100
+m 1 200 5 090003050702420102420601aa
+m 1 200 5 01010000030200024208";
+    let wanted = one_phase(rt.alloc(), changes(rt.alloc())?, plain_events(rt.alloc())?)?;
+    match capture_of(rt.alloc(), lines) {
+        Ok(capture) => assert_eq!(rt; capture.phases, wanted),
+        Err(fault) => assert_eq!(rt; Some(fault), None),
+    }
+    Ok(())
+}
+
+fn first_event(capture: &Capture) -> Option<&(Stamp, ControlEvent)> {
+    let phase = capture.phases.as_slice().first()?;
+    phase
+        .as_slice()
+        .iter()
+        .find_map(|events| events.as_slice().first())
+}
+
+/// The lane of an event line, among five connection lanes and three data lanes.
+fn place_of(alloc: Global, line: &str) -> Result<Option<LanePlace>, CaptureFault> {
+    let text = format!(in alloc;
+        "point = 100\nusers = [8]\nconn_lanes = 5\ndata_lanes = 3\n%%\n{line}\n"
+    )?;
+    let capture = read_capture(alloc, text.as_bytes())?;
+    Ok(first_event(&capture).map(|(_, event)| place(&capture.head, event)))
+}
+
+#[test]
+fn places(rt: HostRuntime) {
+    let cases = [
+        ("t", LanePlace::All),
+        ("e del 4 0 1 4 49", LanePlace::Control),
+        ("p pause 300", LanePlace::Control),
+        ("s 8 out", LanePlace::Control),
+        ("u 1 8 coord", LanePlace::Control),
+        ("u 1 8 grant 300", LanePlace::Control),
+        ("m 1 200 5 090003050702420102420601aa", LanePlace::Control),
+        ("m 1 200 5 0900030406014002420601aa", LanePlace::Unit(2)),
+        ("m 1 200 5 0900030507024208024206", LanePlace::Unit(2)),
+        ("m 1 200 5 010b0000030200024208", LanePlace::Conn(1)),
+        ("m 1 200 5 021e00005500000200", LanePlace::Conn(4)),
+        ("u 1 8 unit 4 0 - 4209 - aa", LanePlace::Unit(1)),
+        ("u 1 8 conn 8 3 0 4209 -", LanePlace::Conn(3)),
+        ("u 1 8 reset 31", LanePlace::Conn(0)),
+    ];
+    for (line, lane) in cases {
+        match place_of(rt.alloc(), line) {
+            Ok(found) => assert_eq!(rt; found, Some(lane), "{line}"),
+            Err(fault) => assert_eq!(rt; Some(fault), None, "{line}"),
+        }
+    }
 }

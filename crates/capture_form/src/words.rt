@@ -1,14 +1,16 @@
 //! What the words of a line state.
-ghost use Rattle.std.specs.Prelude.{◌≡◌, ◌≤◌, codes, false, is_ok, IfOk};
-ghost use Rattle.capture_form.specs.Text.{is_dash, number_of};
-ghost use Rattle.capture_form.specs.Words.{below, link_of, class_of, user_of, octets_of, address_in, called_of, calling_of, body_of, text_of, asks_return, is_return};
+ghost use Rattle.std.specs.Prelude.{◌≡◌, ◌≤◌, ◌<◌, codes, false, is_ok, IfOk};
+ghost use Rattle.capture_form.specs.Text.{is_dash};
+ghost use Rattle.capture_form.specs.Words.{below, link_of, class_of, user_of, other_point_of, prefix_of, lead_of, octets_of, address_in, called_of, calling_of, body_of, text_of, asks_return, is_return};
 ghost use Rattle.capture_form.specs.Refused.{States};
 ghost use Rattle.sccp_address.specs.Parsing.{address_of};
 
 use crate::fault::LineKind;
 use crate::refused::LineRefused;
-use crate::text::{is_dash, number, octets};
-use relay_base::{Below, Octets, Ssn};
+use crate::text::{is_dash, octets};
+use gtt_table::Entity;
+use node_head::{digits_of, entity_of, number_of};
+use relay_base::{Below, Digits, Octets, Pc, Ssn};
 use sccp_address::parse;
 use std::alloc::Global;
 
@@ -16,8 +18,19 @@ use std::alloc::Global;
 pub fn below<const LIMIT: u32>(word: &[u8]) -> Result<Below<LIMIT>, LineKind>
     ensures { result ≡ below LIMIT word.now }
 {
-    match number(word) {
+    match number_of(word) {
         Some(n) if n < u64::from(LIMIT) => Below::new(n as u32).ok_or(LineKind::Number),
+        _ => Err(LineKind::Number),
+    }
+}
+
+/// A number below a limit of at most 256.
+pub fn octet(limit: u32, word: &[u8]) -> Result<u8, LineKind>
+    requires { limit ≤ 256 }
+    ensures { result ≡ below limit word.now }
+{
+    match number_of(word) {
+        Some(n) if n < u64::from(limit) => Ok(n as u8),
         _ => Err(LineKind::Number),
     }
 }
@@ -27,7 +40,7 @@ pub fn link(links: u8, word: &[u8]) -> Result<u8, LineKind>
     ensures value { result ≡ link_of links word.now }
     ensures within { IfOk result (λ n. n ≤ links) }
 {
-    match number(word) {
+    match number_of(word) {
         Some(n) if 1 <= n && n <= u64::from(links) => Ok(n as u8),
         _ => Err(LineKind::Number),
     }
@@ -37,7 +50,7 @@ pub fn link(links: u8, word: &[u8]) -> Result<u8, LineKind>
 pub fn class(word: &[u8]) -> Result<u8, LineKind>
     ensures { result ≡ class_of word.now }
 {
-    match number(word) {
+    match number_of(word) {
         Some(n) if n == 2 || n == 3 => Ok(n as u8),
         _ => Err(LineKind::Number),
     }
@@ -53,6 +66,35 @@ pub fn user(users: &[Ssn], word: &[u8]) -> Result<Ssn, LineKind>
     } else {
         Err(LineKind::User)
     }
+}
+
+/// A point other than the own one.
+pub fn other_point(own: Pc, word: &[u8]) -> Result<Pc, LineKind>
+    ensures { result ≡ other_point_of own word.now }
+{
+    let point = below::<16_384>(word)?;
+    if point == own {
+        Err(LineKind::Point)
+    } else {
+        Ok(point)
+    }
+}
+
+/// The digits of a prefix, or none by a dash.
+pub fn prefix(word: &[u8]) -> Result<Digits, LineKind>
+    ensures { result ≡ prefix_of word.now }
+{
+    if is_dash(word) {
+        return Ok(Digits::new());
+    }
+    digits_of(word).ok_or(LineKind::Digits)
+}
+
+/// Where a translation leads.
+pub fn lead(own: Pc, word: &[u8]) -> Result<Entity, LineKind>
+    ensures { result ≡ lead_of own word.now }
+{
+    entity_of(own, word).ok_or(LineKind::Entity)
 }
 
 /// The octets that a word writes in hex.

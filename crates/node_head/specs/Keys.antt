@@ -10,15 +10,22 @@ use Rattle.node_head.specs.declared.fault.HeadFault.{HeadFault}
 use Rattle.node_head.specs.declared.fault.HeadKind.TheVariants as kind
 use Rattle.node_head.specs.declared.section.Bounds.{Bounds}
 use Rattle.node_head.specs.declared.section.Place.{Place}
-use Rattle.node_head.specs.declared.section.Place.TheVariants.{Top, Timers, NthRow}
+use Rattle.node_head.specs.declared.section.Place.TheVariants.{Top, Timers, Nth}
 use Rattle.node_head.specs.declared.section.Section.{Section}
+use Rattle.node_head.specs.declared.section.TableArray.{TableArray}
+use Rattle.node_head.specs.declared.section.TableArray.TheVariants.{Rows, Replicates}
 use Rattle.node_head.specs.Refusals.{fault, or_fault}
+
+-- the key of an array of tables
+abbrev pub array_key : TableArray → List ℕ
+array_key Rows = codes "row"
+array_key Replicates = codes "replicate"
 
 -- a key as a fault names it
 unfoldable pub path : Place → List ℕ → List ℕ
 path Top key = key
 path Timers key = codes "timers." ++ key
-path (NthRow n) key = codes "row." ++ (decimal n ++ (codes "." ++ key))
+path (Nth array n) key = array_key array ++ (codes "." ++ (decimal n ++ (codes "." ++ key)))
 
 -- the two texts are the same
 abbrev pub same : List ℕ → List ℕ → Bool
@@ -29,14 +36,16 @@ abbrev pub is_stated : Place → List ℕ → Bool
 is_stated Top key =
     same key (codes "point") || same key (codes "users")
     || same key (codes "conn_lanes") || same key (codes "data_lanes") || same key (codes "links")
-    || same key (codes "credit") || same key (codes "timers") || same key (codes "row")
+    || same key (codes "credit") || same key (codes "concerned") || same key (codes "timers")
+    || same key (codes "row") || same key (codes "replicate")
 is_stated Timers key =
     same key (codes "connect") || same key (codes "ias") || same key (codes "iar") || same key (codes "rel")
     || same key (codes "repeat") || same key (codes "int") || same key (codes "reset") || same key (codes "reassembly")
     || same key (codes "freeze") || same key (codes "status") || same key (codes "status_max") || same key (codes "coord")
-is_stated (NthRow n) key =
+is_stated (Nth Rows n) key =
     same key (codes "gti") || same key (codes "tt") || same key (codes "np") || same key (codes "nai")
     || same key (codes "digits") || same key (codes "first") || same key (codes "second")
+is_stated (Nth Replicates n) key = same key (codes "ssn") || same key (codes "point")
 
 -- no key of the table is unknown, or the first one is the fault: the keys of a table ascend
 unfoldable pub known_keys : Place → Members → Result (Unit {0}) HeadFault
@@ -53,18 +62,23 @@ abbrev pub items_at : Option Data → Items
 items_at d = unwrap_or (option_and_then as_array d) no_items
 
 -- the same of each table in an array, counted from this number
-unfoldable pub known_rows : ℕ → Items → Result (Unit {0}) HeadFault
-known_rows n no_items = Ok tt
-known_rows n (item d ds) = do
-  known ← known_keys (NthRow n) (members_at (Some d))
-  known_rows (n + 1) ds
+unfoldable pub known_tables : TableArray → ℕ → Items → Result (Unit {0}) HeadFault
+known_tables array n no_items = Ok tt
+known_tables array n (item d ds) = do
+  known ← known_keys (Nth array n) (members_at (Some d))
+  known_tables array (n + 1) ds
 
--- no key is unknown: those of the top level first, then those of the timers, then those of each row
+-- the tables of an array that stands at its key
+abbrev pub known_array : TableArray → Members → Result (Unit {0}) HeadFault
+known_array array ms = known_tables array 1 (items_at (get_member (array_key array) ms))
+
+-- no key is unknown: those of the top level first, then those of the timers, of each row, and of each replicate
 unfoldable pub all_known : Members → Result (Unit {0}) HeadFault
 all_known ms = do
   top ← known_keys Top ms
   timers ← known_keys Timers (members_at (get_member (codes "timers") ms))
-  known_rows 1 (items_at (get_member (codes "row") ms))
+  rows ← known_array Rows ms
+  known_array Replicates ms
 
 -- the number, where it is from the one to the other
 abbrev pub number_in : ℕ → ℕ → ℤ → Option ℕ
@@ -91,6 +105,10 @@ number_value key bounds (Some d) = do
 
 unfoldable pub number_at : Place → Members → List ℕ → Bounds → Result ℕ HeadFault
 number_at place ms key bounds = number_value (path place key) bounds (get_member key ms)
+
+-- a point code
+unfoldable pub point_at : Place → Members → Result ℕ HeadFault
+point_at place ms = number_at place ms (codes "point") (required 0 16383)
 
 -- a text that must be there
 abbrev pub text_value : List ℕ → Option Data → Result (List ℕ) HeadFault

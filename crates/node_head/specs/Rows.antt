@@ -6,13 +6,15 @@ use Rattle.sccp_address.specs.declared.address.Selector.{Selector}
 use Rattle.gtt_table.specs.declared.row.Row.{Row}
 use Rattle.gtt_table.specs.declared.row.Entity.{Entity}
 use Rattle.gtt_table.specs.Rows.{has_row}
-use Rattle.toml.specs.Data.{Data, Items, no_items, item, Members, get_member, as_array, as_table}
+use Rattle.toml.specs.Data.{Data, Members, get_member}
 use Rattle.node_head.specs.declared.fault.HeadFault.{HeadFault}
 use Rattle.node_head.specs.declared.fault.HeadKind.TheVariants as kind
 use Rattle.node_head.specs.declared.section.Place.{Place}
-use Rattle.node_head.specs.declared.section.Place.TheVariants.{NthRow}
+use Rattle.node_head.specs.declared.section.Place.TheVariants.{Nth}
+use Rattle.node_head.specs.declared.section.TableArray.TheVariants.{Rows}
 use Rattle.node_head.specs.Keys.{path, required, usual, number_at, text_at}
 use Rattle.node_head.specs.Entity.{digits_of, entity_of}
+use Rattle.node_head.specs.Tables.{tables_value}
 use Rattle.node_head.specs.Refusals.{fault, or_fault}
 
 -- the indicator: 1, 3 or 4
@@ -66,17 +68,11 @@ row_of own found place ms = do
 abbrev pub rows_after : ℕ → List Row → List Members → Result (List Row) HeadFault
 rows_after own found [] = Ok found
 rows_after own found (ms ∷ more) = do
-  row ← row_of own found (NthRow (length found + 1)) ms
+  row ← row_of own found (Nth Rows (length found + 1)) ms
   rows_after own (found ++ row ∷ []) more
-
--- the tables that the items are, where each one is one, after those found
-abbrev pub tables_after : List Members → Items → Option (List Members)
-tables_after found no_items = Some found
-tables_after found (item d ds) = option_and_then (λ t. tables_after (found ++ t ∷ []) ds) (as_table d)
 
 -- at most 4,096 rows, none where the key is absent
 unfoldable pub rows_value : ℕ → Option Data → Result (List Row) HeadFault
-rows_value own None = Ok []
-rows_value own (Some d) = do
-  tables ← or_fault (option_and_then (tables_after []) (as_array d)) (fault kind.Kind (codes "row"))
+rows_value own d = do
+  tables ← tables_value Rows d
   if nat_lt 4096 (length tables) then Err (fault kind.Range (codes "row")) else rows_after own [] tables

@@ -1,4 +1,4 @@
-//! The texts of a row: the digits of a prefix, and where a translation leads.
+//! The texts of a row: numbers, the digits of a prefix, and where a translation leads.
 ghost use Rattle.std.specs.Prelude.{◌≡◌, ◌==◌, length, position, option_map};
 ghost use Rattle.std.specs.Char.{is_ascii_digit};
 ghost use Rattle.std.specs.List.{list_all};
@@ -52,7 +52,7 @@ fn is_number(word: &[u8]) -> bool
 
 /// The number that a word writes: 1 to 10 decimal digits.
 #[tactic(auto, unfolding(crate::specs::Entity::number_of))]
-fn number_of(word: &[u8]) -> Option<u64>
+pub fn number_of(word: &[u8]) -> Option<u64>
     ensures { result ≡ number_of word.now }
 {
     if !is_number(word) {

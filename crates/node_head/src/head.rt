@@ -1,7 +1,7 @@
 //! The head of a capture.
 use gtt_table::Row;
-use plant_core::Ticks;
-use relay_base::{Pc, PlainList, SsnList};
+use plant_core::{ReplicateList, Ticks};
+use relay_base::{Pc, PcList, PlainList, SsnList};
 
 /// Rows of the translation.
 pub type RowList = PlainList<Row>;
@@ -13,18 +13,22 @@ pub struct Head {
     pub point: Pc,
     /// The local users: at most 16 different subsystems, 2 to 254.
     pub users: SsnList,
-    /// How many connection lanes: 1.
+    /// How many connection lanes: 1 to 16.
     pub conn_lanes: u8,
-    /// How many data lanes: 1.
+    /// How many data lanes: 1 to 16.
     pub data_lanes: u8,
-    /// How many links: 1.
+    /// How many links: 1 to 8.
     pub links: u8,
     /// The greatest credit that is granted, 1 to 127.
     pub credit: u8,
+    /// The points that are told when a local user goes in or out of service: at most 16 different ones, not the own one.
+    pub concerned: PcList,
     /// The timers, in ticks.
     pub timers: Ticks,
     /// The rows of the translation, at most 4,096, no two with one selector and one prefix.
     pub row: RowList,
+    /// The replicates of local users: at most one for each user, not at the own point.
+    pub replicates: ReplicateList,
 }
 
 /// How many lanes and links a head states, and its greatest credit.

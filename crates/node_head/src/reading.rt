@@ -2,6 +2,7 @@
 ghost use Rattle.std.specs.Prelude.{◌≡◌, ◌<◌, ◌^◌, [], length, IsTrue, IfOk, option_map, codes};
 ghost use Rattle.node_head.specs.Addable.{are_addable};
 ghost use Rattle.node_head.specs.Head.{begun, head_of};
+ghost use Rattle.node_head.specs.Ranges.{IsHead};
 ghost use Rattle.node_head.specs.Refusals.{Reads};
 ghost use Rattle.node_head.specs.Lines.{lines, halves, extended};
 
@@ -18,6 +19,7 @@ pub fn take_head(alloc: Global, lines: &mut Lines<'_>) -> Result<(Head, usize), 
     requires { length lines.old < 2 ^ 64 }
     ensures value { Reads (λ h. (h.0, h.1, lines.new)) result (begun (halves lines.old)) }
     ensures addable { IfOk result (λ h. IsTrue (are_addable [] h.0.row)) }
+    ensures range { IfOk result (λ h. IsHead h.0) }
 {
     let Some(head) = take_text(alloc, lines)? else {
         return Err(refuse(alloc, HeadKind::End, "-"));
@@ -32,6 +34,7 @@ pub fn take_head(alloc: Global, lines: &mut Lines<'_>) -> Result<(Head, usize), 
 pub fn read_head(alloc: Global, bytes: &[u8]) -> Result<Head, HeadRefused>
     ensures value { Reads (λ h. h) result (head_of bytes.now) }
     ensures addable { IfOk result (λ h. IsTrue (are_addable [] h.row)) }
+    ensures range { IfOk result IsHead }
 {
     let mut lines = bytes.lines();
     let (head, _) = take_head(alloc, &mut lines)?;

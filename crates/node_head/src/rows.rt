@@ -1,21 +1,21 @@
 //! The rows of a head.
 ghost use Rattle.std.specs.Prelude.{◌≡◌, ◌∷◌, [], ◌++◌, ◌≤◌, false, IsTrue, length, map, option_map, IfOk, IfSome};
-ghost use Rattle.toml.specs.View.{view, table_view, items_view};
+ghost use Rattle.toml.specs.View.{view, table_view};
 ghost use Rattle.gtt_table.specs.Rows.{has_row};
 ghost use Rattle.node_head.specs.Addable.{are_addable};
 ghost use Rattle.node_head.specs.Keys.{members_of};
 ghost use Rattle.node_head.specs.Refusals.{Reads};
-ghost use Rattle.node_head.specs.Rows.{indicator_at, selector_at, new_prefix, prefix_at, entity_at, second_at, row_of, rows_after, tables_after, rows_value};
+ghost use Rattle.node_head.specs.Rows.{indicator_at, selector_at, new_prefix, prefix_at, entity_at, second_at, row_of, rows_after, rows_value};
 
 use crate::entity::{digits_of, entity_of};
 use crate::fault::{HeadKind, HeadRefused};
 use crate::head::RowList;
-use crate::section::{Bounds, Place, Section, refuse};
+use crate::section::{Bounds, Place, Section, TableArray, refuse};
+use crate::tables::tables_of;
 use gtt_table::{Entity, Row};
 use relay_base::{Digits, Pc};
 use sccp_address::Selector;
-use std::alloc::{AllocError, Global};
-use toml::value::Array;
+use std::alloc::Global;
 use toml::{Table, Value};
 
 /// The most rows of a head.
@@ -132,20 +132,6 @@ impl Section<'_> {
     }
 }
 
-/// The tables of an array, where each item is one.
-fn tables<'a>(alloc: Global, array: &'a Array) -> Result<Option<Vec<&'a Table>>, AllocError>
-    ensures { IfOk result (λ found. option_map (λ v. map (λ t. table_view t.now) v.items) found ≡ tables_after [] (items_view array.now.items)) }
-{
-    let mut found = Vec::new(alloc);
-    for value in array {
-        match value.as_table() {
-            Some(table) => found.push(table)?,
-            None => return Ok(None),
-        }
-    }
-    Ok(Some(found))
-}
-
 fn rows(alloc: Global, own: Pc, tables: &[&Table]) -> Result<RowList, HeadRefused>
     requires { length tables.now ≤ 4096 }
     ensures value { Reads (λ l. l) result (rows_after own [] (map (λ t. table_view t.now) tables.now)) }
@@ -154,7 +140,7 @@ fn rows(alloc: Global, own: Pc, tables: &[&Table]) -> Result<RowList, HeadRefuse
     let mut found = RowList::new(alloc);
     for table in tables {
         let section = Section {
-            place: Place::NthRow(found.len() + 1),
+            place: Place::Nth(TableArray::Rows, found.len() + 1),
             table: Some(*table),
         };
         let row = section.row(alloc, own, found.as_slice())?;
@@ -169,15 +155,7 @@ pub fn rows_of(alloc: Global, own: Pc, value: Option<&Value>) -> Result<RowList,
     ensures value { Reads (λ l. l) result (rows_value own (option_map (λ v. view v.now) value.entry)) }
     ensures addable { IfOk result (λ l. IsTrue (are_addable [] l)) }
 {
-    let Some(value) = value else {
-        return Ok(RowList::new(alloc));
-    };
-    let Some(array) = value.as_array() else {
-        return Err(refuse(alloc, HeadKind::Kind, "row"));
-    };
-    let Some(tables) = tables(alloc, array)? else {
-        return Err(refuse(alloc, HeadKind::Kind, "row"));
-    };
+    let tables = tables_of(alloc, TableArray::Rows, value)?;
     if tables.len() > MOST_ROWS {
         return Err(refuse(alloc, HeadKind::Range, "row"));
     }

@@ -4,19 +4,26 @@ ghost use Rattle.std.specs.BTreeMap.{keys};
 ghost use Rattle.toml.specs.Data.{get_member};
 ghost use Rattle.toml.specs.View.{view, table_view};
 ghost use Rattle.node_head.specs.Refusals.{Reads, Refuses, fault};
-ghost use Rattle.node_head.specs.Keys.{path, is_stated, known_keys, members_of, number_in, number_at, text_at, required, usual, IsBounds};
+ghost use Rattle.node_head.specs.Keys.{array_key, path, is_stated, known_keys, members_of, number_in, number_at, point_at, text_at, required, usual, IsBounds};
 
 use crate::fault::{HeadFault, HeadKind, HeadRefused};
-use relay_base::{Memory, Octets};
+use relay_base::{Memory, Octets, Pc};
 use std::alloc::Global;
 use toml::{Table, Value};
 
-/// Which table of a head: the top level, that of the timers, or a row, counted from 1.
+/// Which array of tables.
+#[derive(Clone, Copy, Debug, PartialEq, Eq)]
+pub enum TableArray {
+    Rows,
+    Replicates,
+}
+
+/// Which table of a head: the top level, that of the timers, or one of an array, counted from 1.
 #[derive(Clone, Copy, Debug, PartialEq, Eq)]
 pub enum Place {
     Top,
     Timers,
-    NthRow(usize),
+    Nth(TableArray, usize),
 }
 
 /// The range of an integer, and what it is where its key is absent.
@@ -58,8 +65,9 @@ impl Bounds {
     }
 
     /// The number, where it is in this range.
-    fn number_in(self, number: i64) -> Option<u32>
-        ensures { result ≡ number_in self.least self.most number }
+    pub fn number_in(self, number: i64) -> Option<u32>
+        ensures value { result ≡ number_in self.least self.most number }
+        ensures most { IfSome result (λ n. n ≤ self.most) }
     {
         let Ok(number) = u32::try_from(number) else {
             return None;
@@ -72,6 +80,18 @@ impl Bounds {
     }
 }
 
+impl TableArray {
+    /// The key of the array.
+    pub fn key(self) -> &'static str
+        ensures { result.now ≡ array_key self }
+    {
+        match self {
+            TableArray::Rows => "row",
+            TableArray::Replicates => "replicate",
+        }
+    }
+}
+
 /// A key as a fault names it.
 #[tactic(auto, unfolding(crate::specs::Keys::path))]
 fn path(alloc: Global, place: Place, key: &str) -> Result<Octets, Memory>
@@ -80,9 +100,11 @@ fn path(alloc: Global, place: Place, key: &str) -> Result<Octets, Memory>
     match place {
         Place::Top => Octets::from_slice(alloc, key.as_bytes()),
         Place::Timers => Ok(Octets::from(format!(in alloc; "timers.{key}")?.into_bytes())),
-        Place::NthRow(number) => Ok(Octets::from(format!(in alloc;
-            "row.{number}.{key}"
-        )?.into_bytes())),
+        Place::Nth(array, number) => {
+            let array = array.key();
+            let text = format!(in alloc; "{array}.{number}.{key}")?;
+            Ok(Octets::from(text.into_bytes()))
+        }
     }
 }
 
@@ -113,8 +135,10 @@ fn is_top_key(key: &str) -> bool
         || key == "data_lanes"
         || key == "links"
         || key == "credit"
+        || key == "concerned"
         || key == "timers"
         || key == "row"
+        || key == "replicate"
 }
 
 fn is_timer_key(key: &str) -> bool
@@ -135,7 +159,7 @@ fn is_timer_key(key: &str) -> bool
 }
 
 fn is_row_key(key: &str) -> bool
-    ensures { result ≡ is_stated (Place.NthRow 1) key.now }
+    ensures { result ≡ is_stated (Place.Nth TableArray.Rows 1) key.now }
 {
     key == "gti"
         || key == "tt"
@@ -146,6 +170,12 @@ fn is_row_key(key: &str) -> bool
         || key == "second"
 }
 
+fn is_replicate_key(key: &str) -> bool
+    ensures { result ≡ is_stated (Place.Nth TableArray.Replicates 1) key.now }
+{
+    key == "ssn" || key == "point"
+}
+
 /// Whether the key is stated for the table.
 fn is_stated(place: Place, key: &str) -> bool
     ensures { result ≡ is_stated place key.now }
@@ -153,7 +183,8 @@ fn is_stated(place: Place, key: &str) -> bool
     match place {
         Place::Top => is_top_key(key),
         Place::Timers => is_timer_key(key),
-        Place::NthRow(_) => is_row_key(key),
+        Place::Nth(TableArray::Rows, _) => is_row_key(key),
+        Place::Nth(TableArray::Replicates, _) => is_replicate_key(key),
     }
 }
 
@@ -240,6 +271,15 @@ impl<'a> Section<'a> {
     {
         let number = self.number(alloc, key, bounds)?;
         Ok(number as u8)
+    }
+
+    /// The point code at the key `point`.
+    #[tactic(auto, using(crate::proofs::HeadLemmas::failures), unfolding(crate::specs::Keys::point_at))]
+    pub fn point(&self, alloc: Global) -> Result<Pc, HeadRefused>
+        ensures { Reads (λ p. p) result (point_at self.now.place (members_of self.now)) }
+    {
+        let number = self.number(alloc, "point", &Bounds::required(0, 16_383))?;
+        Ok(Pc::new(number).unwrap())
     }
 
     /// The text at a key.

@@ -2,7 +2,7 @@
 use crate::{HeadKind, HeadRefused, digits_of, entity_of, read_head, take_head};
 use bstr::ByteSlice;
 use gtt_table::{Entity, Row};
-use plant_core::Ticks;
+use plant_core::{Replicate, Ticks};
 use relay_base::{Pc, Ssn};
 use sccp_address::Selector;
 use std::alloc::Global;
@@ -44,8 +44,16 @@ fn refuses_in_order(rt: HostRuntime) {
             HeadKind::Unknown,
             "row.2.alpha",
         ),
-        ("concerned = [200]\n%%", HeadKind::Unknown, "concerned"),
-        ("[[replicate]]\nssn = 8\n%%", HeadKind::Unknown, "replicate"),
+        (
+            "[[replicate]]\nssn = 8\n[[replicate]]\nzeta = 1\ngti = 4\n[[row]]\n%%",
+            HeadKind::Unknown,
+            "replicate.2.gti",
+        ),
+        (
+            "[[replicate]]\nzeta = 1\n[[row]]\n[[row]]\nssn = 8\n%%",
+            HeadKind::Unknown,
+            "row.2.ssn",
+        ),
         ("credit = 0\n%%", HeadKind::Missing, "point"),
         ("point = \"1\"\nusers = 1\n%%", HeadKind::Kind, "point"),
         ("point = 1.5\n%%", HeadKind::Kind, "point"),
@@ -70,16 +78,36 @@ fn refuses_values(rt: HostRuntime) -> Result<(), Fail> {
             HeadKind::Range,
             "users",
         ),
-        ("conn_lanes = 2\nusers = [1]", HeadKind::Range, "users"),
+        ("conn_lanes = 17\nusers = [1]", HeadKind::Range, "users"),
         ("conn_lanes = true", HeadKind::Kind, "conn_lanes"),
         ("conn_lanes = 0", HeadKind::Range, "conn_lanes"),
-        ("data_lanes = 2", HeadKind::Range, "data_lanes"),
-        ("links = 2", HeadKind::Range, "links"),
+        ("conn_lanes = 17", HeadKind::Range, "conn_lanes"),
+        ("data_lanes = 17", HeadKind::Range, "data_lanes"),
+        ("links = 9", HeadKind::Range, "links"),
         ("credit = 0\nlinks = 0", HeadKind::Range, "links"),
         ("credit = []", HeadKind::Kind, "credit"),
         ("credit = 0", HeadKind::Range, "credit"),
         ("credit = 128", HeadKind::Range, "credit"),
+        ("concerned = 0\ncredit = 0", HeadKind::Range, "credit"),
+        ("concerned = 200", HeadKind::Kind, "concerned"),
+        ("concerned = [16384, \"200\"]", HeadKind::Kind, "concerned"),
+        ("concerned = [16384]", HeadKind::Range, "concerned"),
+        ("concerned = [-1]", HeadKind::Range, "concerned"),
+        ("concerned = [200, 300, 200]", HeadKind::Range, "concerned"),
+        ("concerned = [200, 100]", HeadKind::Range, "concerned"),
+        (
+            "concerned = [1, 2, 3, 4, 5, 6, 7, 8, 9, 10, 11, 12, 13, 14, 15, 16, 17]",
+            HeadKind::Range,
+            "concerned",
+        ),
+        ("concerned = []\ntimers = 1", HeadKind::Kind, "timers"),
+        (
+            "timers = 1\nconcerned = [100]",
+            HeadKind::Range,
+            "concerned",
+        ),
         ("row = 1\ntimers = 1", HeadKind::Kind, "timers"),
+        ("replicate = 1\nrow = 1", HeadKind::Kind, "row"),
     ];
     for (text, kind, key) in cases {
         let text = format!(in rt.alloc(); "point = 100\n{text}\n%%\n")?;
@@ -208,6 +236,66 @@ fn refuses_entities(rt: HostRuntime) -> Result<(), Fail> {
     Ok(())
 }
 
+/// Replicates of user 8, after which user 9 follows.
+#[test]
+fn refuses_replicates(rt: HostRuntime) -> Result<(), Fail> {
+    let cases = [
+        ("replicate = 1", HeadKind::Kind, "replicate"),
+        ("replicate = [{}, 1]", HeadKind::Kind, "replicate"),
+        ("[[replicate]]", HeadKind::Missing, "replicate.1.ssn"),
+        (
+            "[[replicate]]\nssn = []\npoint = []",
+            HeadKind::Kind,
+            "replicate.1.ssn",
+        ),
+        (
+            "[[replicate]]\nssn = 256\npoint = []",
+            HeadKind::Range,
+            "replicate.1.ssn",
+        ),
+        (
+            "[[replicate]]\nssn = 7\npoint = 300",
+            HeadKind::Range,
+            "replicate.1.ssn",
+        ),
+        (
+            "[[replicate]]\nssn = 8",
+            HeadKind::Missing,
+            "replicate.1.point",
+        ),
+        (
+            "[[replicate]]\nssn = 8\npoint = \"300\"",
+            HeadKind::Kind,
+            "replicate.1.point",
+        ),
+        (
+            "[[replicate]]\nssn = 8\npoint = 16384",
+            HeadKind::Range,
+            "replicate.1.point",
+        ),
+        (
+            "[[replicate]]\nssn = 8\npoint = 100",
+            HeadKind::Range,
+            "replicate.1.point",
+        ),
+        (
+            "[[replicate]]\nssn = 8\npoint = 300\n[[replicate]]\nssn = 8\npoint = 100",
+            HeadKind::Range,
+            "replicate.2.ssn",
+        ),
+        (
+            "[[replicate]]\nssn = 8\npoint = 300\n[[replicate]]\nssn = 9\npoint = 100",
+            HeadKind::Range,
+            "replicate.2.point",
+        ),
+    ];
+    for (text, kind, key) in cases {
+        let text = format!(in rt.alloc(); "point = 100\nusers = [8, 9]\n{text}\n%%\n")?;
+        assert_fault(&rt, rt.alloc(), text.as_str(), kind, key);
+    }
+    Ok(())
+}
+
 #[test]
 fn refuses_a_second_row_under_one_key(rt: HostRuntime) {
     let text =
@@ -224,7 +312,9 @@ fn reads_the_defaults(rt: HostRuntime) -> Result<(), Fail> {
         [head.conn_lanes, head.data_lanes, head.links, head.credit],
         [1, 1, 1, 7]
     );
+    assert!(rt; head.concerned.is_empty());
     assert!(rt; head.row.is_empty());
+    assert!(rt; head.replicates.is_empty());
     let ticks = Ticks {
         connect: 90,
         ias: 420,
@@ -246,14 +336,22 @@ fn reads_the_defaults(rt: HostRuntime) -> Result<(), Fail> {
 #[test]
 fn reads_the_ends_of_ranges(rt: HostRuntime) -> Result<(), Fail> {
     let text =
-        b"point = 0\nusers = [254, 2]\nconn_lanes = 1\ndata_lanes = 1\nlinks = 1\ncredit = 127\n[timers]\nias = 60\nrepeat = 5\nconnect = 65535\nstatus = 700\ncoord = 1\n%%";
+        b"point = 0\nusers = [254, 2]\nconn_lanes = 16\ndata_lanes = 16\nlinks = 8\ncredit = 127\nconcerned = [16383, 1]\n[timers]\nias = 60\nrepeat = 5\nconnect = 65535\nstatus = 700\ncoord = 1\n%%";
     let head = read_head(rt.alloc(), text.as_slice())?;
     assert_eq!(rt; head.point.number(), 0);
     assert_eq!(rt;
         head.users.as_slice(),
         [Ssn::from(254), Ssn::from(2)].as_slice()
     );
-    assert_eq!(rt; head.credit, 127);
+    assert_eq!(rt;
+        [head.conn_lanes, head.data_lanes, head.links, head.credit],
+        [16, 16, 8, 127]
+    );
+    let concerned = [
+        Pc::new(16_383).ok_or("a point")?,
+        Pc::new(1).ok_or("a point")?,
+    ];
+    assert_eq!(rt; head.concerned.as_slice(), concerned.as_slice());
     let timers = head.timers;
     assert_eq!(rt;
         [timers.ias, timers.repeat, timers.connect, timers.coord],
@@ -298,6 +396,25 @@ fn reads_rows(rt: HostRuntime) -> Result<(), Fail> {
         second: None,
     };
     assert_eq!(rt; head.row.as_slice(), [row].as_slice());
+    Ok(())
+}
+
+#[test]
+fn reads_replicates(rt: HostRuntime) -> Result<(), Fail> {
+    let text =
+        b"point = 100\nusers = [8, 9]\nreplicate = [{ point = 300, ssn = 9 }, { ssn = 8, point = 0 }]\n%%";
+    let head = read_head(rt.alloc(), text.as_slice())?;
+    let replicates = [
+        Replicate {
+            ssn: Ssn::from(9),
+            point: Pc::new(300).ok_or("a point")?,
+        },
+        Replicate {
+            ssn: Ssn::from(8),
+            point: Pc::new(0).ok_or("a point")?,
+        },
+    ];
+    assert_eq!(rt; head.replicates.as_slice(), replicates.as_slice());
     Ok(())
 }
 

@@ -12,7 +12,7 @@ none-outside least most (pos n) m h =
     grind (arith, nat_tests, above)
 none-outside least most (negsuc n) m h = refl
 
-pub returns-in_default : goal.returns-in_default
-returns-in_default c =
+pub returns-in_default-clause-value : goal.returns-in_default-clause-value
+returns-in_default-clause-value c =
     let P : ℤ → Type 0 = λ z. FitsUnsignedBits 32 z → ⊥ in
     none-outside _ _ c.args.number (omega arith) (subst P (to_z-of_z w64 c.args.number c.ranges.number) c.in_default.ensures)

@@ -1,7 +1,7 @@
 use Rattle.std.proofs.Common.{◌≡◌, drop, []}
 use Rattle.toml.specs.View.{items_view}
-use Rattle.node_head.specs.Users.{integers_after}
-use Rattle.node_head.proofs.users.integers.Given as goal
+use Rattle.node_head.specs.Numbers.{integers_after}
+use Rattle.node_head.proofs.numbers.integers.Given as goal
 
 -- the integers so far, and those of what is left
 abbrev pub invariant-loop-value : goal.invariant-loop-value

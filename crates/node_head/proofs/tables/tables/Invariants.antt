@@ -1,7 +1,7 @@
 use Rattle.std.proofs.Common.{◌≡◌, drop, map, []}
 use Rattle.toml.specs.View.{table_view, items_view}
-use Rattle.node_head.specs.Rows.{tables_after}
-use Rattle.node_head.proofs.rows.tables.Given as goal
+use Rattle.node_head.specs.Tables.{tables_after}
+use Rattle.node_head.proofs.tables.tables.Given as goal
 
 -- the tables so far, and those of what is left
 abbrev pub invariant-loop-value : goal.invariant-loop-value

@@ -1,0 +1,150 @@
+//! What the lines of an operator change.
+ghost use Rattle.std.specs.Prelude.{◌≡◌, map};
+ghost use Rattle.capture_form.specs.Changes.{indicator_of, carried, selector_of, second_of, add_form, del_form, row_form, status_form, service_form, change_of};
+
+use crate::fault::LineKind;
+use crate::words::{lead, octet, other_point, prefix, user};
+use gtt_table::{Entity, Row};
+use node_head::Head;
+use plant_core::Change;
+use relay_base::{Pc, Ssn};
+use sccp_address::Selector;
+
+/// A global title indicator: 1, 3 or 4.
+fn indicator(word: &[u8]) -> Result<u8, LineKind>
+    ensures { result ≡ indicator_of word.now }
+{
+    let gti = octet(5, word)?;
+    if gti == 1 || gti == 3 || gti == 4 {
+        Ok(gti)
+    } else {
+        Err(LineKind::Number)
+    }
+}
+
+/// What the titles of an indicator carry; 0 stands for what they don't.
+fn carried(gti: u8, tt: &[u8], np: &[u8], nai: &[u8]) -> Result<Selector, LineKind>
+    ensures { result ≡ carried gti tt.now np.now nai.now }
+{
+    let tt = octet(if gti == 1 { 1 } else { 256 }, tt)?;
+    let np = octet(if gti == 1 { 1 } else { 16 }, np)?;
+    let nai = octet(if gti == 3 { 1 } else { 128 }, nai)?;
+    Ok(Selector { gti, tt, np, nai })
+}
+
+fn selector(gti: &[u8], tt: &[u8], np: &[u8], nai: &[u8]) -> Result<Selector, LineKind>
+    ensures { result ≡ selector_of gti.now tt.now np.now nai.now }
+{
+    let gti = indicator(gti)?;
+    carried(gti, tt, np, nai)
+}
+
+/// Where a translation leads in the second place, if there is a word for it.
+fn second(own: Pc, words: &[&[u8]]) -> Result<Option<Entity>, LineKind>
+    ensures { result ≡ second_of own (map (λ w. w.now) words.now) }
+{
+    if words.is_empty() {
+        return Ok(None);
+    }
+    let entity = lead(own, words[0])?;
+    Ok(Some(entity))
+}
+
+/// `e add <gti> <tt> <np> <nai> <digits> <first> [<second>]`, of which the words after `add`.
+#[tactic(auto, using(crate::proofs::LineForms::add_short))]
+fn add_form(own: Pc, words: &[&[u8]]) -> Result<Change, LineKind>
+    ensures { result ≡ add_form own (map (λ w. w.now) words.now) }
+{
+    if words.len() < 6 || words.len() > 7 {
+        return Err(LineKind::Words);
+    }
+    let selector = selector(words[0], words[1], words[2], words[3])?;
+    let prefix = prefix(words[4])?;
+    let first = lead(own, words[5])?;
+    let second = second(own, &words[6..])?;
+    Ok(Change::AddRow(Row {
+        selector,
+        prefix,
+        first,
+        second,
+    }))
+}
+
+/// `e del <gti> <tt> <np> <nai> <digits>`, of which the words after `del`.
+fn del_form(words: &[&[u8]]) -> Result<Change, LineKind>
+    ensures { result ≡ del_form (map (λ w. w.now) words.now) }
+{
+    if words.len() != 5 {
+        return Err(LineKind::Words);
+    }
+    let selector = selector(words[0], words[1], words[2], words[3])?;
+    let prefix = prefix(words[4])?;
+    Ok(Change::DelRow(selector, prefix))
+}
+
+/// A row is added, or taken away.
+fn row_form(own: Pc, words: &[&[u8]]) -> Result<Change, LineKind>
+    ensures { result ≡ row_form own (map (λ w. w.now) words.now) }
+{
+    if words.is_empty() {
+        return Err(LineKind::Words);
+    }
+    if words[0] == b"add".as_slice() {
+        add_form(own, &words[1..])
+    } else if words[0] == b"del".as_slice() {
+        del_form(&words[1..])
+    } else {
+        Err(LineKind::Words)
+    }
+}
+
+/// `p pause <point>` or `p resume <point>`: the MTP status of another point.
+fn status_form(own: Pc, words: &[&[u8]]) -> Result<Change, LineKind>
+    ensures { result ≡ status_form own (map (λ w. w.now) words.now) }
+{
+    if words.len() != 2 {
+        return Err(LineKind::Words);
+    }
+    if words[0] == b"pause".as_slice() {
+        let point = other_point(own, words[1])?;
+        Ok(Change::BarPoint(point))
+    } else if words[0] == b"resume".as_slice() {
+        let point = other_point(own, words[1])?;
+        Ok(Change::FreePoint(point))
+    } else {
+        Err(LineKind::Words)
+    }
+}
+
+/// `s <ssn> in` or `s <ssn> out`: a local user goes in or out of service.
+fn service_form(users: &[Ssn], words: &[&[u8]]) -> Result<Change, LineKind>
+    ensures { result ≡ service_form users.now (map (λ w. w.now) words.now) }
+{
+    if words.len() != 2 {
+        return Err(LineKind::Words);
+    }
+    if words[1] == b"in".as_slice() {
+        let ssn = user(users, words[0])?;
+        Ok(Change::LocalUp(ssn))
+    } else if words[1] == b"out".as_slice() {
+        let ssn = user(users, words[0])?;
+        Ok(Change::LocalDown(ssn))
+    } else {
+        Err(LineKind::Words)
+    }
+}
+
+/// What a line changes, by its first word and those after it.
+pub fn change_of(head: &Head, first: &[u8], words: &[&[u8]]) -> Result<Change, LineKind>
+    ensures { result ≡ change_of head.now first.now (map (λ w. w.now) words.now) }
+{
+    if first == b"e".as_slice() {
+        row_form(head.point, words)
+    } else if first == b"p".as_slice() {
+        status_form(head.point, words)
+    } else if first == b"s".as_slice() {
+        service_form(head.users.as_slice(), words)
+    } else {
+        Err(LineKind::Words)
+    }
+}

@@ -1,0 +1,371 @@
+-- What a head that was read states is in its ranges.
+use Rattle.std.proofs.Common.{◌≡◌, ℕ, ℤ, pos, negsuc, ◌+◌, ◌≤◌, ◌==◌, ◌&&◌, ◌||◌, max, not, nat_lt, nat_le, nat_eq, codes, Bool, true, false, cond, List, [], ◌∷◌, ◌++◌, length, map, Option, Some, None, option_and_then, Result, Ok, Err, IfOk, IfSome, IsTrue, refl, sym, ap, ◌∙◌, subst, arith, length-append}
+use Rattle.std.proofs.lemmas.Bool.Decides.{nat_tests}
+use Rattle.std.proofs.lemmas.Cmp.{nat_eq_equiv}
+use Rattle.std.proofs.lemmas.Map.Keys.{IsDistinct-push}
+use Rattle.std.specs.List.{AllByRecursion, IsDistinct, list_any}
+use Rattle.relay_base.specs.Giving.{◌>>=◌}
+use Rattle.toml.specs.Data.{Data, Members, no_members, get_member, as_integer, as_array, as_table}
+use Rattle.sccp_address.specs.declared.address.Selector.{Selector}
+use Rattle.gtt_table.specs.Rows.{has_row}
+use Rattle.gtt_table.specs.declared.row.Row.{Row}
+use Rattle.plant_core.specs.Terms.{IsWithin, AreTicks}
+use Rattle.plant_core.specs.declared.terms.Replicate.{Replicate}
+use Rattle.node_head.specs.declared.fault.HeadFault.{HeadFault}
+use Rattle.node_head.specs.declared.fault.HeadKind.TheVariants as kind
+use Rattle.node_head.specs.declared.fault.HeadRefused.{HeadRefused}
+use Rattle.node_head.specs.declared.head.Head.{Head}
+use Rattle.node_head.specs.declared.head.Counts.{Counts}
+use Rattle.node_head.specs.declared.section.Bounds.{Bounds}
+use Rattle.node_head.specs.declared.section.Place.{Place}
+use Rattle.node_head.specs.declared.section.Place.TheVariants.{Top, Timers, Nth}
+use Rattle.node_head.specs.declared.section.TableArray.TheVariants.{Rows, Replicates}
+use Rattle.node_head.specs.Addable.{are_addable}
+use Rattle.node_head.specs.Entity.{digits_of}
+use Rattle.node_head.specs.Keys.{path, required, usual, number_in, number_value, number_at, point_at, text_at}
+use Rattle.node_head.specs.Numbers.{integers_after, new_number, numbers_after, numbers_value, users_value, other_points, concerned_value}
+use Rattle.node_head.specs.Timers.{ticks_at, connection_ticks, release_ticks, waiting_ticks, management_ticks, ticks_of, timers_value}
+use Rattle.node_head.specs.Tables.{tables_value}
+use Rattle.node_head.specs.Rows.{selector_at, new_prefix, prefix_at, entity_at, second_at, row_of, rows_after, rows_value}
+use Rattle.node_head.specs.Replicates.{has_replicate, is_new_user, user_at, other_point_at, replicate_of, replicates_after, replicates_value}
+use Rattle.node_head.specs.Refusals.{Reads, fault, or_fault}
+use Rattle.node_head.specs.Head.{counts_of, values_of}
+use Rattle.node_head.specs.Ranges.{AreNumbers, IsReplicate, AreReplicates, IsHead}
+use Rattle.node_head.proofs.AddableLemmas.{addable_more}
+use Rattle.node_head.proofs.Given.{IfGiven, bound, bound_if, by_test}
+
+-- ---- what holds of a value that may be none
+
+given-some : {A : Type 0} (P : A → Type 0) (o : Option A) (f : HeadFault) → IfSome o P → IfGiven P (or_fault o f)
+given-some P None f h = tt
+given-some P (Some a) f h = h
+
+some_all : {A B : Type 0} (Q : B → Type 0) (o : Option A) (f : A → Option B) → ((a : A) → IfSome (f a) Q) → IfSome (option_and_then f o) Q
+some_all Q None f g = tt
+some_all Q (Some a) f g = g a
+
+some_then : {A B : Type 0} (P : A → Type 0) (Q : B → Type 0) (o : Option A) (f : A → Option B) → IfSome o P → ((a : A) → P a → IfSome (f a) Q) → IfSome (option_and_then f o) Q
+some_then P Q None f h g = tt
+some_then P Q (Some a) f h g = g a h
+
+some_map : {A : Type 0} (P Q : A → Type 0) (o : Option A) → IfSome o P → ((a : A) → P a → Q a) → IfSome o Q
+some_map P Q None h g = tt
+some_map P Q (Some a) h g = g a h
+
+-- ---- numbers
+
+within-test : (least n most : ℕ) → (nat_le least n && nat_le n most) ≡ true → IsWithin least n most
+within-test least n most h = (grind (arith, nat_tests), grind (arith, nat_tests))
+
+within-choice : (least n most : ℕ) (t : Bool) → (t ≡ true → IsWithin least n most) → IfSome (cond t (Some n) None) (λ m. IsWithin least m most)
+within-choice least n most true h = h refl
+within-choice least n most false h = tt
+
+within-in : (least most : ℕ) (z : ℤ) → IfSome (number_in least most z) (λ m. IsWithin least m most)
+within-in least most (pos n) = within-choice least n most (nat_le least n && nat_le n most) (within-test least n most)
+within-in least most (negsuc n) = tt
+
+within-value : (key : List ℕ) (b : Bounds) (d : Option Data) → IfSome b.default (λ n. IsWithin b.least n b.most) → IfGiven (λ m. IsWithin b.least m b.most) (number_value key b d)
+within-value key b None h = given-some (λ m. IsWithin b.least m b.most) b.default (fault kind.Missing key) h
+within-value key b (Some d) h =
+    bound (λ m. IsWithin b.least m b.most) (or_fault (as_integer d) (fault kind.Kind key)) (λ z. or_fault (number_in b.least b.most z) (fault kind.Range key))
+    (λ z. given-some (λ m. IsWithin b.least m b.most) (number_in b.least b.most z) (fault kind.Range key) (within-in b.least b.most z))
+
+within-at : (place : Place) (ms : Members) (key : List ℕ) (b : Bounds) → IfSome b.default (λ n. IsWithin b.least n b.most)
+    → IfGiven (λ m. IsWithin b.least m b.most) (number_at place ms key b)
+unfolding number_at
+within-at place ms key b h = within-value (path place key) b (get_member key ms) h
+
+-- ---- lanes, links and credit
+
+record AreCounts (c : Counts) : Type 0 where
+  conn_lanes : IsWithin 1 c.conn_lanes 16
+  data_lanes : IsWithin 1 c.data_lanes 16
+  links : IsWithin 1 c.links 8
+  credit : IsWithin 1 c.credit 127
+
+counts-within : (ms : Members) → IfGiven AreCounts (counts_of ms)
+unfolding counts_of
+counts-within ms =
+    bound_if (λ n. IsWithin 1 n 16) AreCounts (number_at Top ms (codes "conn_lanes") (usual 1 1 16)) _ (within-at Top ms (codes "conn_lanes") (usual 1 1 16) (omega arith, omega arith)) (λ conn_lanes h.
+    bound_if (λ n. IsWithin 1 n 16) AreCounts (number_at Top ms (codes "data_lanes") (usual 1 1 16)) _ (within-at Top ms (codes "data_lanes") (usual 1 1 16) (omega arith, omega arith)) (λ data_lanes i.
+    bound_if (λ n. IsWithin 1 n 8) AreCounts (number_at Top ms (codes "links") (usual 1 1 8)) _ (within-at Top ms (codes "links") (usual 1 1 8) (omega arith, omega arith)) (λ links j.
+    bound_if (λ n. IsWithin 1 n 127) AreCounts (number_at Top ms (codes "credit") (usual 7 1 127)) _ (within-at Top ms (codes "credit") (usual 7 1 127) (omega arith, omega arith)) (λ credit k.
+    record { conn_lanes = h; data_lanes = i; links = j; credit = k }))))
+
+-- ---- timers
+
+ticks-within : (place : Place) (ms : Members) (key : List ℕ) (default least : ℕ) → IsWithin least default 65535 → IfGiven (λ n. IsWithin least n 65535) (ticks_at place ms key default least)
+unfolding ticks_at
+ticks-within place ms key default least h = within-at place ms key (usual default least 65535) h
+
+three-ticks : (place : Place) (ms : Members) (one two three : List ℕ) (d e f least : ℕ) → IsWithin 1 d 65535 → IsWithin least e 65535 → IsWithin 1 f 65535
+    → IfGiven (λ (t : ℕ × ℕ × ℕ). IsWithin 1 t.0 65535 × IsWithin least t.1 65535 × IsWithin 1 t.2 65535)
+    (ticks_at place ms one d 1 >>= (λ a. ticks_at place ms two e least >>= (λ b. ticks_at place ms three f 1 >>= (λ c. Ok (a, b, c)))))
+three-ticks place ms one two three d e f least g h i =
+    bound_if (λ n. IsWithin 1 n 65535) _ (ticks_at place ms one d 1) _ (ticks-within place ms one d 1 g) (λ a j.
+    bound_if (λ n. IsWithin least n 65535) _ (ticks_at place ms two e least) _ (ticks-within place ms two e least h) (λ b k.
+    bound_if (λ n. IsWithin 1 n 65535) _ (ticks_at place ms three f 1) _ (ticks-within place ms three f 1 i) (λ c l. (j, k, l))))
+
+connection-within : (place : Place) (ms : Members) → IfGiven (λ (t : ℕ × ℕ × ℕ). IsWithin 1 t.0 65535 × IsWithin 60 t.1 65535 × IsWithin 1 t.2 65535) (connection_ticks place ms)
+unfolding connection_ticks
+connection-within place ms = three-ticks place ms (codes "connect") (codes "ias") (codes "iar") 90 420 900 60 (omega arith, omega arith) (omega arith, omega arith) (omega arith, omega arith)
+
+release-within : (place : Place) (ms : Members) → IfGiven (λ (t : ℕ × ℕ × ℕ). IsWithin 1 t.0 65535 × IsWithin 5 t.1 65535 × IsWithin 1 t.2 65535) (release_ticks place ms)
+unfolding release_ticks
+release-within place ms = three-ticks place ms (codes "rel") (codes "repeat") (codes "int") 15 15 60 5 (omega arith, omega arith) (omega arith, omega arith) (omega arith, omega arith)
+
+waiting-within : (place : Place) (ms : Members) → IfGiven (λ (t : ℕ × ℕ × ℕ). IsWithin 1 t.0 65535 × IsWithin 1 t.1 65535 × IsWithin 1 t.2 65535) (waiting_ticks place ms)
+unfolding waiting_ticks
+waiting-within place ms = three-ticks place ms (codes "reset") (codes "reassembly") (codes "freeze") 15 15 60 1 (omega arith, omega arith) (omega arith, omega arith) (omega arith, omega arith)
+
+longest : (status : ℕ) → IsWithin 1 status 65535 → IsWithin status (max 600 status) 65535
+longest status h = (grind (arith, nat_tests), grind (arith, nat_tests))
+
+management-within : (place : Place) (ms : Members) → IfGiven (λ (t : ℕ × ℕ × ℕ). IsWithin 1 t.0 65535 × IsWithin t.0 t.1 65535 × IsWithin 1 t.2 65535) (management_ticks place ms)
+unfolding management_ticks
+management-within place ms =
+    bound_if (λ n. IsWithin 1 n 65535) _ (ticks_at place ms (codes "status") 30 1) _ (ticks-within place ms (codes "status") 30 1 (omega arith, omega arith)) (λ status h.
+    bound_if (λ n. IsWithin status n 65535) _ (ticks_at place ms (codes "status_max") (max 600 status) status) _ (ticks-within place ms (codes "status_max") (max 600 status) status (longest status h)) (λ status_max i.
+    bound_if (λ n. IsWithin 1 n 65535) _ (ticks_at place ms (codes "coord") 90 1) _ (ticks-within place ms (codes "coord") 90 1 (omega arith, omega arith)) (λ coord j. (h, i, j))))
+
+all-within : (place : Place) (ms : Members) → IfGiven AreTicks (ticks_of place ms)
+unfolding ticks_of
+all-within place ms =
+    bound_if (λ (t : ℕ × ℕ × ℕ). IsWithin 1 t.0 65535 × IsWithin 60 t.1 65535 × IsWithin 1 t.2 65535) AreTicks (connection_ticks place ms) _ (connection-within place ms) (λ connection h.
+    bound_if (λ (t : ℕ × ℕ × ℕ). IsWithin 1 t.0 65535 × IsWithin 5 t.1 65535 × IsWithin 1 t.2 65535) AreTicks (release_ticks place ms) _ (release-within place ms) (λ release i.
+    bound_if (λ (t : ℕ × ℕ × ℕ). IsWithin 1 t.0 65535 × IsWithin 1 t.1 65535 × IsWithin 1 t.2 65535) AreTicks (waiting_ticks place ms) _ (waiting-within place ms) (λ waiting j.
+    bound_if (λ (t : ℕ × ℕ × ℕ). IsWithin 1 t.0 65535 × IsWithin t.0 t.1 65535 × IsWithin 1 t.2 65535) AreTicks (management_ticks place ms) _ (management-within place ms) (λ management k.
+    record {
+      connect = h.0;
+      ias = h.1;
+      iar = h.2;
+      rel = i.0;
+      repeat = i.1;
+      int = i.2;
+      reset = j.0;
+      reassembly = j.1;
+      freeze = j.2;
+      status = k.0;
+      status_max = k.1;
+      coord = k.2;
+    }))))
+
+timers-within : (d : Option Data) → IfGiven AreTicks (timers_value d)
+unfolding timers_value
+timers-within None = all-within Timers no_members
+timers-within (Some d) = bound AreTicks (or_fault (as_table d) (fault kind.Kind (codes "timers"))) (ticks_of Timers) (all-within Timers)
+
+-- ---- lists of different numbers
+
+each-push : {X : Type 0} (P : X → Type 0) (xs : List X) (x : X) → AllByRecursion P xs → P x → AllByRecursion P (xs ++ x ∷ [])
+each-push P [] x h p = (p, tt)
+each-push P (y ∷ ys) x h p = (h.0, each-push P ys x h.1 p)
+
+any-flipped : (n : ℕ) (xs : List ℕ) → list_any (nat_eq n) xs ≡ list_any (λ m. m == n) xs
+any-flipped n [] = refl
+any-flipped n (x ∷ xs) = ap (λ b. b || list_any (nat_eq n) xs) (nat_eq_equiv.symm n x) ∙ ap (λ b. nat_eq x n || b) (any-flipped n xs)
+
+record AreFound (b : Bounds) (found : List ℕ) : Type 0 where
+  each : AllByRecursion (λ n. IsWithin b.least n b.most) found
+  distinct : IsDistinct nat_eq found
+
+abbrev IsNew : Bounds → List ℕ → ℕ → Type 0
+IsNew b found n = IsWithin b.least n b.most × (list_any (λ m. m == n) found ≡ false)
+
+new-test : (b : Bounds) (found : List ℕ) (n : ℕ) (t : Bool) → IsWithin b.least n b.most → list_any (λ m. m == n) found ≡ t → IfSome (cond t None (Some n)) (IsNew b found)
+new-test b found n true w e = tt
+new-test b found n false w e = (w, e)
+
+new-some : (b : Bounds) (found : List ℕ) (z : ℤ) → IfSome (new_number b found z) (IsNew b found)
+new-some b found z =
+    some_then (λ n. IsWithin b.least n b.most) (IsNew b found) (number_in b.least b.most z) (λ n. cond (list_any (λ m. m == n) found) None (Some n)) (within-in b.least b.most z)
+    (λ n w. new-test b found n (list_any (λ m. m == n) found) w refl)
+
+found-push : (b : Bounds) (found : List ℕ) (n : ℕ) → AreFound b found → IsNew b found n → AreFound b (found ++ n ∷ [])
+found-push b found n h new = record {
+  each = each-push (λ m. IsWithin b.least m b.most) found n h.each new.0;
+  distinct = IsDistinct-push nat_eq_equiv found n h.distinct (any-flipped n found ∙ new.1);
+}
+
+numbers-some : (b : Bounds) (zs : List ℤ) (found : List ℕ) → AreFound b found → IfSome (numbers_after b found zs) (λ ns. AreFound b ns × (length ns ≡ length found + length zs))
+numbers-some b [] found h = (h, omega arith)
+numbers-some b (z ∷ zs) found h =
+    some_then (IsNew b found) (λ ns. AreFound b ns × (length ns ≡ length found + length (z ∷ zs))) (new_number b found z) (λ n. numbers_after b (found ++ n ∷ []) zs) (new-some b found z) (λ n new.
+    some_map (λ ns. AreFound b ns × (length ns ≡ length (found ++ n ∷ []) + length zs)) _ (numbers_after b (found ++ n ∷ []) zs) (numbers-some b zs (found ++ n ∷ []) (found-push b found n h new))
+    (λ ns g. (g.0, omega (arith, g.1, length-append found (n ∷ [])))))
+
+none-found : (b : Bounds) → AreFound b []
+unfolding IsDistinct
+none-found b = record { each = tt; distinct = tt }
+
+few-test : (n : ℕ) → nat_lt 16 n ≡ false → n ≤ 16
+few-test n h = grind (arith, nat_tests)
+
+few-numbers : (b : Bounds) (zs : List ℤ) (t : Bool) → nat_lt 16 (length zs) ≡ t → IfSome (cond t None (numbers_after b [] zs)) (λ ns. AreNumbers b.least ns b.most)
+few-numbers b zs true e = tt
+few-numbers b zs false e =
+    some_map (λ ns. AreFound b ns × (length ns ≡ 0 + length zs)) _ (numbers_after b [] zs) (numbers-some b zs [] (none-found b))
+    (λ ns h. record { each = h.0.each; distinct = h.0.distinct; few = omega (arith, h.1, few-test (length zs) e) })
+
+numbers-are : (key : List ℕ) (b : Bounds) (d : Option Data) → IfGiven (λ ns. AreNumbers b.least ns b.most) (numbers_value key b d)
+unfolding numbers_value
+numbers-are key b None = record { each = tt; distinct = (none-found b).distinct; few = omega arith }
+numbers-are key b (Some d) =
+    bound (λ ns. AreNumbers b.least ns b.most) (or_fault (as_array d) (fault kind.Kind key)) _ (λ items.
+    bound (λ ns. AreNumbers b.least ns b.most) (or_fault (integers_after [] items) (fault kind.Kind key)) _ (λ zs.
+    given-some (λ ns. AreNumbers b.least ns b.most) (cond (nat_lt 16 (length zs)) None (numbers_after b [] zs)) (fault kind.Range key) (few-numbers b zs (nat_lt 16 (length zs)) refl)))
+
+abbrev AreConcerned : ℕ → List ℕ → Type 0
+AreConcerned own points = AreNumbers 0 points 16383 × (list_any (λ point. point == own) points ≡ false)
+
+concerned-are : (own : ℕ) (d : Option Data) → IfGiven (AreConcerned own) (concerned_value own d)
+unfolding concerned_value
+concerned-are own d =
+    bound_if (λ ns. AreNumbers 0 ns 16383) (AreConcerned own) (numbers_value (codes "concerned") (required 0 16383) d) (other_points own) (numbers-are (codes "concerned") (required 0 16383) d)
+    (λ ns h. by_test (AreConcerned own) (list_any (λ point. point == own) ns) (Err (fault kind.Range (codes "concerned"))) (Ok ns) (λ e. tt) (λ e. (h, e)))
+
+-- ---- rows
+
+abbrev IsApart : List Row → Selector → List ℕ → Type 0
+IsApart found selector digits = has_row selector digits found ≡ false
+
+apart-test : (found : List Row) (selector : Selector) (digits : List ℕ) (t : Bool) → has_row selector digits found ≡ t → IfSome (cond t None (Some digits)) (IsApart found selector)
+apart-test found selector digits true e = tt
+apart-test found selector digits false e = e
+
+prefix-new : (found : List Row) (selector : Selector) (text : List ℕ) → IfSome (new_prefix found selector text) (IsApart found selector)
+prefix-new found selector text =
+    some_all (IsApart found selector) (digits_of text) (λ digits. cond (has_row selector digits found) None (Some digits))
+    (λ digits. apart-test found selector digits (has_row selector digits found) refl)
+
+prefix-apart : (found : List Row) (selector : Selector) (place : Place) (ms : Members) → IfGiven (IsApart found selector) (prefix_at found selector place ms)
+unfolding prefix_at
+prefix-apart found selector place ms =
+    bound (IsApart found selector) (text_at place ms (codes "digits")) _ (λ text.
+    given-some (IsApart found selector) (new_prefix found selector text) (fault kind.Range (path place (codes "digits"))) (prefix-new found selector text))
+
+abbrev IsNewRow : List Row → Row → Type 0
+IsNewRow found row = has_row row.selector row.prefix found ≡ false
+
+row-new : (own : ℕ) (found : List Row) (place : Place) (ms : Members) → IfGiven (IsNewRow found) (row_of own found place ms)
+unfolding row_of
+row-new own found place ms =
+    bound (IsNewRow found) (selector_at place ms) _ (λ selector.
+    bound_if (IsApart found selector) (IsNewRow found) (prefix_at found selector place ms) _ (prefix-apart found selector place ms) (λ prefix h.
+    bound (IsNewRow found) (entity_at own place ms (codes "first")) _ (λ first.
+    bound (IsNewRow found) (second_at own place ms) _ (λ second. h))))
+
+rows-addable : (own : ℕ) (tables : List Members) (found : List Row) → IsTrue (are_addable [] found) → length found + length tables ≤ 4096
+    → IfGiven (λ rows. IsTrue (are_addable [] rows)) (rows_after own found tables)
+rows-addable own [] found h few = h
+rows-addable own (ms ∷ more) found h few =
+    bound_if (IsNewRow found) (λ rows. IsTrue (are_addable [] rows)) (row_of own found (Nth Rows (length found + 1)) ms) (λ row. rows_after own (found ++ row ∷ []) more)
+    (row-new own found (Nth Rows (length found + 1)) ms)
+    (λ row apart. rows-addable own more (found ++ row ∷ []) (addable_more found row h (omega (arith, few)) apart) (omega (arith, few, length-append found (row ∷ []))))
+
+few-rows : (n : ℕ) → nat_lt 4096 n ≡ false → 0 + n ≤ 4096
+few-rows n h = grind (arith, nat_tests)
+
+rows-are : (own : ℕ) (d : Option Data) → IfGiven (λ rows. IsTrue (are_addable [] rows)) (rows_value own d)
+unfolding rows_value
+rows-are own d =
+    bound (λ rows. IsTrue (are_addable [] rows)) (tables_value Rows d) _ (λ tables.
+    by_test (λ rows. IsTrue (are_addable [] rows)) (nat_lt 4096 (length tables)) (Err (fault kind.Range (codes "row"))) (rows_after own [] tables) (λ e. tt)
+    (λ e. rows-addable own tables [] refl (few-rows (length tables) e)))
+
+-- ---- replicates
+
+abbrev IsFree : List ℕ → List Replicate → ℕ → Type 0
+IsFree users found ssn = (list_any (λ user. user == ssn) users ≡ true) × (has_replicate found ssn ≡ false)
+
+free-test : (a b : Bool) → (a && not b) ≡ true → (a ≡ true) × (b ≡ false)
+free-test true true h = cc
+free-test true false h = (refl, refl)
+free-test false b h = cc
+
+user-free : (users : List ℕ) (found : List Replicate) (place : Place) (ms : Members) → IfGiven (IsFree users found) (user_at users found place ms)
+unfolding user_at
+user-free users found place ms =
+    bound (IsFree users found) (number_at place ms (codes "ssn") (required 0 255)) _ (λ ssn.
+    by_test (IsFree users found) (is_new_user users found ssn) (Ok ssn) (Err (fault kind.Range (path place (codes "ssn"))))
+    (free-test (list_any (λ user. user == ssn) users) (has_replicate found ssn)) (λ e. tt))
+
+point-other : (own : ℕ) (place : Place) (ms : Members) → IfGiven (λ point. (point == own) ≡ false) (other_point_at own place ms)
+unfolding other_point_at
+point-other own place ms =
+    bound (λ point. (point == own) ≡ false) (point_at place ms) _ (λ point.
+    by_test (λ point. (point == own) ≡ false) (point == own) (Err (fault kind.Range (path place (codes "point")))) (Ok point) (λ e. tt) (λ e. e))
+
+abbrev IsNewReplicate : ℕ → List ℕ → List Replicate → Replicate → Type 0
+IsNewReplicate own users found r = IsReplicate own users r × (has_replicate found r.ssn ≡ false)
+
+replicate-new : (own : ℕ) (users : List ℕ) (found : List Replicate) (place : Place) (ms : Members) → IfGiven (IsNewReplicate own users found) (replicate_of own users found place ms)
+unfolding replicate_of
+replicate-new own users found place ms =
+    bound_if (IsFree users found) (IsNewReplicate own users found) (user_at users found place ms) _ (user-free users found place ms) (λ ssn free.
+    bound_if (λ point. (point == own) ≡ false) (IsNewReplicate own users found) (other_point_at own place ms) _ (point-other own place ms) (λ point other.
+    (record { user = free.0; point = other }, free.1)))
+
+abbrev ssns : List Replicate → List ℕ
+ssns found = map (λ r. r.ssn) found
+
+any-replicate : (ssn : ℕ) (found : List Replicate) → list_any (nat_eq ssn) (ssns found) ≡ has_replicate found ssn
+any-replicate ssn [] = refl
+any-replicate ssn (r ∷ rs) = ap (λ b. b || list_any (nat_eq ssn) (ssns rs)) (nat_eq_equiv.symm ssn r.ssn) ∙ ap (λ b. nat_eq r.ssn ssn || b) (any-replicate ssn rs)
+
+ssns-push : (found : List Replicate) (r : Replicate) → ssns (found ++ r ∷ []) ≡ ssns found ++ r.ssn ∷ []
+ssns-push [] r = refl
+ssns-push (s ∷ ss) r = ap (λ l. s.ssn ∷ l) (ssns-push ss r)
+
+replicates-push : (own : ℕ) (users : List ℕ) (found : List Replicate) (r : Replicate) → AreReplicates own users found → IsNewReplicate own users found r → AreReplicates own users (found ++ r ∷ [])
+replicates-push own users found r h new = record {
+  each = each-push (λ s. IsReplicate own users s) found r h.each new.0;
+  distinct = subst (IsDistinct nat_eq) (sym (ssns-push found r)) (IsDistinct-push nat_eq_equiv (ssns found) r.ssn h.distinct (any-replicate r.ssn found ∙ new.1));
+}
+
+replicates-after : (own : ℕ) (users : List ℕ) (tables : List Members) (found : List Replicate) → AreReplicates own users found → IfGiven (AreReplicates own users) (replicates_after own users found tables)
+replicates-after own users [] found h = h
+replicates-after own users (ms ∷ more) found h =
+    bound_if (IsNewReplicate own users found) (AreReplicates own users) (replicate_of own users found (Nth Replicates (length found + 1)) ms) (λ r. replicates_after own users (found ++ r ∷ []) more)
+    (replicate-new own users found (Nth Replicates (length found + 1)) ms)
+    (λ r new. replicates-after own users more (found ++ r ∷ []) (replicates-push own users found r h new))
+
+no-replicates : (own : ℕ) (users : List ℕ) → AreReplicates own users []
+unfolding IsDistinct
+no-replicates own users = record { each = tt; distinct = tt }
+
+replicates-are : (own : ℕ) (users : List ℕ) (d : Option Data) → IfGiven (AreReplicates own users) (replicates_value own users d)
+unfolding replicates_value
+replicates-are own users d =
+    bound (AreReplicates own users) (tables_value Replicates d) (replicates_after own users []) (λ tables. replicates-after own users tables [] (no-replicates own users))
+
+-- ---- the head
+
+head-in : (ms : Members) → IfGiven IsHead (values_of ms)
+unfolding values_of
+head-in ms =
+    bound IsHead (point_at Top ms) _ (λ point.
+    bound_if (λ ns. AreNumbers 2 ns 254) IsHead (users_value (get_member (codes "users") ms)) _ (numbers-are (codes "users") (required 2 254) (get_member (codes "users") ms)) (λ users u.
+    bound_if AreCounts IsHead (counts_of ms) _ (counts-within ms) (λ counts c.
+    bound_if (AreConcerned point) IsHead (concerned_value point (get_member (codes "concerned") ms)) _ (concerned-are point (get_member (codes "concerned") ms)) (λ concerned o.
+    bound_if AreTicks IsHead (timers_value (get_member (codes "timers") ms)) _ (timers-within (get_member (codes "timers") ms)) (λ timers t.
+    bound_if (λ rows. IsTrue (are_addable [] rows)) IsHead (rows_value point (get_member (codes "row") ms)) _ (rows-are point (get_member (codes "row") ms)) (λ row r.
+    bound_if (AreReplicates point users) IsHead (replicates_value point users (get_member (codes "replicate") ms)) _ (replicates-are point users (get_member (codes "replicate") ms)) (λ replicates p.
+    record {
+      users = u;
+      conn_lanes = c.conn_lanes;
+      data_lanes = c.data_lanes;
+      links = c.links;
+      credit = c.credit;
+      concerned = o.0;
+      concerned_others = o.1;
+      timers = t;
+      rows = r;
+      replicates = p;
+    })))))))
+
+-- a head that was read is in its ranges
+pub read_in_range : (r : Result Head HeadRefused) (ms : Members) → Reads (λ h. h) r (values_of ms) → IfOk r IsHead
+read_in_range (Ok head) ms e = subst (IfGiven IsHead) e (head-in ms)
+read_in_range (Err f) ms e = tt
