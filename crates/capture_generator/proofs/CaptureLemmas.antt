@@ -1,0 +1,153 @@
+-- The phases of a generated capture: their stamps, and how many events they have.
+use Rattle.std.proofs.Common.{◌≡◌, ◌∙◌, ℕ, zero, suc, ◌+◌, ◌*◌, ◌/◌, ◌%◌, ◌==◌, ◌≤◌, append_assoc, subst, Bool, true, false, cond, List, [], ◌∷◌, ◌++◌, length, refl, ap, arith, rules, length-append}
+use Rattle.std.proofs.lemmas.List.Concat.{flat_map-append}
+use Rattle.std.specs.List.{AllByRecursion, IsDistinct, flat_map}
+use Rattle.plant_core.specs.Terms.{AreTicks}
+use Rattle.node_head.specs.Ranges.{AreNumbers, AreReplicates, IsHead}
+use Rattle.capture_form.specs.Capture.{Stamped, AreOfLinks, AreOfPhases}
+use Rattle.capture_generator.specs.Generator.{usual_ticks, generator_head, Phases, number_after, stamped_at, events_after, block_phase, tick_phase, whole_blocks, phases_after, events_in}
+
+all-push : {A : Type 0} (P : A → Type 0) (xs : List A) (x : A) → AllByRecursion P xs → P x → AllByRecursion P (xs ++ x ∷ [])
+all-push P [] x h p = (p, tt)
+all-push P (y ∷ ys) x h p = (h.0, all-push P ys x h.1 p)
+
+-- ---- the head
+
+head-users : AreNumbers 2 (8 ∷ []) 254
+unfolding IsDistinct
+head-users = record { each = ((omega arith, omega arith), tt); distinct = (tt, tt); few = omega arith }
+
+head-concerned : AreNumbers 0 [] 16383
+unfolding IsDistinct
+head-concerned = record { each = tt; distinct = tt; few = omega arith }
+
+head-replicates : AreReplicates 1 (8 ∷ []) []
+unfolding IsDistinct
+head-replicates = record { each = tt; distinct = tt }
+
+ticks-within : AreTicks usual_ticks
+ticks-within = record {
+  connect = (omega arith, omega arith);
+  ias = (omega arith, omega arith);
+  iar = (omega arith, omega arith);
+  rel = (omega arith, omega arith);
+  repeat = (omega arith, omega arith);
+  int = (omega arith, omega arith);
+  reset = (omega arith, omega arith);
+  reassembly = (omega arith, omega arith);
+  freeze = (omega arith, omega arith);
+  status = (omega arith, omega arith);
+  status_max = (omega arith, omega arith);
+  coord = (omega arith, omega arith);
+}
+
+pub head-within : IsHead generator_head
+head-within = record {
+  users = head-users;
+  conn_lanes = (omega arith, omega arith);
+  data_lanes = (omega arith, omega arith);
+  links = (omega arith, omega arith);
+  credit = (omega arith, omega arith);
+  concerned = head-concerned;
+  concerned_others = refl;
+  timers = ticks-within;
+  rows = search rules;
+  replicates = head-replicates;
+}
+
+-- ---- stamps
+
+-- the lines of block b stand in one phase
+events-stamped : (x b n : ℕ) → n ≤ 400 → AllByRecursion (λ e. (e.0.phase ≡ 1 + 2 * b) × (e.0.link ≡ 1)) (events_after x (400 * b) n)
+unfolding events_after
+events-stamped x b zero h = tt
+events-stamped x b (suc n) h =
+    all-push _ (events_after x (400 * b) n) (stamped_at (number_after x (suc n)) (400 * b + n)) (events-stamped x b n (omega (arith, h)))
+    (omega (arith, h), refl)
+
+block-stamped : (x b n : ℕ) → n ≤ 400 → AreOfLinks (1 + 2 * b) 0 (block_phase x b n)
+block-stamped x b n h = (tt, (events-stamped (number_after x (400 * b)) b n h, tt))
+
+phases-push : (phase : ℕ) (phases : Phases) (lists : List Stamped) → AreOfPhases 1 phase phases → length lists ≡ 2 → AreOfLinks (phase + length phases) 0 lists
+    → AreOfPhases 1 phase (phases ++ lists ∷ [])
+phases-push phase [] lists h n l =
+    let same : phase + 0 ≡ phase = omega arith in
+    (n, subst (λ k. AreOfLinks k 0 lists) same l, tt)
+phases-push phase (first ∷ more) lists h n l =
+    let same : phase + suc (length more) ≡ phase + 1 + length more = omega arith in
+    (h.0, h.1, phases-push (phase + 1) more lists h.2 n (subst (λ k. AreOfLinks k 0 lists) same l))
+
+-- two phases for each block
+length-blocks : (x b : ℕ) → length (whole_blocks x b) ≡ 2 * b
+unfolding whole_blocks
+length-blocks x zero = refl
+length-blocks x (suc b) = omega (arith, length-append (whole_blocks x b) (block_phase x b 400 ∷ tick_phase b ∷ []), length-blocks x b)
+
+block-push : (x b n : ℕ) → n ≤ 400 → AreOfPhases 1 1 (whole_blocks x b) → AreOfPhases 1 1 (whole_blocks x b ++ block_phase x b n ∷ [])
+block-push x b n h stamped =
+    let phase : 1 + 2 * b ≡ 1 + length (whole_blocks x b) = omega (arith, length-blocks x b) in
+    phases-push 1 (whole_blocks x b) (block_phase x b n) stamped refl (subst (λ k. AreOfLinks k 0 (block_phase x b n)) phase (block-stamped x b n h))
+
+tick-stamped : (b : ℕ) → AreOfLinks (2 + 2 * b) 0 (tick_phase b)
+tick-stamped b = (((refl, refl), tt), (tt, tt))
+
+blocks-stamped : (x b : ℕ) → AreOfPhases 1 1 (whole_blocks x b)
+unfolding whole_blocks
+blocks-stamped x zero = tt
+blocks-stamped x (suc b) =
+    let block = whole_blocks x b ++ block_phase x b 400 ∷ [] in
+    let phase : 2 + 2 * b ≡ 1 + length block = omega (arith, length-append (whole_blocks x b) (block_phase x b 400 ∷ []), length-blocks x b) in
+    rw (← append_assoc (whole_blocks x b) (block_phase x b 400 ∷ []) (tick_phase b ∷ []))
+    (phases-push 1 block (tick_phase b) (block-push x b 400 (omega arith) (blocks-stamped x b)) refl (subst (λ k. AreOfLinks k 0 (tick_phase b)) phase (tick-stamped b)))
+
+stamped-choice : (none : Bool) (x lines : ℕ) → AreOfPhases 1 1 (cond none [] (whole_blocks x (lines / 400) ++ block_phase x (lines / 400) (lines % 400) ∷ []))
+stamped-choice true x lines = tt
+stamped-choice false x lines = block-push x (lines / 400) (lines % 400) (omega arith) (blocks-stamped x (lines / 400))
+
+pub phases-stamped : (x lines : ℕ) → AreOfPhases 1 1 (phases_after x lines)
+phases-stamped x lines = stamped-choice (lines == 0) x lines
+
+-- ---- how many events there are
+
+length-events : (x i n : ℕ) → length (events_after x i n) ≡ n
+unfolding events_after
+length-events x i zero = refl
+length-events x i (suc n) = omega (arith, length-append (events_after x i n) (stamped_at (number_after x (suc n)) (i + n) ∷ []), length-events x i n)
+
+-- the events of one phase
+abbrev phase_events : List Stamped → Stamped
+phase_events lists = flat_map (λ events. events) lists
+
+length-block : (x b n : ℕ) → length (phase_events (block_phase x b n)) ≡ n
+length-block x b n = omega (arith, length-append (events_after (number_after x (400 * b)) (400 * b) n) [], length-events (number_after x (400 * b)) (400 * b) n)
+
+length-phase : (lists : List Stamped) (more : Phases) → length (events_in (lists ∷ more)) ≡ length (phase_events lists) + length (events_in more)
+length-phase lists more = length-append (phase_events lists) (events_in more)
+
+length-joined : (phases more : Phases) → length (events_in (phases ++ more)) ≡ length (events_in phases) + length (events_in more)
+length-joined phases more = ap length (flat_map-append phase_events phases more) ∙ length-append (events_in phases) (events_in more)
+
+length-whole : (x b : ℕ) → length (events_in (whole_blocks x b)) ≡ 401 * b
+unfolding whole_blocks
+length-whole x zero = refl
+length-whole x (suc b) = omega (
+  arith,
+  length-joined (whole_blocks x b) (block_phase x b 400 ∷ tick_phase b ∷ []),
+  length-phase (block_phase x b 400) (tick_phase b ∷ []),
+  length-block x b 400,
+  length-whole x b,
+)
+
+few-choice : (none : Bool) (x lines : ℕ) → lines ≤ 199000 → length (events_in (cond none [] (whole_blocks x (lines / 400) ++ block_phase x (lines / 400) (lines % 400) ∷ []))) ≤ 200000
+few-choice true x lines h = omega arith
+few-choice false x lines h = omega (
+  arith,
+  h,
+  length-joined (whole_blocks x (lines / 400)) (block_phase x (lines / 400) (lines % 400) ∷ []),
+  length-phase (block_phase x (lines / 400) (lines % 400)) [],
+  length-block x (lines / 400) (lines % 400),
+  length-whole x (lines / 400),
+)
+
+pub phases-few : (x lines : ℕ) → lines ≤ 199000 → length (events_in (phases_after x lines)) ≤ 200000
+phases-few x lines h = few-choice (lines == 0) x lines h

@@ -1,0 +1,12 @@
+//! Captures that are made of a number, and the line of counts of their journals.
+#![tactic(auto)]
+
+mod blocks;
+mod events;
+mod tally;
+#[cfg(test)]
+mod tests;
+mod whole;
+
+pub use tally::counts_line;
+pub use whole::generated;

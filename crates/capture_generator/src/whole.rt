@@ -1,0 +1,67 @@
+//! The whole capture.
+ghost use Rattle.std.specs.Prelude.{◌≡◌, ◌≤◌, [], length, IsTrue, IfOk};
+ghost use Rattle.node_head.specs.Addable.{are_addable};
+ghost use Rattle.node_head.specs.Ranges.{IsHead};
+ghost use Rattle.capture_form.specs.Capture.{IsStamped};
+ghost use Rattle.capture_generator.specs.Generator.{usual_ticks, generator_head, generated_capture, events_in};
+
+use crate::blocks::phases_after;
+use capture_form::Capture;
+use node_head::{Head, RowList};
+use plant_core::{ReplicateList, Ticks};
+use relay_base::{Memory, Pc, PcList, Ssn, SsnList};
+use std::alloc::Global;
+
+/// The timers of a head that states none.
+fn usual_ticks() -> Ticks
+    ensures { result ≡ usual_ticks }
+{
+    Ticks {
+        connect: 90,
+        ias: 420,
+        iar: 900,
+        rel: 15,
+        repeat: 15,
+        int: 60,
+        reset: 15,
+        reassembly: 15,
+        freeze: 60,
+        status: 30,
+        status_max: 600,
+        coord: 90,
+    }
+}
+
+/// The head: point 1, user 8, four lanes of each kind.
+fn generator_head(alloc: Global) -> Result<Head, Memory>
+    ensures { IfOk result (λ head. head ≡ generator_head) }
+{
+    let mut users = SsnList::new(alloc);
+    users.push(Ssn::from(8))?;
+    Ok(Head {
+        point: Pc::new(1).unwrap(),
+        users,
+        conn_lanes: 4,
+        data_lanes: 4,
+        links: 1,
+        credit: 7,
+        concerned: PcList::new(alloc),
+        timers: usual_ticks(),
+        row: RowList::new(alloc),
+        replicates: ReplicateList::new(alloc),
+    })
+}
+
+/// The capture that the generator makes of a number and a count of lines, at most 199,000, as if its text were read.
+pub fn generated(alloc: Global, number: u32, lines: u32) -> Result<Capture, Memory>
+    requires { lines ≤ 199000 }
+    ensures value { IfOk result (λ c. c ≡ generated_capture number lines) }
+    ensures stamped { IfOk result (λ c. IsStamped c.head c.phases) }
+    ensures addable { IfOk result (λ c. IsTrue (are_addable [] c.head.row)) }
+    ensures range { IfOk result (λ c. IsHead c.head) }
+    ensures few { IfOk result (λ c. length (events_in c.phases) ≤ 200000) }
+{
+    let head = generator_head(alloc)?;
+    let phases = phases_after(alloc, number % 2_147_483_648, lines)?;
+    Ok(Capture { head, phases })
+}

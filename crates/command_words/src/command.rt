@@ -1,0 +1,10 @@
+//! What the words ask for.
+
+/// A command.
+#[derive(Clone, Copy, Debug, PartialEq, Eq)]
+pub enum Command {
+    /// Run the capture that is read.
+    Run,
+    /// Run the capture that is made of a number and a count of lines, 1 to 199,000.
+    Generate { number: u32, lines: u32 },
+}

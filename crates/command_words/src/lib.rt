@@ -1,0 +1,12 @@
+//! The words of the command line.
+#![tactic(auto)]
+
+mod command;
+mod number;
+mod parser;
+mod reading;
+#[cfg(test)]
+mod tests;
+
+pub use command::Command;
+pub use reading::command_of;

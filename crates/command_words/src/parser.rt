@@ -1,0 +1,44 @@
+//! The parser of the words: one level of subcommands.
+ghost use Rattle.std.specs.Prelude.{◌≡◌, false, IfOk};
+ghost use Rattle.clap.specs.Words.{app_of, rule_of};
+ghost use Rattle.clap.specs.declared.builder.Command.TheViews.{out-Command};
+ghost use Rattle.command_words.specs.Parser.{required_rule, generate_app, top_app, relay_app};
+
+use clap::{Arg, Command};
+use std::alloc::{AllocError, Global};
+
+/// An argument that has to be given.
+fn required<'a>(alloc: Global, id: &'a str) -> Arg<'a>
+    ensures rule { rule_of result ≡ required_rule id.entry.now }
+    ensures local { result.global ≡ false }
+{
+    Arg::new(alloc, id).required(true)
+}
+
+/// `gen <number> <lines>`
+fn generate_parser<'a>(alloc: Global) -> Result<Command<'a>, AllocError>
+    ensures app { IfOk result (λ r. app_of r ≡ generate_app) }
+    ensures local { IfOk result (λ r. (out-Command r).has_globals ≡ false) }
+{
+    Command::new(alloc, "gen")
+        .arg(required(alloc, "number"))?
+        .arg(required(alloc, "lines"))
+}
+
+/// The parser without its subcommands. No program's name stands before the words.
+fn top_parser<'a>(alloc: Global) -> Command<'a>
+    ensures { app_of result ≡ top_app }
+{
+    Command::new(alloc, "relay")
+        .no_binary_name(true)
+        .subcommand_required(true)
+}
+
+/// The parser of `run` and `gen`.
+pub fn parser<'a>(alloc: Global) -> Result<Command<'a>, AllocError>
+    ensures { IfOk result (λ r. app_of r ≡ relay_app) }
+{
+    top_parser(alloc)
+        .subcommand(Command::new(alloc, "run"))?
+        .subcommand(generate_parser(alloc)?)
+}

@@ -1,0 +1,126 @@
+//! The command that the words state: what the parser found, where these are the words.
+ghost use Rattle.std.specs.Prelude.{◌≡◌, ◌≢◌, None, IfOk, map, option_map, string_bytes};
+ghost use Rattle.std.specs.List.{list_any};
+ghost use Rattle.clap.specs.Words.{kind_of, subcommand_rows_of};
+ghost use Rattle.command_words.specs.Commands.{same, is_dashed, asks_help, is_refused, generate_in, command_in};
+ghost use Rattle.command_words.specs.Parser.{is_given, command_found, command_of_rows};
+
+use crate::command::Command;
+use crate::number::number_in;
+use crate::parser::parser;
+use clap::error::ErrorKind;
+use clap::{ArgMatches, Error};
+use relay_base::Memory;
+use std::alloc::Global;
+
+fn is_dashed(word: &str) -> bool
+    ensures { result ≡ is_dashed word.now }
+{
+    match word.as_bytes() {
+        [] => false,
+        [first, ..] => *first == b'-',
+    }
+}
+
+fn has_dashed(words: &[String]) -> bool
+    ensures { result ≡ list_any (λ word. is_dashed (string_bytes word)) words.now }
+{
+    words.iter().any(|word| is_dashed(word.as_str()))
+}
+
+fn asks_help(words: &[String]) -> bool
+    ensures { result ≡ asks_help (map string_bytes words.now) }
+{
+    match words {
+        [] => false,
+        [word, ..] => word.as_str() == "help",
+    }
+}
+
+/// Whether the words are refused before they are parsed: one begins with a dash, or the first is `help`.
+fn is_refused(words: &[String]) -> bool
+    ensures { result ≡ is_refused (map string_bytes words.now) }
+{
+    has_dashed(words) || asks_help(words)
+}
+
+/// What `gen` is given.
+fn generate_in(number: &str, lines: &str) -> Option<Command>
+    ensures { result ≡ generate_in number.now lines.now }
+{
+    let number = number_in(0, 4_294_967_295, number)?;
+    let lines = number_in(1, 199_000, lines)?;
+    Some(Command::Generate { number, lines })
+}
+
+fn is_given(given: Option<&str>, word: &str) -> bool
+    ensures { result ≡ is_given (option_map (λ s. s.now) given.entry) word.now }
+{
+    match given {
+        Some(text) => word == text,
+        None => false,
+    }
+}
+
+/// The command of a subcommand's name and its values, where these are the words.
+fn command_found(
+    name: &str,
+    number: Option<&str>,
+    lines: Option<&str>,
+    words: &[String],
+) -> Option<Command>
+    ensures { result ≡ command_found name.now (option_map (λ s. s.now) number.entry) (option_map (λ s. s.now) lines.entry) (map string_bytes words.now) }
+{
+    match words {
+        [word] if name == "run" && word.as_str() == name => Some(Command::Run),
+        [word, first, second]
+            if name == "gen"
+                && word.as_str() == name
+                && is_given(number, first.as_str())
+                && is_given(lines, second.as_str()) => {
+            generate_in(first.as_str(), second.as_str())
+        }
+        _ => None,
+    }
+}
+
+/// The command of what the parser found.
+fn command_of_matches(matches: &ArgMatches<'_>, words: &[String]) -> Option<Command>
+    ensures { result ≡ command_of_rows (subcommand_rows_of matches.now) (map string_bytes words.now) }
+{
+    let (name, found) = matches.subcommand()?;
+    command_found(name, found.get_str("number"), found.get_str("lines"), words)
+}
+
+/// What comes of an error of the parser: no command, or want of memory.
+fn refusal(error: &Error) -> Result<Option<Command>, Memory>
+    ensures { IfOk result (λ command. (command ≡ None) × (kind_of error.now ≢ ErrorKind.OutOfMemory)) }
+{
+    match error.kind() {
+        ErrorKind::OutOfMemory => Err(Memory),
+        _ => Ok(None),
+    }
+}
+
+/// The command that the words are parsed to.
+fn parsed(alloc: Global, words: &[String]) -> Result<Option<Command>, Memory>
+    ensures { IfOk result (λ command. command ≡ command_in (map string_bytes words.now)) }
+{
+    match parser(alloc)?.try_get_matches_from(words) {
+        Ok(matches) => Ok(command_of_matches(&matches, words)),
+        Err(error) => refusal(&error),
+    }
+}
+
+/// The command that the words state. There is one exactly where they are `run`, or `gen`, a number, 0 to 4,294,967,295, and
+/// lines, 1 to 199,000, each in 1 to 10 decimal digits.
+///
+/// Words of which one begins with a dash, or the first is `help`, are refused before they are parsed.
+pub fn command_of(alloc: Global, words: &[String]) -> Result<Option<Command>, Memory>
+    ensures { IfOk result (λ command. command ≡ command_in (map string_bytes words.now)) }
+{
+    if is_refused(words) {
+        return Ok(None);
+    }
+    parsed(alloc, words)
+}
