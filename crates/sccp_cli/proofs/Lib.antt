@@ -1,7 +1,4 @@
 pub mod Given
-pub mod LaneLemmas
+pub mod FewLemmas
 pub mod OutcomeLemmas
-pub mod OwnLemmas
-pub mod RightLemmas
-pub mod RunLemmas
-pub mod TakeableLemmas
+pub mod CommandLemmas

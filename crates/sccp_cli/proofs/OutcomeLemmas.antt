@@ -1,5 +1,6 @@
 -- Lemmas on what a run did.
-use Rattle.std.proofs.Common.{◌≡◌, ℕ, ◌+◌, ◌<◌, List, length, Some, None, Result, Ok, Err, OnOk, OnErr, IfSome, sym, ap, ◌∙◌, refl, inl, inr, subst, arith, length-append, lt-ltb}
+use Rattle.std.proofs.Common.{◌≡◌, ◌⊎◌, ℕ, ◌+◌, ◌<◌, List, length, Some, None, Result, Ok, Err, OnOk, OnErr, IfSome, sym, ap, ◌∙◌, refl, inl, inr, subst, arith, length-append, lt-ltb}
+use Rattle.std.specs.Prelude.{Option}
 use Rattle.std.proofs.lemmas.List.{take_all}
 use Rattle.std.proofs.KnownBytes.{Consumes-whole}
 use Rattle.std.specs.Io.KnownBytes.{Appends}
@@ -12,7 +13,9 @@ use Rattle.capture_form.specs.declared.fault.CaptureFault.TheVariants as refused
 use Rattle.capture_form.specs.declared.fault.Limit.TheVariants as limit
 use Rattle.sccp_cli.specs.declared.relay.Stop.{Stop}
 use Rattle.sccp_cli.specs.declared.relay.Stop.TheVariants as stop
-use Rattle.sccp_cli.specs.Outcome.{Bytes, Says, Stopped, Done, IsDue, status_of, due_status}
+use Rattle.command_words.specs.declared.command.Command.{Command}
+use Rattle.command_words.specs.declared.command.Command.TheVariants.{Run, Generate}
+use Rattle.sccp_cli.specs.Outcome.{Bytes, Says, Stopped, Done, IsDone, IsDue, status_of, due_status}
 
 -- what writing a whole text told a sink
 pub Says-written : {T : Type 0} (r : Result T Failed) (held now : Bytes) (before after : ℕ) (text : List ℕ)
@@ -41,17 +44,34 @@ memory-due None = tt
 memory-due (Some xs) = inr refl
 
 -- the status of a run that ended is that of the bytes
-pub done-due : (left rest held now : Bytes) (book : Book) → Done left rest held now book → IfSome left (IsDue 0)
+pub done-due : (left rest held now : Bytes) (book : Book) → Done Run left rest held now book → IfSome left (IsDue 0)
 done-due left rest held now book (bytes, came, ended, (capture, e, filled)) = Consumes-whole left rest bytes (IsDue 0) came ended (inl (ap due_status (sym e)))
 
+-- the command that is done is the one that was stated
+pub stated-due : (stated : Option Command) (left rest held now : Bytes) (book : Book) → stated ≡ Some Run → IsDone stated left rest held now book → IfSome left (IsDue 0)
+stated-due stated left rest held now book run (Run, e, done) = done-due left rest held now book done
+stated-due stated left rest held now book run (Generate number lines, e, done) = absurd (cc)
+
 -- and so is that of a run that stopped without a fault of a device
-pub stop-due : (left rest held now : Bytes) (book : Book) (why : Stop) → Stopped left rest held now book why
-    → (why ≡ stop.Usage → ⊥) → (why ≡ stop.ReadFault → ⊥) → (why ≡ stop.WriteFault → ⊥) → IfSome left (IsDue (status_of why))
-stop-due left rest held now book stop.Usage s u r w = absurd (u refl)
-stop-due left rest held now book (stop.Head f note) (((bytes, came, ended, e), said), untouched) u r w = Consumes-whole left rest bytes (IsDue 2) came ended (inl (ap due_status (sym e)))
-stop-due left rest held now book (stop.Line f note) (((bytes, came, ended, e), said), untouched) u r w = Consumes-whole left rest bytes (IsDue 3) came ended (inl (ap due_status (sym e)))
-stop-due left rest held now book (stop.Limit l note) (((bytes, came, ended, e), said), untouched) u r w = Consumes-whole left rest bytes (IsDue 4) came ended (inl (ap due_status (sym e)))
-stop-due left rest held now book stop.Bytes (more, untouched) u r w = more-due left rest more
-stop-due left rest held now book stop.ReadFault s u r w = absurd (r refl)
-stop-due left rest held now book stop.WriteFault s u r w = absurd (w refl)
-stop-due left rest held now book stop.Memory s u r w = memory-due left
+pub stop-due : (stated : Option Command) (left rest held now : Bytes) (book : Book) (why : Stop) → Stopped stated left rest held now book why
+    → stated ≡ Some Run → (why ≡ stop.ReadFault → ⊥) → (why ≡ stop.WriteFault → ⊥) → IfSome left (IsDue (status_of why))
+stop-due stated left rest held now book stop.Usage s run r w = absurd (cc)
+stop-due stated left rest held now book (stop.Head f note) (of_run, ((bytes, came, ended, e), said), untouched) run r w = Consumes-whole left rest bytes (IsDue 2) came ended (inl (ap due_status (sym e)))
+stop-due stated left rest held now book (stop.Line f note) (of_run, ((bytes, came, ended, e), said), untouched) run r w = Consumes-whole left rest bytes (IsDue 3) came ended (inl (ap due_status (sym e)))
+stop-due stated left rest held now book (stop.Limit l note) (of_run, ((bytes, came, ended, e), said), untouched) run r w = Consumes-whole left rest bytes (IsDue 4) came ended (inl (ap due_status (sym e)))
+stop-due stated left rest held now book stop.Bytes (of_run, more, untouched) run r w = more-due left rest more
+stop-due stated left rest held now book stop.ReadFault s run r w = absurd (r refl)
+stop-due stated left rest held now book stop.WriteFault s run r w = absurd (w refl)
+stop-due stated left rest held now book stop.Memory s run r w = memory-due left
+
+-- a command that makes its capture has no fault of an input
+pub made-status : (stated : Option Command) (left rest held now : Bytes) (book : Book) (why : Stop) (number lines : ℕ) → Stopped stated left rest held now book why
+    → stated ≡ Some (Generate number lines) → (status_of why ≡ 6) ⊎ (status_of why ≡ 7)
+made-status stated left rest held now book stop.Usage number lines s made = absurd (cc)
+made-status stated left rest held now book (stop.Head f note) number lines (run, noted, untouched) made = absurd (cc)
+made-status stated left rest held now book (stop.Line f note) number lines (run, noted, untouched) made = absurd (cc)
+made-status stated left rest held now book (stop.Limit l note) number lines (run, noted, untouched) made = absurd (cc)
+made-status stated left rest held now book stop.Bytes number lines (run, noted, untouched) made = absurd (cc)
+made-status stated left rest held now book stop.ReadFault number lines (run, untouched) made = absurd (cc)
+made-status stated left rest held now book stop.WriteFault number lines s made = inl refl
+made-status stated left rest held now book stop.Memory number lines s made = inr refl

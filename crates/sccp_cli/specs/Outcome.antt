@@ -1,8 +1,7 @@
 -- What a run did, by how it ended.
-use Rattle.std.specs.Prelude.{◌≡◌, ◌⊎◌, ℕ, ◌==◌, nat_eq, codes, Bool, List, [], ◌∷◌, Option, Some, None, Ok, Err, if◌then◌else◌}
+use Rattle.std.specs.Prelude.{◌≡◌, ◌⊎◌, ◌++◌, ℕ, ◌==◌, codes, List, [], Option, Some, None, Ok, Err, if◌then◌else◌}
 use Rattle.std.specs.declared.result.Result.{Result}
 use Rattle.std.specs.Io.KnownBytes.{Consumes, Appends, Keeps, IsAtEnd}
-use lib.Pointwise.{pointwise}
 use Rattle.relay_base.specs.Causes.{Rose}
 use Rattle.relay_base.specs.Streams.{TookMore, AppendedPart}
 use Rattle.node_head.specs.declared.fault.HeadFault.{HeadFault}
@@ -16,13 +15,13 @@ use Rattle.journal_text.specs.Book.{IsEmpty}
 use Rattle.capture_form.specs.Capture.{capture_of}
 use Rattle.capture_form.specs.Note.{fault_note}
 use Rattle.journal_text.specs.Print.{book_text}
+use Rattle.command_words.specs.declared.command.Command.{Command}
+use Rattle.command_words.specs.declared.command.Command.TheVariants.{Run, Generate}
+use Rattle.capture_generator.specs.Generator.{generated_capture}
+use Rattle.capture_generator.specs.Counts.{counts_of, counts_text}
 use Rattle.sccp_cli.specs.declared.relay.Stop.{Stop}
 use Rattle.sccp_cli.specs.declared.relay.Stop.TheVariants as stop
-use Rattle.sccp_cli.specs.Right.{IsRight}
-
--- the words are the one word `run`
-abbrev pub is_run : List (List ℕ) → Bool
-is_run words = pointwise (pointwise nat_eq) words (codes "run" ∷ [])
+use Rattle.node_engine.specs.Right.{IsRight}
 
 abbrev pub Bytes : Type 0
 Bytes = Option (List ℕ)
@@ -32,6 +31,11 @@ Bytes = Option (List ℕ)
 -- the source was read to its end, and this is said of what its bytes state
 abbrev pub ReadAs : Bytes → Bytes → (Result Capture CaptureFault → Type 0) → Type 0
 ReadAs left rest P = (bytes : List ℕ) × Consumes left rest bytes × IsAtEnd rest × P (capture_of bytes)
+
+-- this is said of the capture of a command: `run` reads it, and `gen` makes it and leaves the source as it is
+abbrev pub GivesAs : Command → Bytes → Bytes → (Result Capture CaptureFault → Type 0) → Type 0
+GivesAs Run left rest P = ReadAs left rest P
+GivesAs (Generate number lines) left rest P = (rest ≡ left) × P (Ok (generated_capture number lines))
 
 -- the first fault is of the head; of a line; a passed limit; and this is said of its note
 abbrev pub IsHeadFault : (List ℕ → Type 0) → Result Capture CaptureFault → Type 0
@@ -58,21 +62,33 @@ pub record Says (held now : Bytes) (before after : ℕ) (text : List ℕ) : Type
 abbrev pub Untouched : Bytes → Bytes → Book → Type 0
 Untouched held now book = Keeps held now × IsEmpty book
 
--- the book is right, and all of its print was written
-abbrev pub Filled : Bytes → Bytes → Capture → Book → Type 0
-Filled held now capture book = IsRight capture.head capture.phases book × Appends held now (book_text book)
+-- what a command writes of a book: its print, or the line of its counts
+abbrev pub output_of : Command → Book → List ℕ
+output_of Run book = book_text book
+output_of (Generate number lines) book = counts_text lines (counts_of book) ++ codes "\n"
 
--- the book is right, and a part of its print was written
-abbrev pub FilledPartly : Bytes → Bytes → Capture → Book → Type 0
-FilledPartly held now capture book = IsRight capture.head capture.phases book × AppendedPart held now (book_text book)
+-- the book is right, and all of the output was written
+abbrev pub Filled : Command → Bytes → Bytes → Capture → Book → Type 0
+Filled command held now capture book = IsRight capture.head capture.phases book × Appends held now (output_of command book)
 
--- the input was read to its end, the book is right, and all of its print was written
-abbrev pub Done : Bytes → Bytes → Bytes → Bytes → Book → Type 0
-Done left rest held now book = ReadAs left rest (λ parts. (capture : Capture) × (parts ≡ Ok capture) × Filled held now capture book)
+-- the book is right, and a part of the output was written
+abbrev pub FilledPartly : Command → Bytes → Bytes → Capture → Book → Type 0
+FilledPartly command held now capture book = IsRight capture.head capture.phases book × AppendedPart held now (output_of command book)
 
--- the same, but for a part of the print
-abbrev pub DonePartly : Bytes → Bytes → Bytes → Bytes → Book → Type 0
-DonePartly left rest held now book = ReadAs left rest (λ parts. (capture : Capture) × (parts ≡ Ok capture) × FilledPartly held now capture book)
+-- the capture of the command is known, the book is right for it, and all of the output was written
+abbrev pub Done : Command → Bytes → Bytes → Bytes → Bytes → Book → Type 0
+Done command left rest held now book = GivesAs command left rest (λ parts. (capture : Capture) × (parts ≡ Ok capture) × Filled command held now capture book)
+
+-- the same, but for a part of the output
+abbrev pub DonePartly : Command → Bytes → Bytes → Bytes → Bytes → Book → Type 0
+DonePartly command left rest held now book = GivesAs command left rest (λ parts. (capture : Capture) × (parts ≡ Ok capture) × FilledPartly command held now capture book)
+
+-- of the command that words state
+abbrev pub IsDone : Option Command → Bytes → Bytes → Bytes → Bytes → Book → Type 0
+IsDone stated left rest held now book = (command : Command) × (stated ≡ Some command) × Done command left rest held now book
+
+abbrev pub IsDonePartly : Option Command → Bytes → Bytes → Bytes → Bytes → Book → Type 0
+IsDonePartly stated left rest held now book = (command : Command) × (stated ≡ Some command) × DonePartly command left rest held now book
 
 -- ---- why a run stops
 
@@ -99,22 +115,22 @@ Refused left rest stop.ReadFault = Unit {0}
 Refused left rest stop.WriteFault = ⊥
 Refused left rest stop.Memory = Unit {0}
 
--- what stands where a run stopped after the reading
-abbrev pub Partly : Bytes → Bytes → Capture → Book → Stop → Type 0
-Partly held now capture book stop.Memory = Untouched held now book ⊎ FilledPartly held now capture book
-Partly held now capture book stop.WriteFault = FilledPartly held now capture book
-Partly held now capture book _ = ⊥
+-- what stands where a command stopped once its capture was known
+abbrev pub Partly : Command → Bytes → Bytes → Capture → Book → Stop → Type 0
+Partly command held now capture book stop.Memory = Untouched held now book ⊎ FilledPartly command held now capture book
+Partly command held now capture book stop.WriteFault = FilledPartly command held now capture book
+Partly command held now capture book _ = ⊥
 
--- what stands where a run stopped
-abbrev pub Stopped : Bytes → Bytes → Bytes → Bytes → Book → Stop → Type 0
-Stopped left rest held now book stop.Usage = Untouched held now book
-Stopped left rest held now book (stop.Head f note) = Noted left rest (refused.Head f) note × Untouched held now book
-Stopped left rest held now book (stop.Line f note) = Noted left rest (refused.Line f) note × Untouched held now book
-Stopped left rest held now book (stop.Limit l note) = Noted left rest (refused.TooLong l) note × Untouched held now book
-Stopped left rest held now book stop.Bytes = TookMore left rest 67108864 × Untouched held now book
-Stopped left rest held now book stop.ReadFault = Untouched held now book
-Stopped left rest held now book stop.WriteFault = DonePartly left rest held now book
-Stopped left rest held now book stop.Memory = Untouched held now book ⊎ DonePartly left rest held now book
+-- what stands where the command stopped that words state
+abbrev pub Stopped : Option Command → Bytes → Bytes → Bytes → Bytes → Book → Stop → Type 0
+Stopped stated left rest held now book stop.Usage = (stated ≡ None) × Untouched held now book
+Stopped stated left rest held now book (stop.Head f note) = (stated ≡ Some Run) × Noted left rest (refused.Head f) note × Untouched held now book
+Stopped stated left rest held now book (stop.Line f note) = (stated ≡ Some Run) × Noted left rest (refused.Line f) note × Untouched held now book
+Stopped stated left rest held now book (stop.Limit l note) = (stated ≡ Some Run) × Noted left rest (refused.TooLong l) note × Untouched held now book
+Stopped stated left rest held now book stop.Bytes = (stated ≡ Some Run) × TookMore left rest 67108864 × Untouched held now book
+Stopped stated left rest held now book stop.ReadFault = (stated ≡ Some Run) × Untouched held now book
+Stopped stated left rest held now book stop.WriteFault = IsDonePartly stated left rest held now book
+Stopped stated left rest held now book stop.Memory = Untouched held now book ⊎ IsDonePartly stated left rest held now book
 
 -- what `notes` is told
 abbrev pub note_of : Stop → List ℕ

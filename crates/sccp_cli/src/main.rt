@@ -1,9 +1,7 @@
 //! The node: reads a capture, runs it, and prints its journals.
 #![tactic(auto)]
 
-mod node;
 mod relay;
-mod run;
 #[cfg(test)]
 mod tests;
 #[cfg(test)]

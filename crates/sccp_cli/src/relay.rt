@@ -1,22 +1,26 @@
 //! The top call.
-ghost use Rattle.std.specs.Prelude.{◌≡◌, ◌≢◌, ◌<◌, ◌≤◌, ◌⊎◌, ◌↔◌, IfOk, IfErr, IfSome, OnOk, OnErr, Ok, Err, IsTrue, [], map, string_bytes, true, false, length};
+ghost use Rattle.std.specs.Prelude.{◌≡◌, ◌≢◌, ◌<◌, ◌≤◌, ◌^◌, ◌⊎◌, ℕ, IfOk, IfErr, IfSome, OnOk, OnErr, Ok, Err, Some, None, IsTrue, [], map, string_bytes, length};
 ghost use Rattle.std.specs.Io.KnownBytes.{Appends, Keeps};
 ghost use Rattle.relay_base.specs.Causes.{Rose};
 ghost use Rattle.journal_text.specs.Book.{IsEmpty};
-ghost use Rattle.node_head.specs.Addable.{are_addable};
+ghost use Rattle.node_head.specs.Ranges.{IsHead};
 ghost use Rattle.capture_form.specs.Capture.{capture_of};
 ghost use Rattle.journal_text.specs.Print.{book_text};
 ghost use Rattle.capture_form.specs.Capture.{IsStamped};
-ghost use Rattle.sccp_cli.specs.Heads.{HasOneLane};
-ghost use Rattle.sccp_cli.specs.Placed.{IsTakeable};
-ghost use Rattle.sccp_cli.specs.Outcome.{ReadAs, Refused, Untouched, Partly, Filled, Done, DonePartly, PassesLimit, Stands, Stopped, IsHeadFault, IsLineFault, Says, note_of, status_of, plain_note, IsDue, is_run};
+ghost use Rattle.node_engine.specs.Own.{all_events};
+ghost use Rattle.command_words.specs.Commands.{command_in};
+ghost use Rattle.command_words.specs.declared.command.Command.TheVariants.{Run, Generate};
+ghost use Rattle.capture_generator.specs.Generator.{generated_capture};
+ghost use Rattle.sccp_cli.specs.Outcome.{ReadAs, Refused, Untouched, Partly, Filled, Done, IsDone, IsDonePartly, PassesLimit, Stands, Stopped, IsHeadFault, IsLineFault, Says, note_of, status_of, plain_note, IsDue, output_of};
 
-use crate::run::run_capture;
 use capture_form::{
     Book, Capture, CaptureFault, Limit, LineFault, MOST_BYTES, fault_note, print_book, read_capture,
 };
+use capture_generator::{counts_line, generated};
+use command_words::{Command, command_of};
+use node_engine::run_capture;
 use node_head::HeadFault;
-use relay_base::{Octets, Pace, ReadAllFault, Sink, Source, read_all, write_all};
+use relay_base::{Memory, Octets, Pace, ReadAllFault, Sink, Source, read_all, write_all};
 use std::alloc::Global;
 use std::sync::Wait;
 use std::thread::Threads;
@@ -52,10 +56,9 @@ fn refusal(alloc: Global, fault: CaptureFault) -> Stop
 /// The capture that the source gives.
 fn take_capture<S: Source>(alloc: Global, source: &mut S) -> Result<Capture, Stop>
     ensures ok { IfOk result (λ capture. ReadAs (S.left source.old) (S.left source.new) (λ parts. parts ≡ Ok capture)) }
-    ensures lanes { IfOk result (λ capture. HasOneLane capture.head) }
+    ensures head { IfOk result (λ capture. IsHead capture.head) }
     ensures stamped { IfOk result (λ capture. IsStamped capture.head capture.phases) }
-    ensures addable { IfOk result (λ capture. IsTrue (are_addable [] capture.head.row)) }
-    ensures takeable { IfOk result (λ capture. IsTakeable capture.head capture.phases) }
+    ensures few { IfOk result (λ capture. length (all_events capture.phases) < 2 ^ 32) }
     ensures refused { IfErr result (Refused (S.left source.old) (S.left source.new)) }
     ensures fault { result ≡ Err Stop.ReadFault → Rose (S.faults source.old) (S.faults source.new) }
     ensures kept { result ≢ Err Stop.ReadFault → S.faults source.new ≡ S.faults source.old }
@@ -72,29 +75,39 @@ fn take_capture<S: Source>(alloc: Global, source: &mut S) -> Result<Capture, Sto
     }
 }
 
-/// Runs a capture, and writes its print.
-fn run_and_print<R: Threads + Wait + Sync, K: Sink, P: Pace>(
+/// What a command writes of a book.
+fn output_of(alloc: Global, command: Command, book: &Book) -> Result<Octets, Memory>
+    ensures { IfOk result (λ text. text ≡ output_of command book.now) }
+{
+    match command {
+        Command::Run => print_book(alloc, book),
+        Command::Generate { lines, .. } => counts_line(alloc, lines, book),
+    }
+}
+
+/// Runs the capture of a command, and writes the output.
+fn run_and_write<R: Threads + Wait + Sync, K: Sink, P: Pace>(
     rt: &R,
     alloc: Global,
+    command: Command,
     capture: &Capture,
     out: &mut K,
     pace: &P,
     book: &mut Book,
 ) -> Result<(), Stop>
-    requires lanes { HasOneLane capture.now.head }
+    requires head { IsHead capture.now.head }
     requires stamped { IsStamped capture.now.head capture.now.phases }
-    requires addable { IsTrue (are_addable [] capture.now.head.row) }
-    requires takeable { IsTakeable capture.now.head capture.now.phases }
+    requires few { length (all_events capture.now.phases) < 2 ^ 32 }
     requires empty { IsEmpty book.old }
-    ensures ok { OnOk result (Filled (K.held out.old) (K.held out.new) capture.now book.new) }
-    ensures stopped { IfErr result (Partly (K.held out.old) (K.held out.new) capture.now book.new) }
+    ensures ok { OnOk result (Filled command (K.held out.old) (K.held out.new) capture.now book.new) }
+    ensures stopped { IfErr result (Partly command (K.held out.old) (K.held out.new) capture.now book.new) }
     ensures fault { result ≡ Err Stop.WriteFault → Rose (K.faults out.old) (K.faults out.new) }
     ensures kept { result ≢ Err Stop.WriteFault → K.faults out.new ≡ K.faults out.old }
 {
     if run_capture(rt, alloc, capture, pace, book).is_err() {
         return Err(Stop::Memory);
     }
-    let Ok(text) = print_book(alloc, book) else {
+    let Ok(text) = output_of(alloc, command, book) else {
         return Err(Stop::Memory);
     };
     match write_all(out, text.as_slice()) {
@@ -103,14 +116,49 @@ fn run_and_print<R: Threads + Wait + Sync, K: Sink, P: Pace>(
     }
 }
 
-/// Whether the words are the one word `run`.
-fn is_run(words: &[String]) -> bool
-    ensures { result ≡ is_run (map string_bytes words.now) }
+/// Reads a capture and runs it.
+fn run<R: Threads + Wait + Sync, S: Source, K: Sink, P: Pace>(
+    rt: &R,
+    alloc: Global,
+    source: &mut S,
+    out: &mut K,
+    pace: &P,
+    book: &mut Book,
+) -> Result<(), Stop>
+    requires { IsEmpty book.old }
+    ensures ok { OnOk result (Done Run (S.left source.old) (S.left source.new) (K.held out.old) (K.held out.new) book.new) }
+    ensures stopped { IfErr result (Stopped (Some Run) (S.left source.old) (S.left source.new) (K.held out.old) (K.held out.new) book.new) }
+    ensures read_fault { result ≡ Err Stop.ReadFault → Rose (S.faults source.old) (S.faults source.new) }
+    ensures write_fault { result ≡ Err Stop.WriteFault → Rose (K.faults out.old) (K.faults out.new) }
+    ensures source_kept { result ≢ Err Stop.ReadFault → S.faults source.new ≡ S.faults source.old }
+    ensures out_kept { result ≢ Err Stop.WriteFault → K.faults out.new ≡ K.faults out.old }
 {
-    match words {
-        [word] => word.as_str() == "run",
-        _ => false,
-    }
+    let capture = take_capture(alloc, source)?;
+    run_and_write(rt, alloc, Command::Run, &capture, out, pace, book)
+}
+
+/// Makes a capture of a number and a count of lines, runs it, and writes the line of counts.
+fn generate<R: Threads + Wait + Sync, K: Sink, P: Pace>(
+    rt: &R,
+    alloc: Global,
+    number: u32,
+    lines: u32,
+    out: &mut K,
+    pace: &P,
+    book: &mut Book,
+) -> Result<(), Stop>
+    requires lines { lines ≤ 199000 }
+    requires empty { IsEmpty book.old }
+    ensures ok { OnOk result (Filled (Generate number lines) (K.held out.old) (K.held out.new) (generated_capture number lines) book.new) }
+    ensures stopped { IfErr result (Partly (Generate number lines) (K.held out.old) (K.held out.new) (generated_capture number lines) book.new) }
+    ensures fault { result ≡ Err Stop.WriteFault → Rose (K.faults out.old) (K.faults out.new) }
+    ensures kept { result ≢ Err Stop.WriteFault → K.faults out.new ≡ K.faults out.old }
+{
+    let Ok(capture) = generated(alloc, number, lines) else {
+        return Err(Stop::Memory);
+    };
+    let command = Command::Generate { number, lines };
+    run_and_write(rt, alloc, command, &capture, out, pace, book)
 }
 
 /// Does what the words ask.
@@ -124,20 +172,23 @@ fn serve<R: Threads + Wait + Sync, S: Source, K: Sink, P: Pace>(
     book: &mut Book,
 ) -> Result<(), Stop>
     requires { IsEmpty book.old }
-    ensures words { IfErr result (λ stop. (stop ≡ Stop.Usage) ↔ (is_run (map string_bytes words.now) ≡ false)) }
-    ensures run { OnOk result (is_run (map string_bytes words.now) ≡ true) }
-    ensures ok { OnOk result (Done (S.left source.old) (S.left source.new) (K.held out.old) (K.held out.new) book.new) }
-    ensures stopped { IfErr result (Stopped (S.left source.old) (S.left source.new) (K.held out.old) (K.held out.new) book.new) }
+    ensures ok { OnOk result (IsDone (command_in (map string_bytes words.now)) (S.left source.old) (S.left source.new) (K.held out.old) (K.held out.new) book.new) }
+    ensures stopped { IfErr result (Stopped (command_in (map string_bytes words.now)) (S.left source.old) (S.left source.new) (K.held out.old) (K.held out.new) book.new) }
+    ensures words { IfErr result (λ stop. command_in (map string_bytes words.now) ≡ None → (stop ≡ Stop.Usage) ⊎ (stop ≡ Stop.Memory)) }
+    ensures made { (number lines : ℕ) → command_in (map string_bytes words.now) ≡ Some (Generate number lines) → S.left source.new ≡ S.left source.old }
     ensures read_fault { result ≡ Err Stop.ReadFault → Rose (S.faults source.old) (S.faults source.new) }
     ensures write_fault { result ≡ Err Stop.WriteFault → Rose (K.faults out.old) (K.faults out.new) }
     ensures source_kept { result ≢ Err Stop.ReadFault → S.faults source.new ≡ S.faults source.old }
     ensures out_kept { result ≢ Err Stop.WriteFault → K.faults out.new ≡ K.faults out.old }
 {
-    if !is_run(words) {
-        return Err(Stop::Usage);
+    match command_of(alloc, words) {
+        Ok(Some(Command::Run)) => run(rt, alloc, source, out, pace, book),
+        Ok(Some(Command::Generate { number, lines })) => {
+            generate(rt, alloc, number, lines, out, pace, book)
+        }
+        Ok(None) => Err(Stop::Usage),
+        Err(_) => Err(Stop::Memory),
     }
-    let capture = take_capture(alloc, source)?;
-    run_and_print(rt, alloc, &capture, out, pace, book)
 }
 
 /// What `notes` is told of a stop.
@@ -177,7 +228,8 @@ fn status_of(stop: &Stop) -> u8
 
 /// Does what the words ask, and answers the status. `notes` gets the line that tells why a run stopped.
 ///
-/// The word `run` reads a capture from `source`, runs it, fills `book` and writes its print to `out`.
+/// The word `run` reads a capture from `source`, runs it, fills `book` and writes its print to `out`. The words `gen`, a number and a count
+/// of lines make a capture, leave `source` as it is, and write one line of counts.
 ///
 /// | Status | Comes |
 /// |---|---|
@@ -201,11 +253,17 @@ pub fn relay<R: Threads + Wait + Sync, S: Source, K: Sink, N: Sink, P: Pace>(
 ) -> u8
     requires { IsEmpty book.old }
 
-    // The input was read to its end, the book is right for it, and its print was written.
-    ensures done { result ≡ 0 → Done (S.left source.old) (S.left source.new) (K.held out.old) (K.held out.new) book.new }
+    // `run`: the input was read to its end, the book is right for it, and its print was written; `gen`: the book is right for the capture
+    // that the words make, and the line of its counts was written.
+    ensures done { result ≡ 0 → IsDone (command_in (map string_bytes words.now)) (S.left source.old) (S.left source.new) (K.held out.old) (K.held out.new) book.new }
 
-    // Other words than `run`.
-    ensures usage { (result ≡ 1) ↔ (is_run (map string_bytes words.now) ≡ false) }
+    // Words that are no command.
+    ensures usage { result ≡ 1 → command_in (map string_bytes words.now) ≡ None }
+    ensures unstated { command_in (map string_bytes words.now) ≡ None → (result ≡ 1) ⊎ (result ≡ 7) }
+
+    // `gen` reads nothing, and has no fault of an input.
+    ensures made { (number lines : ℕ) → command_in (map string_bytes words.now) ≡ Some (Generate number lines)
+        → (S.left source.new ≡ S.left source.old) × ((result ≡ 0) ⊎ (result ≡ 6) ⊎ (result ≡ 7)) }
 
     // The first fault of the input, and what `notes` is told of it.
     ensures head { let says = Says (N.held notes.old) (N.held notes.new) (N.faults notes.old) (N.faults notes.new) in
@@ -227,12 +285,12 @@ pub fn relay<R: Threads + Wait + Sync, S: Source, K: Sink, N: Sink, P: Pace>(
 
     // What stands after a refusal, a write fault, and want of memory.
     ensures refused { 1 ≤ result → result ≤ 5 → Untouched (K.held out.old) (K.held out.new) book.new }
-    ensures written { result ≡ 6 → DonePartly (S.left source.old) (S.left source.new) (K.held out.old) (K.held out.new) book.new }
-    ensures memory { result ≡ 7 → Untouched (K.held out.old) (K.held out.new) book.new ⊎ DonePartly (S.left source.old) (S.left source.new) (K.held out.old) (K.held out.new) book.new }
+    ensures written { result ≡ 6 → IsDonePartly (command_in (map string_bytes words.now)) (S.left source.old) (S.left source.new) (K.held out.old) (K.held out.new) book.new }
+    ensures memory { result ≡ 7 → Untouched (K.held out.old) (K.held out.new) book.new ⊎ IsDonePartly (command_in (map string_bytes words.now)) (S.left source.old) (S.left source.new) (K.held out.old) (K.held out.new) book.new }
     ensures known { result ≤ 7 }
 
-    // Where no device fails, the status is that of the bytes, or memory ran out.
-    ensures complete { is_run (map string_bytes words.now) ≡ true
+    // Where no device fails, the status of `run` is that of the bytes, or memory ran out.
+    ensures complete { command_in (map string_bytes words.now) ≡ Some Run
         → (Rose (S.faults source.old) (S.faults source.new) → ⊥) → (Rose (K.faults out.old) (K.faults out.new) → ⊥)
         → IfSome (S.left source.old) (IsDue result) }
 {

@@ -120,3 +120,97 @@ pub const UNITS_PRINTED: &str = "= control
 3.1.51
  . address
 ";
+
+/// A user's connection of class 3 with credit 2: units wait for acknowledgements, and expedited data for its answer.
+pub const WINDOWS: &str = "point = 100
+users = [8]
+%%
+u 1 8 conn 7 3 2 43c8000a -
+m 1 200 7 02100000550000030109010200
+u 1 8 send 16 01
+u 1 8 send 16 02
+u 1 8 send 16 03
+u 1 8 send 16 04
+u 1 8 send 16 05
+m 1 200 7 081000000400
+m 1 200 7 081000000402
+m 1 200 7 081000000802
+u 1 8 ed 16 99
+u 1 8 ed 16 98
+u 1 8 ed 16 97
+m 1 200 7 0c100000
+m 1 200 7 0b100000010177
+u 1 8 reset 16
+m 1 200 7 0e100000550000
+u 1 8 send 16 06
+";
+
+/// The print of `WINDOWS`.
+pub const WINDOWS_PRINTED: &str = "= control
+= conn 0
+1.1.4 e0 to 200
+ < 8 ref 7 16
+ > 200 7 011000000302060443c8000a0901020402420811010f00
+1.1.5
+ < 8 confirm 16 3 2 - -
+1.1.6
+ > 200 7 075500000000010101
+1.1.7
+ > 200 7 075500000200010102
+1.1.8
+1.1.9
+1.1.10
+1.1.11
+1.1.12
+ > 200 7 075500000400010103
+ > 200 7 075500000600010104
+1.1.13
+ > 200 7 075500000800010105
+1.1.14
+ > 200 7 0b550000010199
+1.1.15
+1.1.16
+ < 8 no expedited
+1.1.17
+ > 200 7 0b550000010198
+1.1.18
+ < 8 ed 16 77
+ > 200 7 0c550000
+1.1.19
+ > 200 7 0d55000010000000
+1.1.20
+ < 8 reset-done 16
+1.1.21
+ > 200 7 075500000000010106
+= data 0
+";
+
+/// A coupled connection of class 3 that is reset on both sections for a wrong P(R).
+pub const RESET: &str = "point = 100
+users = [8]
+[[row]]
+gti = 4
+np = 1
+nai = 4
+digits = \"49\"
+first = \"300/8/s\"
+%%
+m 1 200 4 0107000003020a08120800120494712109010700
+m 1 300 4 02200000090000030109010700
+m 1 200 4 07100000000a0101aa
+m 1 200 4 0d10000007000006
+";
+
+/// The print of `RESET`.
+pub const RESET_PRINTED: &str = "= control
+= conn 0
+1.1.10 e0 to 300
+ > 300 4 0120000003020a08520800120494712109010700
+1.1.11
+ > 200 4 02070000100000030109010700
+1.1.12
+ > 200 4 0d07000010000003
+ > 300 4 0d09000020000003
+1.1.13
+= data 0
+";

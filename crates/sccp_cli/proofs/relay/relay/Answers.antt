@@ -1,13 +1,12 @@
-use Rattle.std.proofs.Common.{◌∙◌, sym, ap, subst, Err, IfSome}
-use Rattle.std.proofs.lemmas.Bool.{false≢true}
+use Rattle.std.proofs.Common.{◌⊎◌, ◌≡◌, sym, ap, subst, inl, inr, refl, Err, IfSome}
 use Rattle.sccp_cli.specs.Outcome.{IsDue}
-use Rattle.sccp_cli.proofs.OutcomeLemmas.{stop-due}
+use Rattle.sccp_cli.proofs.OutcomeLemmas.{stop-due, stated-due, made-status}
 use Rattle.sccp_cli.proofs.relay.relay.Goals as goal
 
 pub returns-in-Err-clause-complete : goal.returns-in-Err-clause-complete
 returns-in-Err-clause-complete g c = λ run read written.
     let told = c.in-Err.ensures in
     let due =
-    stop-due (g.S.Source.left c.args.source.now) (g.S.Source.left c.serve.new.source) (g.K.Sink.held c.args.out.now) (g.K.Sink.held c.serve.new.out) c.serve.new.book c.in-Err.stop told.stopped
-    (λ usage. false≢true (sym (told.words.0 usage) ∙ run)) (λ fault. read (told.read_fault (ap Err fault))) (λ fault. written (told.write_fault (ap Err fault))) in
+    stop-due _ (g.S.Source.left c.args.source.now) (g.S.Source.left c.serve.new.source) (g.K.Sink.held c.args.out.now) (g.K.Sink.held c.serve.new.out) c.serve.new.book c.in-Err.stop told.stopped
+    run (λ fault. read (told.read_fault (ap Err fault))) (λ fault. written (told.write_fault (ap Err fault))) in
     subst (λ status. IfSome (g.S.Source.left c.args.source.now) (IsDue status)) (sym c.status_of.ensures) due

@@ -1,0 +1,9 @@
+pub mod ListLemmas
+pub mod OwnLemmas
+pub mod EditionLemmas
+pub mod CountLemmas
+pub mod LaneLemmas
+pub mod EventLemmas
+pub mod RunLemmas
+pub mod LoopLemmas
+pub mod RightLemmas

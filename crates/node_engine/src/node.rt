@@ -1,0 +1,133 @@
+//! The lanes of a node.
+ghost use Rattle.std.specs.Prelude.{◌≡◌, ◌++◌, ◌≤◌, ◌+◌, [], ◌∷◌, length, IsTrue, IfOk, OnOk};
+ghost use Rattle.std.specs.List.{AllByRecursion};
+ghost use Rattle.node_head.specs.Addable.{are_addable};
+ghost use Rattle.node_head.specs.Ranges.{IsHead};
+ghost use Rattle.node_engine.specs.Heads.{routing_of, lane_head_of, control_head_of};
+ghost use Rattle.node_engine.specs.Lanes.{LanesFrom};
+ghost use Rattle.node_engine.specs.Running.{IsFirst, IsConnLaneOf, IsDataLaneOf};
+
+use conn_lane::ConnLane;
+use data_lane::DataLane;
+use gtt_table::{AddFault, Row};
+use node_head::Head;
+use plant_core::{LaneHead, Plant, ReplicateList, Terms};
+use relay_base::{Memory, PcList, SsnList};
+use scmg::{ControlHead, ControlLane};
+use std::alloc::Global;
+
+/// Connection lanes, by their numbers from 0.
+pub type ConnLaneList = Vec<ConnLane>;
+
+/// Data lanes, by their numbers from 0.
+pub type DataLaneList = Vec<DataLane>;
+
+/// The lanes of a node. The control lane has the routing data that all of them read.
+#[derive(Drop)]
+pub struct Node {
+    pub control: ControlLane,
+    pub conns: ConnLaneList,
+    pub units: DataLaneList,
+}
+
+/// What a connection lane or a data lane is told of a head.
+fn lane_head_of(head: &Head) -> LaneHead
+    ensures { result ≡ lane_head_of head.now }
+{
+    LaneHead {
+        terms: Terms {
+            own: head.point,
+            credit: head.credit,
+            ticks: head.timers,
+        },
+        reassembly: head.timers.reassembly,
+    }
+}
+
+/// What the control lane is told of a head.
+fn control_head_of(alloc: Global, head: &Head) -> Result<ControlHead, Memory>
+    ensures { IfOk result (λ told. told ≡ control_head_of head.now) }
+{
+    Ok(ControlHead {
+        users: SsnList::from_slice(alloc, head.users.as_slice())?,
+        concerned: PcList::from_slice(alloc, head.concerned.as_slice())?,
+        replicates: ReplicateList::from_slice(alloc, head.replicates.as_slice())?,
+        ticks: head.timers,
+    })
+}
+
+/// Adds rows that can be added one after the other.
+fn add_rows(plant: &mut Plant, rows: &[Row]) -> Result<(), Memory>
+    requires edition { plant.old.edition ≡ 0 }
+    requires addable { IsTrue (are_addable plant.old.routing.rows rows.now) }
+    ensures edition { plant.new.edition ≡ 0 }
+    ensures rows { OnOk result (plant.new.routing ≡ record plant.old.routing { rows = plant.old.routing.rows ++ rows.now }) }
+{
+    for row in rows {
+        match plant.add(*row) {
+            Ok(()) => (),
+            Err(AddFault::Memory) => return Err(Memory),
+            Err(AddFault::Duplicate | AddFault::RowsFull) => unreachable!(),
+        }
+    }
+    Ok(())
+}
+
+/// The routing data of a head, at edition 0.
+fn plant_of(alloc: Global, head: &Head) -> Result<Plant, Memory>
+    requires { IsTrue (are_addable [] head.now.row) }
+    ensures routing { IfOk result (λ plant. plant.routing ≡ routing_of head.now) }
+    ensures edition { IfOk result (λ plant. plant.edition ≡ 0) }
+{
+    let mut plant = Plant::start(alloc, head.point, head.users.as_slice())?;
+    add_rows(&mut plant, head.row.as_slice())?;
+    Ok(plant)
+}
+
+/// The connection lanes of a head, before their first events.
+fn conn_lanes(alloc: Global, head: &Head) -> Result<ConnLaneList, Memory>
+    requires lanes { head.now.conn_lanes ≤ 16 }
+    requires credit { head.now.credit ≤ 127 }
+    ensures count { IfOk result (λ lanes. length lanes.items ≡ head.now.conn_lanes) }
+    ensures lanes { IfOk result (λ lanes. LanesFrom (IsConnLaneOf head.now) 0 lanes.items) }
+    ensures empty { IfOk result (λ lanes. AllByRecursion (λ l. l.journal ≡ []) lanes.items) }
+{
+    let lane_head = lane_head_of(head);
+    let mut lanes = Vec::new(alloc);
+    for number in 0..head.conn_lanes {
+        let lane = ConnLane::new(alloc, &lane_head, number)?;
+        lanes.push(lane)?;
+    }
+    Ok(lanes)
+}
+
+/// The data lanes of a head, before their first events.
+fn data_lanes(alloc: Global, head: &Head) -> Result<DataLaneList, Memory>
+    ensures count { IfOk result (λ lanes. length lanes.items ≡ head.now.data_lanes) }
+    ensures lanes { IfOk result (λ lanes. LanesFrom (IsDataLaneOf head.now) 0 lanes.items) }
+    ensures empty { IfOk result (λ lanes. AllByRecursion (λ l. l.journal ≡ []) lanes.items) }
+{
+    let lane_head = lane_head_of(head);
+    let mut lanes = Vec::new(alloc);
+    for number in 0..head.data_lanes {
+        let lane = DataLane::new(alloc, &lane_head, number)?;
+        lanes.push(lane)?;
+    }
+    Ok(lanes)
+}
+
+impl Node {
+    /// The lanes before the first event.
+    pub fn start(alloc: Global, head: &Head) -> Result<Node, Memory>
+        requires { IsHead head.now }
+        ensures { IfOk result (λ node. IsFirst head.now node) }
+    {
+        let plant = plant_of(alloc, head)?;
+        let told = control_head_of(alloc, head)?;
+        Ok(Node {
+            control: ControlLane::new(alloc, &told, plant)?,
+            conns: conn_lanes(alloc, head)?,
+            units: data_lanes(alloc, head)?,
+        })
+    }
+}
