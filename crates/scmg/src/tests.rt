@@ -51,6 +51,11 @@ const OWN: [u8; 2] = [0x64, 0x00];
 
 const FAR: [u8; 2] = [0x2C, 0x01];
 
+/// A message of management whose data end before the multiplicity.
+const SHORT: [u8; 16] = [
+    0x09, 0x00, 0x03, 0x05, 0x07, 0x02, 0x42, 0x01, 0x02, 0x42, 0x01, 0x04, 0x02, 0x08, 0x2C, 0x01,
+];
+
 /// A message of management about a subsystem of a point.
 fn octets(alloc: Global, format: u8, ssn: u8, of: [u8; 2]) -> Result<Octets, Memory> {
     let bytes = [
@@ -85,10 +90,11 @@ fn row() -> Result<Row, Memory> {
     })
 }
 
-/// An event: a message from point 300 about a subsystem of a point, by its format, and requests and changes about subsystem 8 and point 300.
+/// An event: a message from point 300 about a subsystem of a point, by its format, or one of four octets, and requests and changes about subsystem 8 and point 300.
 #[derive(Clone, Copy, Debug)]
 enum Line {
     Arrives(u8, u8, [u8; 2]),
+    Short,
     Coord,
     Grant,
     AddRow,
@@ -130,6 +136,11 @@ fn event_of(alloc: Global, line: Line) -> Result<ControlEvent, Memory> {
             opc: point(300)?,
             sls: Sls::new(5).ok_or(Memory)?,
             bytes: octets(alloc, format, ssn, of)?,
+        },
+        Line::Short => Event::Message {
+            opc: point(300)?,
+            sls: Sls::new(5).ok_or(Memory)?,
+            bytes: Octets::from_slice(alloc, &SHORT)?,
         },
         Line::Coord => asks(Request::Coord),
         Line::Grant => asks(Request::Grant { point: point(300)? }),
@@ -375,6 +386,28 @@ fn coordinates_with_a_replicate(rt: HostRuntime) -> Result<(), Fail> {
         (Line::Tick, None, None),
         (Line::Tick, None, None),
         (Line::Tick, None, Some(Came::Denied)),
+    ];
+    plays(&rt, &mut scene, &rows)?;
+    Ok(())
+}
+
+/// Messages that are too short, of another format, of the own point or of another one where they may not be, of a subsystem without a
+/// replicate, and grants that were not asked.
+#[test]
+fn refuses_messages_of_management(rt: HostRuntime) -> Result<(), Fail> {
+    let mut scene = Scene::new(rt.alloc())?;
+    let refused = Some(Came::Lost(Lost::Manage));
+    let rows = [
+        (Line::Short, None, refused),
+        (Line::Arrives(0, 8, FAR), None, refused),
+        (Line::Arrives(6, 8, FAR), None, refused),
+        (Line::Arrives(1, 8, OWN), None, refused),
+        (Line::Arrives(2, 8, OWN), None, refused),
+        (Line::Arrives(3, 8, FAR), None, refused),
+        (Line::Arrives(4, 9, FAR), None, refused),
+        (Line::Arrives(4, 8, OWN), None, refused),
+        (Line::Arrives(5, 8, OWN), None, refused),
+        (Line::Arrives(5, 8, FAR), None, refused),
     ];
     plays(&rt, &mut scene, &rows)?;
     Ok(())
