@@ -1,0 +1,5 @@
+pub mod Ends
+pub mod Acting
+pub mod Settling
+pub mod Step
+pub mod Following
