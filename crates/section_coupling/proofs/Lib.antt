@@ -9,3 +9,5 @@ pub mod Fitting
 pub mod Opened
 pub mod Composed
 pub mod Keeping
+pub mod Resting
+pub mod Sleeping

@@ -4,5 +4,6 @@ pub mod Acts
 pub mod Arrived
 pub mod Openings
 pub mod Strays
+pub mod Resting
 pub mod Duos
 pub mod Sizes

@@ -1,5 +1,5 @@
 //! A connection: two coupled ends.
-ghost use Rattle.std.specs.Prelude.{◌≡◌, ◌≤◌, ◌<◌, ◌+◌, ℕ, Some, IsTrue, IfOk, IfSome};
+ghost use Rattle.std.specs.Prelude.{◌≡◌, ◌≤◌, ◌<◌, ◌+◌, ℕ, [], min, Some, IsTrue, IfOk, IfSome};
 ghost use Rattle.section_model.specs.Step.{connection_step, event_step, hears, is_over, end_is_gone, destination_of, names, named, is_in_range};
 ghost use Rattle.std.specs.Option.{option_map};
 ghost use Rattle.section_model.specs.Lane.{reference_of};
@@ -10,7 +10,8 @@ ghost use Rattle.section_coupling.specs.Views.{connection_at, left_at};
 ghost use Rattle.section_coupling.specs.Sound.{IsCredit, SoundPair};
 ghost use Rattle.flow_law.specs.Kept.{IsKept};
 ghost use Rattle.flow_law.specs.FlowLaw.{FlowKept};
-ghost use Rattle.section_coupling.specs.Duos.{duo_at, taken_after, side_of, ticks_left};
+ghost use Rattle.relay_base.specs.declared.words.Event.TheVariants.{Tick};
+ghost use Rattle.section_coupling.specs.Duos.{duo_at, taken_after, side_of, ticks_left, fewest_left};
 
 use crate::asking::ask;
 use crate::clock::Clock;
@@ -213,6 +214,16 @@ impl Duo {
         } else {
             self.pair.that.deadline(placed)
         }
+    }
+
+    /// The lane's tick, counted from 1, at which the first timer fires; 18,446,744,073,709,551,615 where none runs. The ticks before it
+    /// only bring the timers nearer, since nothing is left after an event that would leave: such a tick gives no output, and the same
+    /// connection.
+    pub fn wakes(&self) -> u64
+        ensures first { result ≡ min (fewest_left (duo_at 0 self.now).this) (fewest_left (duo_at 0 self.now).that) }
+        ensures sleeps { (now : ℕ) → now + 1 < result → connection_step self.now.ticks (duo_at now self.now) Tick ≡ (duo_at (now + 1) self.now, []) }
+    {
+        self.pair.this.wakes().min(self.pair.that.wakes())
     }
 
     /// Whether both ends are gone.

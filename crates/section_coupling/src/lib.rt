@@ -22,5 +22,5 @@ mod wire;
 mod wish;
 
 pub use duo::{Begun, Duo, Heard};
-pub use unheard::stray;
+pub use unheard::{named, stray};
 pub use wish::{ask_of, opens};

@@ -105,6 +105,7 @@ fn a_connection_carries_data(rt: HostRuntime) -> Result<(), Fail> {
         body: None,
     };
     assert_eq!(rt; offered.outs, told(alloc, offer)?);
+    assert_eq!(rt; offered.duo.wakes(), u64::MAX);
 
     let accept = Event::Asked {
         ssn: Ssn::from(8),
@@ -122,6 +123,7 @@ fn a_connection_carries_data(rt: HostRuntime) -> Result<(), Fail> {
         accepted.outs,
         sent(alloc, b"\x02\x01\x00\x00\x10\x00\x00\x02\x00")?
     );
+    assert_eq!(rt; accepted.duo.wakes(), 420);
 
     let data = message(alloc, b"\x06\x10\x00\x00\x00\x01\x01\x61")?;
     let Some(carried) = heard(&accepted.duo, &data)? else {
@@ -188,6 +190,7 @@ fn a_window_closes_and_opens(rt: HostRuntime) -> Result<(), Fail> {
         panic!(rt; "a unit is not heard");
     };
     assert_eq!(rt; second.outs, Outs::new(alloc));
+    assert_eq!(rt; second.duo.wakes(), 420);
     let acknowledgement = message(alloc, b"\x08\x10\x00\x00\x02\x01")?;
     let Some(third) = heard(&second.duo, &acknowledgement)? else {
         panic!(rt; "an acknowledgement is not heard");
