@@ -1,4 +1,6 @@
 //! The entries of the journals.
+ghost use Rattle.std.specs.Prelude.{◌≡◌};
+
 use crate::answer::Answer;
 use crate::change::Change;
 use relay_base::{Event, Outs, PlainList, Stamp};
@@ -43,3 +45,12 @@ pub type ControlList = PlainList<ControlEntry>;
 
 /// The journals of several lanes.
 pub type JournalList = PlainList<EntryList>;
+
+/// The same outputs, in no more memory than they take.
+pub fn fitted(outs: Outs) -> Outs
+    ensures { result ≡ outs }
+{
+    let mut items = outs.into_vec();
+    items.shrink_to_fit();
+    Outs::from(items)
+}

@@ -1,5 +1,5 @@
 //! The routing data, and its changes.
-ghost use Rattle.std.specs.Prelude.{◌≡◌, ◌+◌, ◌^◌, ◌<◌, ◌++◌, ◌∷◌, [], filter, not, vec_len, IsTrue, IsOk, None, IfOk, OnOk, OnErr};
+ghost use Rattle.std.specs.Prelude.{◌≡◌, ◌+◌, ◌^◌, ◌<◌, ◌++◌, ◌∷◌, [], false, filter, not, vec_len, IsTrue, IsOk, None, IfOk, OnOk, OnErr};
 ghost use Rattle.std.specs.Vec.{vec_capacity};
 ghost use Rattle.plant_core.specs.Changes.{alters_if, but_for};
 ghost use Rattle.gtt_table.specs.Adding.{add_refusal, Refuses, HasMemory};
@@ -8,7 +8,10 @@ ghost use Rattle.sccp_address.specs.Form.{seen};
 
 use crate::answer::{Answer, Ask, Origin, Rewrite, RouteCause};
 use crate::change::{Change, Verdict};
-use crate::statuses::{RemoteSubsystem, put, take_point_out, take_subsystem_out, take_user_out};
+use crate::statuses::{
+    BarredPoints, BarredSubsystems, has_point, has_subsystem, points_of, put_point, put_subsystem,
+    put_user, subsystems_of, take_point_out, take_subsystem_out, take_user_out,
+};
 use gtt_table::{AddFault, Entity, Look, Row, Table};
 use relay_base::{Digits, Memory, Pc, Ssn};
 use sccp_address::Selector;
@@ -22,8 +25,8 @@ pub struct Plant {
     own: Pc,
     users: Vec<Ssn>,
     rows: Table,
-    barred_points: Vec<Pc>,
-    barred_subsystems: Vec<RemoteSubsystem>,
+    barred_points: BarredPoints,
+    barred_subsystems: BarredSubsystems,
     out_of_service: Vec<Ssn>,
     edition: u64,
 }
@@ -31,6 +34,7 @@ pub struct Plant {
 impl Model for Plant {
     ghost use Rattle.std.specs.Prelude.{◌&&◌, nat_lt, vec_len};
     ghost use Rattle.std.specs.Vec.{vec_capacity};
+    ghost use Rattle.indexmap.specs.IndexSet.{spare};
     ghost use Rattle.plant_core.specs.Plant.{PlantState};
 
     ghost Value = { PlantState };
@@ -40,14 +44,14 @@ impl Model for Plant {
         own = p.own;
         users = p.users.items;
         rows = p.rows.rows;
-        barred_points = p.barred_points.items;
-        barred_subsystems = p.barred_subsystems.items;
+        barred_points = p.barred_points.keys;
+        barred_subsystems = p.barred_subsystems.keys;
         out_of_service = p.out_of_service.items;
       };
       edition = p.edition;
       has_room = p.rows.has_room
-          && nat_lt (vec_len p.barred_points) (vec_capacity p.barred_points)
-          && nat_lt (vec_len p.barred_subsystems) (vec_capacity p.barred_subsystems)
+          && nat_lt 0 (spare p.barred_points)
+          && nat_lt 0 (spare p.barred_subsystems)
           && nat_lt (vec_len p.out_of_service) (vec_capacity p.out_of_service);
     } };
 }
@@ -68,8 +72,8 @@ impl Plant {
             own: point,
             users: Vec::from_slice(alloc, users)?,
             rows: Table::new(alloc),
-            barred_points: Vec::new(alloc),
-            barred_subsystems: Vec::new(alloc),
+            barred_points: BarredPoints::new(alloc),
+            barred_subsystems: BarredSubsystems::new(alloc),
             out_of_service: Vec::new(alloc),
             edition: 0,
         })
@@ -110,8 +114,8 @@ impl Plant {
             own: self.own,
             users: self.users.clone()?,
             rows: self.rows.copy()?,
-            barred_points: self.barred_points.clone()?,
-            barred_subsystems: self.barred_subsystems.clone()?,
+            barred_points: points_of(&self.barred_points)?,
+            barred_subsystems: subsystems_of(&self.barred_subsystems)?,
             out_of_service: self.out_of_service.clone()?,
             edition: self.edition,
         })
@@ -146,15 +150,13 @@ impl Plant {
     fn is_barred_point(&self, point: Pc) -> bool
         ensures { result ≡ is_among point self.now.routing.barred_points }
     {
-        self.barred_points.contains(&point)
+        has_point(&self.barred_points, point)
     }
 
     fn is_barred_subsystem(&self, point: Pc, ssn: Ssn) -> bool
         ensures { result ≡ is_barred_subsystem self.now.routing point ssn }
     {
-        self.barred_subsystems
-            .iter()
-            .any(|remote| remote.point == point && remote.ssn == ssn)
+        has_subsystem(&self.barred_subsystems, point, ssn)
     }
 
     fn is_barred_at(&self, point: Pc, ssn: Option<Ssn>) -> bool
@@ -228,13 +230,25 @@ impl Plant {
     }
 
     #[tactic(auto, unfolding(crate::specs::Changes::changed))]
+    fn bar_point(&mut self, point: Pc) -> Result<(), Memory>
+        requires { is_among point self.old.routing.barred_points ≡ false }
+        ensures ok { OnOk result (self.new.routing ≡ changed self.old.routing (change.BarPoint point)) }
+        ensures err { OnErr result (self.new.routing ≡ self.old.routing) }
+        ensures edition { self.new.edition ≡ self.old.edition }
+        ensures memory { IsTrue self.old.has_room → IsOk result }
+    {
+        put_point(&mut self.barred_points, point)
+    }
+
+    #[tactic(auto, unfolding(crate::specs::Changes::changed))]
     fn bar_subsystem(&mut self, point: Pc, ssn: Ssn) -> Result<(), Memory>
+        requires { is_barred_subsystem self.old.routing point ssn ≡ false }
         ensures ok { OnOk result (self.new.routing ≡ changed self.old.routing (change.BarSub point ssn)) }
         ensures err { OnErr result (self.new.routing ≡ self.old.routing) }
         ensures edition { self.new.edition ≡ self.old.edition }
         ensures memory { IsTrue self.old.has_room → IsOk result }
     {
-        put(&mut self.barred_subsystems, &RemoteSubsystem { point, ssn })
+        put_subsystem(&mut self.barred_subsystems, point, ssn)
     }
 
     /// Makes a change that alters the routing data.
@@ -251,7 +265,7 @@ impl Plant {
             Change::DelRow(selector, prefix) => {
                 let _ = self.rows.remove(selector, prefix);
             }
-            Change::BarPoint(point) => return put(&mut self.barred_points, point),
+            Change::BarPoint(point) => return self.bar_point(*point),
             Change::FreePoint(point) => take_point_out(&mut self.barred_points, *point),
             Change::BarSub(point, ssn) => return self.bar_subsystem(*point, *ssn),
             Change::FreeSub(point, ssn) => take_subsystem_out(
@@ -260,7 +274,7 @@ impl Plant {
                 *ssn,
             ),
             Change::LocalUp(ssn) => take_user_out(&mut self.out_of_service, *ssn),
-            Change::LocalDown(ssn) => return put(&mut self.out_of_service, ssn),
+            Change::LocalDown(ssn) => return put_user(&mut self.out_of_service, *ssn),
         }
         Ok(())
     }
