@@ -1,5 +1,5 @@
 -- SCCP management (Q.714): what each event of the control lane does, and a legal control journal.
-use Rattle.std.specs.Prelude.{◌≡◌, ℕ, pred, ◌+◌, ◌*◌, ◌==◌, ◌&&◌, ◌||◌, nat_lt, nat_le, not, Bool, true, false, List, [], ◌∷◌, ◌++◌, map, filter, find, min, if◌then◌else◌, Option, Some, None, option_map, option_to_list}
+use Rattle.std.specs.Prelude.{◌≡◌, ℕ, pred, ◌+◌, ◌*◌, ◌==◌, ◌&&◌, ◌||◌, nat_lt, nat_le, not, Bool, true, false, List, [], ◌∷◌, ◌++◌, map, filter, find, fold, min, if◌then◌else◌, Option, Some, None, option_map, option_to_list}
 use Rattle.std.specs.List.{list_any, insert, position_or_len, range_with_len}
 use Rattle.relay_base.specs.declared.words.Output.{Output}
 use Rattle.relay_base.specs.declared.words.Output.TheVariants.{Told, Lost as Dropped}
@@ -34,7 +34,7 @@ use Rattle.scmg.specs.declared.message.Format.TheVariants.{Allowed, Prohibited, 
 use Rattle.scmg.specs.declared.message.Notice.{Notice}
 use Rattle.scmg.specs.Messages.{sent, notice_in, data_in}
 
--- What the control lane keeps: the routing data; the status tests, by rising point and subsystem; the coordinated changes that were
+-- What the control lane keeps: the routing data; the status tests, in the order in which they began; the coordinated changes that were
 -- asked for, by rising subsystem; and the requests to go out of service that a user may still grant.
 pub record Control : Type 0 where
   pub routing : RoutingData
@@ -210,8 +210,26 @@ test_sent t = sent t.point Tested t.ssn t.point
 abbrev pub denied : Coordination → Output
 denied x = Told x.ssn (tell.Denied x.point)
 
+-- a test stands before those of later points, and of later subsystems of its point
+abbrev pub is_test_before : StatusTest → StatusTest → Bool
+is_test_before t other = nat_lt t.point other.point || (t.point == other.point && nat_lt t.ssn other.ssn)
+
+-- puts a test among others by rising point and subsystem, in place of one of its subsystem
+abbrev pub in_place : List StatusTest → StatusTest → List StatusTest
+in_place [] t = t ∷ []
+in_place (other ∷ more) t =
+    if is_test_before t other then t ∷ other ∷ more
+    else if t.point == other.point && t.ssn == other.ssn then t ∷ more
+    else other ∷ in_place more t
+
+abbrev pub by_subsystem : List StatusTest → List StatusTest
+by_subsystem tests = fold in_place [] tests
+
+abbrev pub tests_sent : List StatusTest → List Output
+tests_sent tests = map test_sent (by_subsystem (filter is_due_test tests))
+
 abbrev pub ticks : Control → Effect
-ticks c = record { outs = map test_sent (filter is_due_test c.tests) ++ map denied (filter is_due_coordination c.coordinations); act = Tick }
+ticks c = record { outs = tests_sent c.tests ++ map denied (filter is_due_coordination c.coordinations); act = Tick }
 
 unfoldable pub effect_of : ControlHead → Control → ControlEvent → Effect
 effect_of head c (Changing change) = changes head c change
@@ -221,28 +239,22 @@ effect_of head c (Plain TickEvent) = ticks c
 
 -- What an act leaves.
 
--- a test stands before those of later points, and of later subsystems of its point
-abbrev pub is_test_before : StatusTest → StatusTest → Bool
-is_test_before t other = nat_lt t.point other.point || (t.point == other.point && nat_lt t.ssn other.ssn)
-
-abbrev pub with_test : StatusTest → List StatusTest → List StatusTest
-with_test t tests = insert tests (position_or_len (is_test_before t) tests) t
-
 abbrev pub is_test_of : ℕ → ℕ → StatusTest → Bool
 is_test_of point ssn t = t.point == point && t.ssn == ssn
 
 -- a test begins with its subsystem's going out of service, and ends with its coming back
 abbrev pub tests_after : Ticks → Change → List StatusTest → List StatusTest
-tests_after ticks (BarSub point ssn) tests = with_test (record { point = point; ssn = ssn; left = ticks.status; interval = ticks.status }) tests
+tests_after ticks (BarSub point ssn) tests = tests ++ record { point = point; ssn = ssn; left = ticks.status; interval = ticks.status } ∷ []
 tests_after ticks (FreeSub point ssn) tests = filter (λ t. not (is_test_of point ssn t)) tests
 tests_after ticks _ tests = tests
 
 -- a test that was sent has twice the ticks, but no more than the most
+abbrev pub next_interval : Ticks → StatusTest → ℕ
+next_interval ticks t = min (2 * t.interval) ticks.status_max
+
 abbrev pub test_after_tick : Ticks → StatusTest → StatusTest
-test_after_tick ticks t = if is_due_test t then again (min (2 * t.interval) ticks.status_max) else record t { left = pred t.left }
-  where
-    again : ℕ → StatusTest
-    again interval = record t { left = interval; interval = interval }
+test_after_tick ticks t =
+    if is_due_test t then record t { left = next_interval ticks t; interval = next_interval ticks t } else record t { left = pred t.left }
 
 abbrev pub is_coordination_before : Coordination → Coordination → Bool
 is_coordination_before x other = nat_lt x.ssn other.ssn

@@ -1,3 +1,4 @@
 pub mod Control
 pub mod Lane
 pub mod Messages
+pub mod Tests

@@ -1,7 +1,8 @@
 //! What comes of an event of the control lane.
 ghost use Rattle.std.specs.Prelude.{◌≡◌, ◌++◌, [], ◌∷◌, map, filter, IfOk};
+ghost use Rattle.std.specs.BTreeMap.{values};
 ghost use Rattle.scmg.specs.Messages.{data_in};
-ghost use Rattle.scmg.specs.Control.{is_due_test, is_due_coordination, test_sent, denied, only, one, quiet, dropped, refused, is_by_operator, refusal, is_replicate, replicate_of, publishes, changes, announced, tested, asked_out, granted, hears_notice, hears_data, hears, coordinates_with, grants, asks, ticks, effect_of, change_of};
+ghost use Rattle.scmg.specs.Control.{is_due_coordination, test_sent, by_subsystem, denied, only, one, quiet, dropped, refused, is_by_operator, refusal, is_replicate, replicate_of, publishes, changes, announced, tested, asked_out, granted, hears_notice, hears_data, hears, coordinates_with, grants, asks, ticks, effect_of, change_of};
 
 use crate::head::ControlHead;
 use crate::kept::Kept;
@@ -11,6 +12,7 @@ use crate::timed::{Coordination, StatusTest};
 use plant_core::{Change, ControlEvent, RemoteSubsystem, Replicate, Verdict};
 use relay_base::{Event, Lost, Memory, Output, Outs, Pc, Reason, Request, Ssn, Tell};
 use std::alloc::Global;
+use std::collections::BTreeMap;
 
 /// What is done with what the lane keeps.
 #[derive(Clone, Copy, Debug, PartialEq, Eq)]
@@ -135,15 +137,33 @@ fn test_sent(alloc: Global, test: &StatusTest) -> Result<Output, Memory>
     sent(alloc, test.point, Format::StatusTest, test.ssn, test.point)
 }
 
-/// The status tests that the next tick sends.
-fn tests_sent(alloc: Global, tests: &[StatusTest]) -> Result<Outs, Memory>
-    ensures { IfOk result (λ outs. outs ≡ map test_sent (filter is_due_test tests.now)) }
+/// Tests by rising point and subsystem.
+type Placed = BTreeMap<(u32, u32), StatusTest>;
+
+fn placed(alloc: Global, tests: &[StatusTest]) -> Result<Placed, Memory>
+    ensures { IfOk result (λ placed. values placed ≡ by_subsystem tests.now) }
 {
-    let mut outs = Outs::new(alloc);
+    let mut placed = BTreeMap::new(alloc);
     for test in tests {
-        if test.is_due() {
-            outs.push(test_sent(alloc, test)?)?;
-        }
+        placed.insert((test.point.number(), test.ssn.number()), *test)?;
+    }
+    Ok(placed)
+}
+
+fn by_subsystem(alloc: Global, tests: &[StatusTest]) -> Result<Vec<StatusTest>, Memory>
+    ensures { IfOk result (λ placed. placed.items ≡ by_subsystem tests.now) }
+{
+    Ok(placed(alloc, tests)?.into_values().collect(alloc)?)
+}
+
+/// The status tests that are due, by rising point and subsystem.
+fn tests_sent(alloc: Global, due: &[StatusTest]) -> Result<Outs, Memory>
+    ensures { IfOk result (λ outs. outs ≡ map test_sent (by_subsystem due.now)) }
+{
+    let tests = by_subsystem(alloc, due)?;
+    let mut outs = Outs::new(alloc);
+    for test in &tests {
+        outs.push(test_sent(alloc, test)?)?;
     }
     Ok(outs)
 }
@@ -319,7 +339,8 @@ impl Context<'_> {
     fn ticks(&self) -> Result<Effect, Memory>
         ensures { IfOk result (λ effect. effect ≡ ticks self.now.kept.now.control) }
     {
-        let sent = tests_sent(self.alloc, self.kept.tests())?;
+        let due = self.kept.due_tests(self.alloc)?;
+        let sent = tests_sent(self.alloc, &due)?;
         Ok(Effect {
             outs: put_denied(self.kept.coordinations(), sent)?,
             act: Act::Tick,

@@ -1,12 +1,12 @@
 //! What the control lane keeps, and what an act does with it.
-ghost use Rattle.std.specs.Prelude.{◌≡◌, ◌+◌, ◌^◌, ◌<◌, ◌≤◌, vec_len, IsTrue, IsOk, OnOk};
+ghost use Rattle.std.specs.Prelude.{◌≡◌, ◌+◌, ◌^◌, ◌<◌, ◌≤◌, filter, vec_len, IsTrue, IsOk, IfOk, OnOk};
 ghost use Rattle.std.specs.Vec.{vec_capacity};
-ghost use Rattle.scmg.specs.Control.{without_grant, with_grant};
+ghost use Rattle.scmg.specs.Control.{is_due_test, without_grant, with_grant};
 
 use crate::effect::Act;
+use crate::status_tests::StatusTests;
 use crate::timed::{
-    Coordination, StatusTest, drop_coordination, drop_test, put_coordination, put_test,
-    tick_coordinations, tick_tests,
+    Coordination, StatusTest, drop_coordination, put_coordination, tick_coordinations,
 };
 use plant_core::{Change, Plant, RemoteSubsystem, Replicate, Ticks};
 use relay_base::{Memory, Pc, Ssn};
@@ -17,7 +17,7 @@ use std::marker::Model;
 #[derive(Drop)]
 pub struct Kept {
     plant: Plant,
-    tests: Vec<StatusTest>,
+    tests: StatusTests,
     coordinations: Vec<Coordination>,
     grants: Vec<RemoteSubsystem>,
 }
@@ -32,13 +32,13 @@ impl Model for Kept {
     ghost view = { λ k. record {
       control = record {
         routing = k.plant.routing;
-        tests = k.tests.items;
+        tests = k.tests.tests;
         coordinations = k.coordinations.items;
         grants = k.grants.items;
       };
       edition = k.plant.edition;
       has_room = k.plant.has_room
-          && nat_lt (vec_len k.tests) (vec_capacity k.tests)
+          && k.tests.has_room
           && nat_lt (vec_len k.coordinations) (vec_capacity k.coordinations)
           && nat_lt (vec_len k.grants) (vec_capacity k.grants);
     } };
@@ -73,7 +73,7 @@ impl Kept {
     {
         Kept {
             plant,
-            tests: Vec::new(alloc),
+            tests: StatusTests::new(alloc),
             coordinations: Vec::new(alloc),
             grants: Vec::new(alloc),
         }
@@ -87,11 +87,11 @@ impl Kept {
         &self.plant
     }
 
-    /// The status tests, by rising point and subsystem.
-    pub fn tests(&self) -> &[StatusTest]
-        ensures { result.now ≡ self.now.control.tests }
+    /// The status tests that the next tick sends, in the order in which they began.
+    pub fn due_tests(&self, alloc: Global) -> Result<Vec<StatusTest>, Memory>
+        ensures { IfOk result (λ due. due.items ≡ filter is_due_test self.now.control.tests) }
     {
-        self.tests.as_slice()
+        self.tests.due(alloc)
     }
 
     /// The coordinated changes under way, by rising subsystem.
@@ -133,7 +133,7 @@ impl Kept {
         ensures room { OnOk result (IsTrue self.new.has_room) }
     {
         self.plant.make_room()?;
-        self.tests.reserve(1)?;
+        self.tests.make_room()?;
         self.coordinations.reserve(1)?;
         self.grants.reserve(1)?;
         Ok(())
@@ -151,17 +151,9 @@ impl Kept {
     {
         self.plant.absorb(&change)?;
         match change {
-            Change::BarSub(point, ssn) => put_test(
-                &mut self.tests,
-                StatusTest {
-                    point,
-                    ssn,
-                    left: ticks.status,
-                    interval: ticks.status,
-                },
-            ),
+            Change::BarSub(point, ssn) => self.tests.begin(point, ssn, ticks.status),
             Change::FreeSub(point, ssn) => {
-                drop_test(&mut self.tests, point, ssn);
+                self.tests.end(point, ssn);
                 Ok(())
             }
             _ => Ok(()),
@@ -202,7 +194,7 @@ impl Kept {
             Act::Begin(replicate) => return self.begin(ticks, replicate),
             Act::End(ssn) => drop_coordination(&mut self.coordinations, ssn),
             Act::Tick => {
-                tick_tests(&mut self.tests, ticks);
+                self.tests.tick(ticks);
                 tick_coordinations(&mut self.coordinations);
             }
         }

@@ -6,7 +6,7 @@ use crate::effect::{Act, Context, Effect};
 use crate::head::ControlHead;
 use crate::kept::Kept;
 use crate::publish::Publish;
-use plant_core::{Change, ControlEntry, ControlEvent, ControlList, Plant, Ticks};
+use plant_core::{Change, ControlEntry, ControlEvent, ControlList, Plant, Ticks, fitted};
 use relay_base::{Memory, Stamp};
 use std::alloc::{AllocError, Global};
 use std::marker::Model;
@@ -63,7 +63,7 @@ fn prepare(
         stamp,
         event: event_of(event)?,
         published: None,
-        outs,
+        outs: fitted(outs),
     };
     Ok((entry, act))
 }

@@ -8,6 +8,7 @@ mod known;
 mod lane;
 mod message;
 mod publish;
+mod status_tests;
 #[cfg(test)]
 mod tests;
 mod timed;

@@ -356,6 +356,47 @@ fn tests_a_subsystem_that_is_out(rt: HostRuntime) -> Result<(), Fail> {
     Ok(())
 }
 
+/// Subsystem 9 goes out before subsystem 8: tests that are due together leave by rising subsystem.
+#[test]
+fn sends_tests_by_subsystem(rt: HostRuntime) -> Result<(), Fail> {
+    let alloc = rt.alloc();
+    let mut scene = Scene::new(alloc)?;
+    for ssn in [9, 8] {
+        let out = event_of(alloc, Line::Arrives(2, ssn, FAR))?;
+        scene.take(&out)?;
+    }
+    assert!(rt; scene.is_quiet_for(1)?);
+    scene.take(&event_of(alloc, Line::Tick)?)?;
+    let mut outs = Outs::new(alloc);
+    for ssn in [8, 9] {
+        outs.push(output_of(alloc, Came::Sent(300, 3, ssn, FAR))?)?;
+    }
+    match scene.lane.journal().as_slice().last() {
+        Some(entry) => assert!(rt; entry.outs == outs),
+        None => panic!(rt; "no entry"),
+    }
+    Ok(())
+}
+
+/// Subsystem 9 goes out a tick before subsystem 8, and each has its own ticks.
+#[test]
+fn counts_the_ticks_of_each_test(rt: HostRuntime) -> Result<(), Fail> {
+    let alloc = rt.alloc();
+    let mut scene = Scene::new(alloc)?;
+    scene.take(&event_of(alloc, Line::Arrives(2, 9, FAR))?)?;
+    assert!(rt; scene.is_quiet_for(1)?);
+    scene.take(&event_of(alloc, Line::Arrives(2, 8, FAR))?)?;
+    for quiet in [0, 2] {
+        assert!(rt; scene.is_quiet_for(quiet)?, "{quiet} ticks");
+        let tests = [
+            (Line::Tick, None, Some(Came::Sent(300, 3, 9, FAR))),
+            (Line::Tick, None, Some(Came::Sent(300, 3, 8, FAR))),
+        ];
+        plays(&rt, &mut scene, &tests)?;
+    }
+    Ok(())
+}
+
 #[test]
 fn coordinates_with_a_replicate(rt: HostRuntime) -> Result<(), Fail> {
     let mut scene = Scene::new(rt.alloc())?;

@@ -1,7 +1,8 @@
 //! What waits for a tick.
-ghost use Rattle.std.specs.Prelude.{◌≡◌, ◌<◌, map, filter, not, position, vec_len, IsOk, OnOk, OnErr};
+ghost use Rattle.std.specs.Prelude.{◌≡◌, ◌<◌, ◌≤◌, map, filter, not, position, vec_len, IsOk, OnOk, OnErr};
 ghost use Rattle.std.specs.Vec.{vec_capacity};
-ghost use Rattle.scmg.specs.Control.{is_due_test, is_due_coordination, is_test_before, is_test_of, with_test, test_after_tick, is_coordination_before, with_coordination, without_coordination, lowered, coordinations_after_tick};
+ghost use Rattle.scmg.specs.Control.{is_due_test, is_due_coordination, test_after_tick, is_coordination_before, with_coordination, without_coordination, lowered, coordinations_after_tick};
+ghost use Rattle.scmg.specs.Tests.{after_quiet, armed};
 
 use plant_core::Ticks;
 use relay_base::{Memory, Pc, Ssn};
@@ -11,7 +12,7 @@ use relay_base::{Memory, Pc, Ssn};
 pub struct StatusTest {
     pub point: Pc,
     pub ssn: Ssn,
-    pub left: u32,
+    pub left: u64,
     pub interval: u32,
 }
 
@@ -31,12 +32,24 @@ impl StatusTest {
         self.left <= 1
     }
 
-    fn is_before(&self, other: &StatusTest) -> bool
-        ensures { result ≡ is_test_before self.now other.now }
+    /// The ticks that it has left, or the most that can be counted.
+    pub fn ticks_left(&self) -> u32
+        ensures { result ≤ self.now.left }
     {
-        let here = self.point.number();
-        let there = other.point.number();
-        here < there || (here == there && self.ssn.number() < other.ssn.number())
+        match u32::try_from(self.left) {
+            Ok(left) => left,
+            Err(_) => u32::MAX,
+        }
+    }
+
+    /// After so many ticks that didn't send it.
+    pub fn after_quiet(&self, passed: u32) -> StatusTest
+        ensures { result ≡ after_quiet passed self.now }
+    {
+        StatusTest {
+            left: self.left.saturating_sub(u64::from(passed)),
+            ..*self
+        }
     }
 
     /// After a tick: one that was sent has twice the ticks, but no more than the most.
@@ -46,7 +59,7 @@ impl StatusTest {
         if self.is_due() {
             let interval = self.interval.saturating_mul(2).min(ticks.status_max);
             StatusTest {
-                left: interval,
+                left: u64::from(interval),
                 interval,
                 ..*self
             }
@@ -56,6 +69,13 @@ impl StatusTest {
                 ..*self
             }
         }
+    }
+
+    /// After so many ticks that didn't send it, and one more.
+    pub fn armed(&self, passed: u32, ticks: &Ticks) -> StatusTest
+        ensures { result ≡ armed ticks.now passed self.now }
+    {
+        self.after_quiet(passed).after_tick(ticks)
     }
 }
 
@@ -80,39 +100,6 @@ impl Coordination {
             left: self.left.saturating_sub(1),
             ..*self
         }
-    }
-}
-
-fn test_place(tests: &[StatusTest], test: &StatusTest) -> Option<usize>
-    ensures { result ≡ position (is_test_before test.now) tests.now }
-{
-    tests.iter().position(|other| test.is_before(other))
-}
-
-/// Puts a test at its place.
-pub fn put_test(tests: &mut Vec<StatusTest>, test: StatusTest) -> Result<(), Memory>
-    ensures ok { OnOk result (tests.new.items ≡ with_test test tests.old.items) }
-    ensures err { OnErr result (tests.new.items ≡ tests.old.items) }
-    ensures memory { vec_len tests.old < vec_capacity tests.old → IsOk result }
-{
-    let place = test_place(tests, &test).unwrap_or(tests.len());
-    tests.insert(place, test)?;
-    Ok(())
-}
-
-/// Takes the test of a subsystem away.
-pub fn drop_test(tests: &mut Vec<StatusTest>, point: Pc, ssn: Ssn)
-    ensures { tests.new.items ≡ filter (λ t. not (is_test_of point ssn t)) tests.old.items }
-{
-    tests.retain(|test| !(test.point == point && test.ssn == ssn));
-}
-
-/// Lowers the ticks of each test, and arms those again that are sent.
-pub fn tick_tests(tests: &mut Vec<StatusTest>, ticks: &Ticks)
-    ensures { tests.new.items ≡ map (test_after_tick ticks.now) tests.old.items }
-{
-    for place in 0..tests.len() {
-        tests[place] = tests[place].after_tick(ticks);
     }
 }
 
