@@ -6,7 +6,7 @@ ghost use Rattle.data_lane.specs.Lane.{reduced};
 
 use crate::effect::{Context, Work};
 use crate::gathering::work_off;
-use plant_core::{Entry, EntryList, LaneHead, Plant};
+use plant_core::{Entry, EntryList, LaneHead, Plant, fitted};
 use reassembly::Bench;
 use relay_base::{Event, Memory, Pc, Stamp};
 use std::alloc::{AllocError, Global};
@@ -93,7 +93,7 @@ fn write(
         stamp,
         event,
         asked,
-        outs,
+        outs: fitted(outs),
     });
     Ok(())
 }
