@@ -8,7 +8,7 @@ use Rattle.section_model.specs.Step.{hears, end_is_gone, is_over}
 use Rattle.section_model.specs.Lane.{Opening, with_event, state_of, next, fed, gone_for, reference_of}
 use Rattle.section_model.proofs.Following.{one_more}
 use Rattle.conn_lane.specs.Keeping.{Keeping, Live, live_of, seat_by, seat_of, seat_after, keeping_of, keeping_after, ticks_in}
-use Rattle.conn_lane.specs.declared.kept.Seat.{Seat}
+use Rattle.conn_lane.specs.Keeping.{Seat}
 use Rattle.conn_lane.proofs.Gone.{gone_after, gone_next, gone_is_some}
 use Rattle.conn_lane.proofs.Over.{over_is_deaf, over_this, over_that}
 

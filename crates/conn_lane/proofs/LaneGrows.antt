@@ -1,7 +1,8 @@
 -- A lane with one more entry.
-use Rattle.std.proofs.Common.{◌≡◌, ℕ, ◌≤◌, ◌<◌, ◌+◌, ◌^◌, OnErr, Ok, Err, Bool, true, false, List, [], ◌∷◌, ◌++◌, length, map, refl, sym, subst, ap, ◌∙◌, arith, append-nil, length-append}
+use Rattle.std.proofs.Common.{◌≡◌, ℕ, ◌≤◌, ◌<◌, ◌+◌, ◌^◌, OnErr, Ok, Err, Bool, true, false, cond, List, [], ◌∷◌, ◌++◌, length, map, refl, sym, subst, ap, ◌∙◌, arith, append-nil, length-append}
 use Rattle.std.specs.declared.result.Result.{Result}
-use Rattle.std.specs.Prelude.{Option, Some, None, option_map, is_some}
+use Rattle.std.specs.Prelude.{Option, Some, None, option_map, is_some, IfSome}
+use Rattle.relay_base.specs.declared.words.Output.{Output}
 use Rattle.std.proofs.lemmas.List.{map-append}
 use Rattle.relay_base.specs.declared.words.Event.{Event}
 use Rattle.relay_base.specs.declared.words.Event.TheVariants.{Message as Arrived, Asked as Requested, Tick}
@@ -15,18 +16,21 @@ use Rattle.connectionless.specs.Asking.{Question}
 use Rattle.data_lane.specs.Legal.{asked_at, answer_in}
 use Rattle.section_model.specs.Ends.{Connection}
 use Rattle.section_model.specs.Opening.{Wish, by_cr, by_user, no_wish, wish_of, question_of, slots_needed, opened, Opened}
-use Rattle.section_model.specs.Lane.{Lane, Opening, with_event, opening_of, opening_list, openings_after, openings_from, legal_outputs, other_outputs, outputs_by, answer_of, IsLegalEntry}
+use Rattle.section_model.specs.Lane.{Lane, Opening, with_event, opening_of, opening_list, openings_after, openings_from, legal_outputs, other_outputs, outputs_by, answer_of, IsLegalEntry, stray_answer, is_tick}
 use Rattle.section_model.proofs.Growing.{grows}
 use Rattle.plant_core.specs.declared.terms.Ticks.{Ticks}
 use Rattle.section_coupling.specs.Duos.{DuoState, duo_at, taken_after}
 use Rattle.section_coupling.specs.Openings.{is_wish, IsAnswered}
-use Rattle.conn_lane.specs.Keeping.{Keeping, keeping_of, keeping_after, lowest_in, needed}
-use Rattle.conn_lane.specs.Views.{KeptState, keeping_all}
-use Rattle.conn_lane.specs.Lanes.{lane_of, conn_asked_of}
+use Rattle.conn_lane.specs.Keeping.{Keeping, keeping_of, keeping_after, first_part, all_parts, lowest_in, is_needed, needed}
+use Rattle.conn_lane.specs.Laws.{unheard}
+use Rattle.conn_lane.specs.Seated.{AreOrderly}
+use Rattle.conn_lane.specs.Views.{news}
+use Rattle.conn_lane.specs.Lanes.{OpeningsState, lane_of, conn_asked_of}
 use Rattle.conn_lane.specs.Turns.{opened_in, other_outs_in, outs_in, new_keeping, keeps_in, IsConnLane}
-use Rattle.conn_lane.specs.Grown.{Grows}
+use Rattle.conn_lane.specs.Grown.{Comes, Grows}
 use Rattle.conn_lane.proofs.Keeps.{keeps_all}
 use Rattle.conn_lane.proofs.Needless.{outs_needed, keeps_needed}
+use Rattle.conn_lane.proofs.NewSeats.{orderly_keeps}
 
 abbrev kept_of : Lane → List Opening → List Keeping
 kept_of lane openings = map (keeping_of lane.terms.ticks) openings
@@ -84,33 +88,48 @@ later taken (Arrived point sls bytes) n few = omega (arith, few)
 later taken (Requested ssn r) n few = omega (arith, few)
 later taken Tick n few = omega (arith, few)
 
-pub lane_grows : (plant : PlantState) (head : LaneHead) (number : ℕ) (journal : List Entry) (taken : ℕ) (kept kept' : List KeptState) (entry : Entry)
-    → IsConnLane head number journal taken kept false → Grows plant head number taken kept kept' entry
-    → IsConnLane head number (journal ++ entry ∷ []) (taken_after taken entry.event) kept' false
-lane_grows plant head number journal taken kept kept' entry lane more =
+pub needed_again : (keeps : List Keeping) → needed (needed keeps) ≡ needed keeps
+needed_again [] = refl
+needed_again (k ∷ keeps) = by_test (is_needed k) refl (needed_again keeps)
+  where
+    by_test : (b : Bool) → is_needed k ≡ b → needed (needed keeps) ≡ needed keeps → needed (cond b (k ∷ needed keeps) (needed keeps)) ≡ cond b (k ∷ needed keeps) (needed keeps)
+    by_test true is again = rw is (ap (λ ks. k ∷ ks) again)
+    by_test false is again = again
+
+pub lane_grows : (plant : PlantState) (head : LaneHead) (number : ℕ) (journal : List Entry) (before after : OpeningsState) (entry : Entry)
+    → IsConnLane head number journal (Some before) → Grows plant head number before after entry
+    → IsConnLane head number (journal ++ entry ∷ []) (Some after)
+lane_grows plant head number journal before after entry lane more =
     let openings = openings_from (lane_of head number) [] journal in
-    let same : keeping_all taken kept ≡ needed (kept_of (lane_of head number) openings) = lane.keeps refl in
+    let wish = wish_of head.terms entry.event in
+    let same : needed before.keeps ≡ needed (kept_of (lane_of head number) openings) = lane.keeps.keeps in
     let outs : entry.outs ≡ legal_outputs (lane_of head number) openings entry.event (answer_of entry) =
-    subst (λ keeps. entry.outs ≡ outs_in (lane_of head number) keeps entry.event (wish_of head.terms entry.event) (answer_of entry)) same more.outs
-    ∙ (sym (outs_needed (lane_of head number) (kept_of (lane_of head number) openings) entry.event (wish_of head.terms entry.event) (answer_of entry))
-    ∙ sym (outs-alike (lane_of head number) openings entry.event (answer_of entry))) in
+    more.outs
+    ∙ (outs_needed (lane_of head number) before.keeps entry.event wish (answer_of entry)
+    ∙ (ap (λ keeps. outs_in (lane_of head number) keeps entry.event wish (answer_of entry)) same
+    ∙ (sym (outs_needed (lane_of head number) (kept_of (lane_of head number) openings) entry.event wish (answer_of entry))
+    ∙ sym (outs-alike (lane_of head number) openings entry.event (answer_of entry))))) in
     let legal : IsLegalEntry (lane_of head number) openings entry =
-    record { routed = ap is_some more.asked ∙ routed plant.edition plant.routing (question_of (wish_of head.terms entry.event)); outputs = outs } in
+    record { routed = ap is_some more.asked ∙ routed plant.edition plant.routing (question_of wish); outputs = outs } in
     record {
       legal = grows (lane_of head number) journal entry lane.legal legal;
-      keeps = λ e.
-          subst (λ keeps. keeping_all (taken_after taken entry.event) kept' ≡ needed (keeps_in (lane_of head number) keeps entry.event (wish_of head.terms entry.event) (answer_of entry))) same more.keeps
-          ∙ (sym (keeps_needed (lane_of head number) (kept_of (lane_of head number) openings) entry.event (wish_of head.terms entry.event) (answer_of entry))
-          ∙ (ap needed (sym (keeps-alike (lane_of head number) openings entry.event (answer_of entry)))
-          ∙ ap (λ os. needed (kept_of (lane_of head number) os)) (sym (openings-more (lane_of head number) [] journal entry))));
-      few = rw (length-append journal (entry ∷ [])) (later taken entry.event (length journal) lane.few);
+      keeps = record {
+        keeps =
+            more.keeps
+            ∙ (keeps_needed (lane_of head number) before.keeps entry.event wish (answer_of entry)
+            ∙ (ap (λ keeps. needed (keeps_in (lane_of head number) keeps entry.event wish (answer_of entry))) same
+            ∙ (sym (keeps_needed (lane_of head number) (kept_of (lane_of head number) openings) entry.event wish (answer_of entry))
+            ∙ (ap needed (sym (keeps-alike (lane_of head number) openings entry.event (answer_of entry)))
+            ∙ ap (λ os. needed (kept_of (lane_of head number) os)) (sym (openings-more (lane_of head number) [] journal entry))))));
+        few = rw (more.taken, length-append journal (entry ∷ [])) (later before.taken entry.event (length journal) lane.keeps.few);
+      };
       lanes = lane.lanes;
       credit = lane.credit;
     }
 
 -- want of memory spoils what is kept, and nothing else
-pub lane_spent : (head : LaneHead) (number : ℕ) (journal : List Entry) (taken : ℕ) (kept kept' : List KeptState) (b : Bool) → IsConnLane head number journal taken kept b → IsConnLane head number journal taken kept' true
-lane_spent head number journal taken kept kept' b lane = record { legal = lane.legal; keeps = λ e. absurd (cc); few = lane.few; lanes = lane.lanes; credit = lane.credit }
+pub lane_spent : (head : LaneHead) (number : ℕ) (journal : List Entry) (openings : Option OpeningsState) → IsConnLane head number journal openings → IsConnLane head number journal None
+lane_spent head number journal openings lane = record { legal = lane.legal; keeps = tt; lanes = lane.lanes; credit = lane.credit }
 
 -- An event that opens no connection, and one that opens one.
 
@@ -177,7 +196,87 @@ pub on_err : {A E : Type 0} (r : Result A E) (P : Type 0) → P → OnErr r P
 on_err (Ok a) P p = tt
 on_err (Err e) P p = p
 
-pub opened_after : (ticks : Ticks) (t taken : ℕ) (kept1 kept2 : List KeptState) (duo : Option DuoState) (keeps : List Keeping) → t ≡ taken → keeping_all t kept2 ≡ keeping_all t kept1 ++ new_keeping ticks (option_map (duo_at t) duo) → keeping_all t kept1 ≡ keeps
-    → keeping_all t kept2 ≡ keeps ++ new_keeping ticks (option_map (duo_at taken) duo)
-opened_after ticks t taken kept1 kept2 duo keeps same e f =
-    e ∙ (ap (λ more. more ++ new_keeping ticks (option_map (duo_at t) duo)) f ∙ ap (λ n. keeps ++ new_keeping ticks (option_map (duo_at n) duo)) same)
+-- What comes of an event.
+
+news_are : (ticks : Ticks) (taken : ℕ) (duo : Option DuoState) → IfSome duo (λ d. d.ticks ≡ ticks) → news taken duo ≡ new_keeping ticks (option_map (duo_at taken) duo)
+news_are ticks taken None is = refl
+news_are ticks taken (Some d) is = ap (λ t. keeping_of t (record { first = duo_at taken d; since = [] }) ∷ []) is
+
+pub open_untimed : (terms : Terms) (event : Event) → is_wish (wish_of terms event) ≡ true → is_tick event ≡ false
+unfolding wish_of
+open_untimed terms (Arrived point sls bytes) e = refl
+open_untimed terms (Requested ssn r) e = refl
+open_untimed terms Tick e = absurd (cc)
+
+-- an event that opens a connection
+pub open_comes : (plant : PlantState) (head : LaneHead) (number : ℕ) (event : Event) (before after : OpeningsState) (routing : Option Asked) (duo : Option DuoState) (outputs : List Output)
+    → is_wish (wish_of head.terms event) ≡ true → routing ≡ conn_asked_of head plant event
+    → opened_in (lane_of head number) before.keeps (wish_of head.terms event) (answer_in routing) ≡ record { connection = option_map (duo_at before.taken) duo; outs = outputs }
+    → IfSome duo (λ d. d.ticks ≡ head.terms.ticks) → after ≡ record { taken = before.taken; keeps = map (keeping_after event) before.keeps ++ news before.taken duo }
+    → Comes plant head number event before after routing outputs
+open_comes plant head number event before after routing duo outputs wish asked opens ticks is =
+    let lane : Lane = lane_of head number in
+    record {
+      asked = asked;
+      outs = opened_outs lane before.keeps event (wish_of head.terms event) (answer_in routing) (record { connection = option_map (duo_at before.taken) duo; outs = outputs }) wish opens;
+      taken = ap (λ o. o.taken) is ∙ sym (open_taken head.terms before.taken event wish);
+      keeps = ap needed
+          (opened_keeps lane before.keeps event (wish_of head.terms event) (answer_in routing) (record { connection = option_map (duo_at before.taken) duo; outs = outputs }) after.keeps opens
+          (ap (λ o. o.keeps) is ∙ ap (λ ks. map (keeping_after event) before.keeps ++ ks) (news_are head.terms.ticks before.taken duo ticks)));
+    }
+
+-- what is kept with the new connection is orderly
+pub open_orderly : (head : LaneHead) (number : ℕ) (event : Event) (before : OpeningsState) (answer : Option Answer) (duo : Option DuoState) (outputs : List Output) (after : OpeningsState) → number < 16 → AreOrderly before.keeps
+    → opened_in (lane_of head number) before.keeps (wish_of head.terms event) answer ≡ record { connection = option_map (duo_at before.taken) duo; outs = outputs }
+    → IfSome duo (λ d. d.ticks ≡ head.terms.ticks) → after ≡ record { taken = before.taken; keeps = map (keeping_after event) before.keeps } → AreOrderly (after.keeps ++ news after.taken duo)
+open_orderly head number event before answer duo outputs after within orderly opens ticks is =
+    let lane : Lane = lane_of head number in
+    subst (λ o. AreOrderly (o.keeps ++ news o.taken duo)) (sym is)
+    (subst (λ ks. AreOrderly (map (keeping_after event) before.keeps ++ ks))
+    (ap (λ o. new_keeping head.terms.ticks o.connection) opens ∙ sym (news_are head.terms.ticks before.taken duo ticks))
+    (orderly_keeps lane before.keeps event (wish_of head.terms event) answer within orderly))
+
+others_untimed : (keeps : List Keeping) (event : Event) → is_tick event ≡ false → other_outs_in keeps event ≡ unheard (first_part event keeps) (stray_answer event)
+others_untimed keeps (Arrived point sls bytes) e = refl
+others_untimed keeps (Requested ssn r) e = refl
+others_untimed keeps Tick e = absurd (cc)
+
+untimed : (taken : ℕ) (event : Event) → is_tick event ≡ false → taken_after taken event ≡ taken
+untimed taken (Arrived point sls bytes) e = refl
+untimed taken (Requested ssn r) e = refl
+untimed taken Tick e = absurd (cc)
+
+-- an event that a connection may hear
+pub hear_comes : (plant : PlantState) (head : LaneHead) (number : ℕ) (event : Event) (before after : OpeningsState) (part : Option (List Output)) (outputs : List Output)
+    → is_tick event ≡ false → is_wish (wish_of head.terms event) ≡ false → part ≡ first_part event before.keeps → outputs ≡ unheard part (stray_answer event)
+    → after ≡ record { taken = before.taken; keeps = map (keeping_after event) before.keeps } → Comes plant head number event before after None outputs
+hear_comes plant head number event before after part outputs no_tick wish parts outs is =
+    let lane : Lane = lane_of head number in
+    record {
+      asked = sym (none_asked_of head plant event wish);
+      outs =
+          outs
+          ∙ (ap (λ p. unheard p (stray_answer event)) parts
+          ∙ (sym (others_untimed before.keeps event no_tick) ∙ other_outs lane before.keeps event (wish_of head.terms event) None wish));
+      taken = ap (λ o. o.taken) is ∙ sym (untimed before.taken event no_tick);
+      keeps = ap needed (ap (λ o. o.keeps) is ∙ other_keeps lane before.keeps event (wish_of head.terms event) None wish);
+    }
+
+no_wish_of_tick : (terms : Terms) → is_wish (wish_of terms Tick) ≡ false
+unfolding wish_of
+no_wish_of_tick terms = refl
+
+-- a tick
+pub tick_comes : (plant : PlantState) (head : LaneHead) (number : ℕ) (before after : OpeningsState) (outputs : List Output) → outputs ≡ all_parts Tick before.keeps
+    → after ≡ record { taken = before.taken + 1; keeps = needed (map (keeping_after Tick) before.keeps) } → Comes plant head number Tick before after None outputs
+tick_comes plant head number before after outputs outs is =
+    let lane : Lane = lane_of head number in
+    let wish = no_wish_of_tick head.terms in
+    record {
+      asked = sym (none_asked_of head plant Tick wish);
+      outs = outs ∙ other_outs lane before.keeps Tick (wish_of head.terms Tick) None wish;
+      taken = ap (λ o. o.taken) is;
+      keeps =
+          ap (λ o. needed o.keeps) is
+          ∙ (needed_again (map (keeping_after Tick) before.keeps) ∙ ap needed (other_keeps lane before.keeps Tick (wish_of head.terms Tick) None wish));
+    }

@@ -1,11 +1,17 @@
-pub mod Unheard
-mod SlotsMarked
-pub mod Gone
-pub mod Over
-pub mod After
-pub mod Free
-pub mod Heard
-pub mod Keeps
-pub mod Parts
-pub mod Needless
-pub mod LaneGrows
+mod After
+mod Free
+mod Gone
+mod Heard
+mod Holds
+mod Keeps
+mod LaneGrows
+mod Marked
+mod Needless
+mod Over
+mod Parts
+mod Seated
+mod Apart
+mod HeardAt
+mod NewSeats
+mod Indexed
+mod Found

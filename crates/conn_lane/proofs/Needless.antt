@@ -10,7 +10,7 @@ use Rattle.relay_base.specs.declared.words.Event.TheVariants.{Message as Arrived
 use Rattle.plant_core.specs.declared.answer.Answer.{Answer}
 use Rattle.section_model.specs.Opening.{Wish, by_cr, by_user, no_wish, slots_needed, opened}
 use Rattle.section_model.specs.Lane.{Lane, slot_of, enough, stray_answer}
-use Rattle.conn_lane.specs.declared.kept.Seat.{Seat}
+use Rattle.conn_lane.specs.Keeping.{Seat}
 use Rattle.conn_lane.specs.Keeping.{Live, Keeping, ticks_in, seat_after, keeping_after, part_at, first_of, first_part, or_none, all_parts, sits, takes_slot, lowest_in, holds_out, is_needed, needed}
 use Rattle.conn_lane.specs.Views.{KeptState, keeping_at, keeping_all}
 use Rattle.conn_lane.specs.Laws.{unheard}

@@ -7,15 +7,18 @@ use Rattle.plant_core.specs.declared.terms.Ticks.{Ticks}
 use Rattle.section_model.specs.Ends.{End, Connection}
 use Rattle.section_model.specs.Step.{connection_step, hears, end_is_gone, is_over}
 use Rattle.section_model.specs.Lane.{Lane, Opening, state_of, fed, gone_for, reference_of, slot_of, enough, is_tick}
-use Rattle.conn_lane.specs.declared.kept.Seat.{Seat}
 
 -- a connection that isn't over, with the ticks of its timers
 pub record Live : Type 0 where
   pub ticks : Ticks
   pub connection : Connection
 
--- an opening: its connection until that is over, and for each of its ends the reference that it took, with the ticks for which that stays
--- frozen once the end is gone
+-- the reference that an end took, and the ticks for which it stays frozen once the end is gone
+pub record Seat : Type 0 where
+  pub mine : ℕ
+  pub left : Option ℕ
+
+-- an opening: its connection until that is over, and the seat of each of its ends
 pub record Keeping : Type 0 where
   pub live : Option Live
   pub this : Option Seat
@@ -127,3 +130,11 @@ is_needed k = is_some k.live || holds_out k.this || holds_out k.that
 
 abbrev pub needed : List Keeping → List Keeping
 needed keeps = filter is_needed keeps
+
+-- a reference of it is free again
+abbrev pub is_freed : Option Seat → Bool
+is_freed None = false
+is_freed (Some s) = is_frozen_out s.left
+
+abbrev pub has_freed : Keeping → Bool
+has_freed k = is_freed k.this || is_freed k.that

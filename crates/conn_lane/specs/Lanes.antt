@@ -9,11 +9,17 @@ use Rattle.plant_core.specs.declared.terms.LaneHead.{LaneHead}
 use Rattle.data_lane.specs.Legal.{asked_at}
 use Rattle.section_model.specs.Opening.{wish_of, question_of}
 use Rattle.section_model.specs.Lane.{Lane, IsConnectionJournal}
+use Rattle.conn_lane.specs.Keeping.{Keeping}
 
 pub record ConnLaneState : Type 0 where
   pub head : LaneHead
   pub number : ℕ
   pub journal : List Entry
+
+-- how many ticks a lane has taken, and what it keeps of its openings
+pub record OpeningsState : Type 0 where
+  pub taken : ℕ
+  pub keeps : List Keeping
 
 abbrev pub lane_of : LaneHead → ℕ → Lane
 lane_of head number = record { terms = head.terms; number = number }

@@ -1,7 +1,9 @@
 pub mod Lanes
 pub mod Keeping
+pub mod Seated
 pub mod Views
-pub mod Slots
+pub mod Index
+pub mod Finding
 pub mod Laws
 pub mod Turns
 pub mod Grown

@@ -1,5 +1,5 @@
 -- What comes of an event in a connection lane, from what it keeps of its openings.
-use Rattle.std.specs.Prelude.{◌≡◌, ℕ, ◌≤◌, ◌<◌, Bool, false, List, [], ◌∷◌, ◌++◌, length, map, Option, Some, None}
+use Rattle.std.specs.Prelude.{◌≡◌, ℕ, ◌≤◌, ◌<◌, List, [], ◌∷◌, ◌++◌, length, map, Option, Some, None, IfSome}
 use Rattle.relay_base.specs.declared.words.Event.{Event}
 use Rattle.relay_base.specs.declared.words.Event.TheVariants.{Message as Arrived, Asked as Requested, Tick}
 use Rattle.relay_base.specs.declared.words.Output.{Output}
@@ -12,9 +12,8 @@ use Rattle.section_model.specs.Opening.{Wish, by_cr, by_user, no_wish, slots_nee
 use Rattle.section_model.specs.Lane.{Lane, stray_answer, openings_from}
 use Rattle.section_coupling.specs.Sound.{IsCredit}
 use Rattle.conn_lane.specs.Keeping.{Keeping, keeping_of, keeping_after, first_part, all_parts, lowest_in, needed}
-use Rattle.conn_lane.specs.Views.{KeptState, keeping_all}
 use Rattle.conn_lane.specs.Laws.{unheard}
-use Rattle.conn_lane.specs.Lanes.{IsConnJournal, lane_of}
+use Rattle.conn_lane.specs.Lanes.{OpeningsState, IsConnJournal, lane_of}
 
 -- the opening for a wish, with the lowest free references
 abbrev pub opened_in : Lane → List Keeping → Wish → Option Answer → Opened
@@ -39,15 +38,14 @@ abbrev pub keeps_in : Lane → List Keeping → Event → Wish → Option Answer
 keeps_in lane keeps event wish answer =
     map (keeping_after event) keeps ++ new_keeping lane.terms.ticks (opened_in lane keeps wish answer).connection
 
--- what the lane keeps is that of its journal's openings that is needed
-abbrev pub Keeps : LaneHead → ℕ → List Entry → ℕ → List KeptState → Type 0
-Keeps head number journal taken kept =
-    keeping_all taken kept ≡ needed (map (keeping_of head.terms.ticks) (openings_from (lane_of head number) [] journal))
+-- what the lane keeps is, as far as it is needed, that of its journal's openings
+pub record Keeps (head : LaneHead) (number : ℕ) (journal : List Entry) (o : OpeningsState) : Type 0 where
+  pub keeps : needed o.keeps ≡ needed (map (keeping_of head.terms.ticks) (openings_from (lane_of head number) [] journal))
+  pub few : o.taken ≤ length journal
 
 -- the journal is legal, and unless want of memory spoilt it the lane keeps what it has to
-pub record IsConnLane (head : LaneHead) (number : ℕ) (journal : List Entry) (taken : ℕ) (kept : List KeptState) (spent : Bool) : Type 0 where
+pub record IsConnLane (head : LaneHead) (number : ℕ) (journal : List Entry) (openings : Option OpeningsState) : Type 0 where
   pub legal : IsConnJournal head number journal
-  pub keeps : spent ≡ false → Keeps head number journal taken kept
-  pub few : taken ≤ length journal
+  pub keeps : IfSome openings (Keeps head number journal)
   pub lanes : number < 16
   pub credit : IsCredit head.terms.credit

@@ -1,162 +1,235 @@
 //! What a lane keeps of an opening.
-ghost use Rattle.std.specs.Prelude.{◌≡◌, ◌≤◌, ℕ, [], false, Option, Some, None, IfOk, IfSome, ◌<◌, if◌then◌else◌};
+ghost use Rattle.std.specs.Prelude.{◌≡◌, ◌≤◌, ◌<◌, ◌+◌, ◌↔◌, ℕ, [], Option, Some, None, IfOk, IfSome, OnOk, OnErr, IsTrue, if◌then◌else◌};
 ghost use Rattle.std.specs.Option.{option_map};
-ghost use Rattle.plant_core.specs.declared.terms.Ticks.{Ticks as TimerTicks};
-ghost use Rattle.section_model.specs.Step.{is_over, end_is_gone};
+ghost use Rattle.relay_base.specs.declared.words.Event.TheVariants.{Tick};
+ghost use Rattle.section_model.specs.Step.{hears, end_is_gone};
 ghost use Rattle.section_model.specs.Lane.{fed, reference_of};
 ghost use Rattle.section_coupling.specs.Duos.{duo_at, taken_after, side_of};
-ghost use Rattle.conn_lane.specs.Keeping.{keeping_of, keeping_after, seat_after, ticks_in, part_in, part_at, left_after, live_of, seat_by, holds_out, is_needed};
-ghost use Rattle.conn_lane.specs.Views.{IsAlive, live_at, keeping_at};
+ghost use Rattle.conn_lane.specs.Keeping.{keeping_of, keeping_after, seat_after, part_in, part_at, or_none, live_of, seat_by, holds_out, is_needed, is_freed, has_freed};
+ghost use Rattle.conn_lane.specs.Seated.{IsSeated};
+ghost use Rattle.conn_lane.specs.Views.{IsAlive, HearsAt, live_at, until_after, seat_at, keeping_at};
 
 use relay_base::{Event, Memory, Outs, Ref24};
 use section_coupling::Duo;
+use std::alloc::Global;
 use std::marker::Model;
 
-/// A local reference that an end took, and, once the end is gone, the ticks for which it stays frozen.
+/// A local reference that an end took, and, once the end is gone, the lane's tick, counted from 1, by which its freeze is over.
 #[derive(Clone, Copy, Debug, PartialEq, Eq)]
-pub struct Seat {
+pub struct Hold {
     pub mine: Ref24,
-    pub left: Option<u32>,
+    pub until: Option<u64>,
 }
 
-/// What a lane keeps of an opening: the connection until it is over, and the local references of its two ends.
+/// What a lane keeps of an opening: the connection until it is over, the local references of its two ends, and the lane's tick up to which
+/// a tick only brings the connection's timers nearer.
 #[derive(Drop)]
 pub struct Kept {
-    pub duo: Option<Duo>,
-    pub this: Option<Seat>,
-    pub that: Option<Seat>,
+    pub duo: Option<Box<Duo>>,
+    pub this: Option<Hold>,
+    pub that: Option<Hold>,
+    pub wakes: u64,
 }
 
 impl Model for Kept {
-    ghost use Rattle.conn_lane.specs.Views.{KeptState, IsAlive};
+    ghost use Rattle.std.specs.Prelude.{option_map};
+    ghost use Rattle.conn_lane.specs.Views.{KeptState, IsAlive, IsAsleep};
 
     ghost Value = { KeptState };
 
-    ghost view = { λ k. record { duo = k.duo; this = k.this; that = k.that } };
+    ghost view = { λ k. record { duo = option_map (λ b. b.value) k.duo; this = k.this; that = k.that } };
 
-    ghost invariant = { λ k. IsAlive k.duo };
+    ghost invariant = { λ k. IsAlive (option_map (λ b. b.value) k.duo) × IsAsleep k.wakes (option_map (λ b. b.value) k.duo) };
 }
 
-fn ticks_in(event: &Event) -> u32
-    ensures { result ≡ ticks_in event.now }
-{
-    match event {
-        Event::Message { .. } | Event::Asked { .. } => 0,
-        Event::Tick => 1,
-    }
-}
-
-impl Seat {
-    /// The seat after an event, by which its end may be gone.
-    fn after(self, freeze: u32, event: &Event, is_gone: bool) -> Seat
-        ensures { result ≡ record { mine = self.mine; left = left_after freeze event.now is_gone self.left } }
+impl Hold {
+    /// The reference of an end after an event, by which the end may be gone; `freed` is the tick by which a freeze that begins now is over.
+    fn after(self, freed: u64, is_gone: bool) -> Hold
+        ensures { result ≡ record { mine = self.mine; until = until_after freed is_gone self.until } }
     {
-        let left = match self.left {
-            Some(left) => Some(left.saturating_sub(ticks_in(event))),
-            None if is_gone => Some(freeze),
+        let until = match self.until {
+            Some(until) => Some(until),
+            None if is_gone => Some(freed),
             None => None,
         };
-        Seat {
+        Hold {
             mine: self.mine,
-            left,
+            until,
+        }
+    }
+
+    /// Whether it is held after so many ticks, or frozen for some yet.
+    pub fn is_held(&self, now: u64) -> bool
+        ensures { result ≡ holds_out (Some (seat_at now self.now)) }
+    {
+        match self.until {
+            Some(until) => now < until,
+            None => true,
         }
     }
 }
 
-fn seat_after(freeze: u32, event: &Event, is_gone: bool, seat: Option<Seat>) -> Option<Seat>
-    ensures { result ≡ seat_after freeze event.now is_gone seat }
+/// Whether a reference is held after so many ticks, or frozen for some yet.
+fn is_held(hold: &Option<Hold>, now: u64) -> bool
+    ensures { result ≡ holds_out (option_map (seat_at now) hold.now) }
 {
-    match seat {
-        Some(seat) => Some(seat.after(freeze, event, is_gone)),
-        None => None,
-    }
-}
-
-/// A connection that isn't over after an event, and its outputs if it hears it.
-#[tactic(auto, using(crate::proofs::Unheard::not_heard))]
-fn feed(duo: Duo, now: u64, event: &Event) -> Result<(Duo, Option<Outs>), Memory>
-    requires now { now ≤ 4_294_967_295 }
-    requires alive { is_over (duo_at now duo) ≡ false }
-    ensures fed { IfOk result (λ r. duo_at (taken_after now event.now) r.0 ≡ fed duo.ticks (duo_at now duo) event.now) }
-    ensures ticks { IfOk result (λ r. r.0.ticks ≡ duo.ticks) }
-    ensures part { IfOk result (λ r. r.1 ≡ part_in event.now (live_at now duo)) }
-{
-    if !duo.hears(event) {
-        return Ok((duo, None));
-    }
-    let heard = duo.hear(now, event)?;
-    Ok((heard.duo, Some(heard.outs)))
-}
-
-impl Kept {
-    /// Whether its connection isn't over, or a reference of it is held or frozen.
-    pub fn is_needed(&self) -> bool
-        ensures { (now : ℕ) → result ≡ is_needed (keeping_at now self.now) }
-    {
-        self.duo.is_some() || holds_out(&self.this) || holds_out(&self.that)
-    }
-
-    /// What is kept of a connection that was just opened.
-    #[tactic(auto, unfolding(section_model::specs::Lane::gone_for, section_model::specs::Lane::follow, section_model::specs::Lane::heard))]
-    pub fn opened(duo: Duo) -> Kept
-        ensures keeping { (now : ℕ) → keeping_at now result ≡ keeping_of duo.ticks (record { first = duo_at now duo; since = [] }) }
-    {
-        let freeze = duo.freeze();
-        let this = seat_of(&duo, 0, freeze);
-        let that = seat_of(&duo, 1, freeze);
-        let duo = unless_over(duo);
-        Kept { duo, this, that }
-    }
-
-    /// What is kept after an event, and the outputs of the connection if it hears it.
-    pub fn after(self, now: u64, event: &Event) -> Result<(Kept, Option<Outs>), Memory>
-        requires now { now ≤ 4_294_967_295 }
-        ensures keeping { IfOk result (λ r. keeping_at (taken_after now event.now) r.0 ≡ keeping_after event.now (keeping_at now self)) }
-        ensures part { IfOk result (λ r. r.1 ≡ part_at event.now (option_map (live_at now) self.duo)) }
-    {
-        let Kept { duo, this, that } = self;
-        let Some(duo) = duo else {
-            let kept = Kept {
-                duo: None,
-                this: seat_after(0, event, false, this),
-                that: seat_after(0, event, false, that),
-            };
-            return Ok((kept, None));
-        };
-        let (duo, outs) = feed(duo, now, event)?;
-        let freeze = duo.freeze();
-        let this = seat_after(freeze, event, duo.gone(0), this);
-        let that = seat_after(freeze, event, duo.gone(1), that);
-        let duo = unless_over(duo);
-        Ok((Kept { duo, this, that }, outs))
-    }
-}
-
-/// Whether a reference is held, or frozen for some ticks yet.
-fn holds_out(seat: &Option<Seat>) -> bool
-    ensures { result ≡ holds_out seat.now }
-{
-    match seat {
-        Some(seat) => seat.left != Some(0),
+    match hold {
+        Some(hold) => hold.is_held(now),
         None => false,
     }
 }
 
-/// The connection, unless it is over.
-fn unless_over(duo: Duo) -> Option<Duo>
-    ensures live { (now : ℕ) → option_map (live_at now) result ≡ live_of duo.ticks (duo_at now duo) }
-    ensures alive { IsAlive result }
+/// Whether a reference is free again after so many ticks.
+fn is_freed(hold: &Option<Hold>, now: u64) -> bool
+    ensures { result ≡ is_freed (option_map (seat_at now) hold.now) }
 {
-    if duo.is_over() { None } else { Some(duo) }
+    match hold {
+        Some(hold) => !hold.is_held(now),
+        None => false,
+    }
+}
+
+/// The local reference that an end took, after an event.
+#[tactic(auto, using(crate::proofs::Holds::hold_later))]
+fn hold_after(now: u64, event: &Event, duo: &Duo, side: u8, hold: Option<Hold>) -> Option<Hold>
+    requires side { side < 2 }
+    requires now { now ≤ 4_294_967_295 }
+    ensures { option_map (seat_at (taken_after now event.now)) result ≡ seat_after duo.now.ticks.freeze event.now (end_is_gone (side_of side (duo_at (taken_after now event.now) duo.now))) (option_map (seat_at now) hold) }
+{
+    let hold = hold?;
+    let freed = taken_after(now, event) + u64::from(duo.freeze());
+    Some(hold.after(freed, duo.gone(side)))
+}
+
+/// The connection, unless it is over.
+fn unless_over(alloc: Global, duo: Duo) -> Result<Option<Box<Duo>>, Memory>
+    ensures live { (now : ℕ) → IfOk result (λ kept. option_map (λ b. live_at now b.value) kept ≡ live_of duo.ticks (duo_at now duo)) }
+    ensures alive { IfOk result (λ kept. IsAlive (option_map (λ b. b.value) kept)) }
+    ensures same { IfOk result (λ kept. IfSome kept (λ b. b.value ≡ duo)) }
+{
+    if duo.is_over() {
+        return Ok(None);
+    }
+    Ok(Some(Box::new(alloc, duo)?))
 }
 
 /// The local reference that an end of a new connection took.
-fn seat_of(duo: &Duo, side: u8, freeze: u32) -> Option<Seat>
+#[tactic(auto, using(crate::proofs::Holds::hold_new))]
+fn hold_of(now: u64, duo: &Duo, side: u8) -> Option<Hold>
     requires side { side < 2 }
-    requires freeze { freeze ≡ duo.now.ticks.freeze }
-    ensures { (now : ℕ) → result ≡ seat_by freeze (if end_is_gone (side_of side (duo_at now duo.now)) then Some 0 else None) (reference_of (side_of side (duo_at now duo.now))) }
+    requires now { now ≤ 4_294_967_295 }
+    ensures { option_map (seat_at now) result ≡ seat_by duo.now.ticks.freeze (if end_is_gone (side_of side (duo_at now duo.now)) then Some 0 else None) (reference_of (side_of side (duo_at now duo.now))) }
 {
     let mine = duo.reference(side)?;
-    let left = if duo.gone(side) { Some(freeze) } else { None };
-    Some(Seat { mine, left })
+    let freed = now + u64::from(duo.freeze());
+    let until = if duo.gone(side) { Some(freed) } else { None };
+    Some(Hold { mine, until })
+}
+
+/// A connection after an event that it hears, and the outputs of that.
+fn feed(duo: &Duo, now: u64, event: &Event) -> Result<(Duo, Outs), Memory>
+    requires now { now ≤ 4_294_967_295 }
+    requires hears { IsTrue (hears (duo_at now duo.now) event.now) }
+    ensures fed { IfOk result (λ r. duo_at (taken_after now event.now) r.0 ≡ fed duo.now.ticks (duo_at now duo.now) event.now) }
+    ensures ticks { IfOk result (λ r. r.0.ticks ≡ duo.now.ticks) }
+    ensures part { IfOk result (λ r. Some r.1 ≡ part_in event.now (live_at now duo.now)) }
+{
+    let heard = duo.hear(now, event)?;
+    Ok((heard.duo, heard.outs))
+}
+
+impl Kept {
+    /// Whether its connection isn't over, or a reference of it is held or frozen after so many ticks.
+    pub fn is_needed(&self, now: u64) -> bool
+        ensures { result ≡ is_needed (keeping_at now self.now) }
+    {
+        self.duo.is_some() || is_held(&self.this, now) || is_held(&self.that, now)
+    }
+
+    /// Whether a reference of it is free again after so many ticks.
+    pub fn has_freed(&self, now: u64) -> bool
+        ensures { result ≡ has_freed (keeping_at now self.now) }
+    {
+        is_freed(&self.this, now) || is_freed(&self.that, now)
+    }
+
+    /// What is kept of a connection that was just opened.
+    #[tactic(auto, unfolding(section_model::specs::Lane::gone_for, section_model::specs::Lane::follow, section_model::specs::Lane::heard))]
+    pub fn opened(alloc: Global, now: u64, duo: Duo) -> Result<Kept, Memory>
+        requires now { now ≤ 4_294_967_295 }
+        ensures keeping { IfOk result (λ k. keeping_at now k ≡ keeping_of duo.ticks (record { first = duo_at now duo; since = [] })) }
+    {
+        let this = hold_of(now, &duo, 0);
+        let that = hold_of(now, &duo, 1);
+        let wakes = duo.wakes();
+        let duo = unless_over(alloc, duo)?;
+        Ok(Kept {
+            duo,
+            this,
+            that,
+            wakes,
+        })
+    }
+
+    /// Whether its connection hears an event.
+    pub fn hears(&self, event: &Event) -> bool
+        ensures { (now : ℕ) → IsTrue result ↔ HearsAt now event.now self.now.duo }
+    {
+        match &self.duo {
+            Some(duo) => duo.hears(event),
+            None => false,
+        }
+    }
+
+    /// An event that its connection hears, and the outputs of that. After `Memory` all is as before.
+    pub fn hear(&mut self, alloc: Global, now: u64, event: &Event) -> Result<Outs, Memory>
+        requires now { now ≤ 4_294_967_295 }
+        requires hears { HearsAt now event.now self.old.duo }
+        ensures keeping { OnOk result (keeping_at (taken_after now event.now) self.new ≡ keeping_after event.now (keeping_at now self.old)) }
+        ensures outs { IfOk result (λ outs. Some outs ≡ part_at event.now (option_map (live_at now) self.old.duo)) }
+        ensures err { OnErr result (self.new ≡ self.old) }
+    {
+        let Some(duo) = &self.duo else {
+            return Ok(Outs::new(alloc));
+        };
+        let (duo, outs) = feed(duo, now, event)?;
+        let this = hold_after(now, event, &duo, 0, self.this);
+        let that = hold_after(now, event, &duo, 1, self.that);
+        let wakes = duo.wakes();
+        let duo = unless_over(alloc, duo)?;
+        *self = Kept {
+            duo,
+            this,
+            that,
+            wakes,
+        };
+        Ok(outs)
+    }
+
+    /// A tick, and the outputs of that, None where it only brings timers nearer; `now` is how many ticks the lane took before. After `Memory` all
+    /// is as before.
+    #[tactic(auto, using(crate::proofs::Holds::sleeps_on))]
+    pub fn tick(&mut self, alloc: Global, now: u64) -> Result<Option<Outs>, Memory>
+        requires now { now ≤ 4_294_967_295 }
+        requires seated { IsSeated (keeping_at now self.old) }
+        ensures keeping { OnOk result (keeping_at (now + 1) self.new ≡ keeping_after Tick (keeping_at now self.old)) }
+        ensures outs { IfOk result (λ part. or_none part ≡ or_none (part_at Tick (option_map (live_at now) self.old.duo))) }
+        ensures err { OnErr result (self.new ≡ self.old) }
+    {
+        if self.duo.is_none() || now + 1 < self.wakes {
+            return Ok(None);
+        }
+        Ok(Some(self.hear(alloc, now, &Event::Tick)?))
+    }
+}
+
+/// How many ticks a lane has taken after an event.
+pub fn taken_after(now: u64, event: &Event) -> u64
+    requires { now ≤ 4_294_967_295 }
+    ensures { result ≡ taken_after now event.now }
+{
+    match event {
+        Event::Message { .. } | Event::Asked { .. } => now,
+        Event::Tick => now + 1,
+    }
 }

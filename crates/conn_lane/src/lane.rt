@@ -1,31 +1,27 @@
 //! The connection lane.
-ghost use Rattle.std.specs.Prelude.{◌≡◌, ◌≤◌, ◌<◌, ◌+◌, ◌^◌, [], ◌∷◌, ◌++◌, length, map, true, false, Some, None, ℕ, IfOk, IfSome, OnOk, OnErr};
+ghost use Rattle.std.specs.Prelude.{◌≡◌, ◌≤◌, ◌<◌, ◌^◌, [], length, true, false, IfOk, IfSome, OnOk, OnErr};
 ghost use Rattle.plant_core.specs.declared.terms.Terms.{Terms};
-ghost use Rattle.plant_core.specs.declared.terms.Ticks.{Ticks as TimerTicks};
 ghost use Rattle.std.specs.Option.{option_map};
 ghost use Rattle.connectionless.specs.Asking.{seen_ask};
 ghost use Rattle.data_lane.specs.Legal.{answer_to, asked_at, answer_in};
 ghost use Rattle.section_model.specs.Opening.{wish_of, question_of, slots_needed};
-ghost use Rattle.section_model.specs.Lane.{stray_answer};
-ghost use Rattle.section_coupling.specs.Duos.{duo_at, taken_after};
+ghost use Rattle.relay_base.specs.declared.words.Event.TheVariants.{Tick};
+ghost use Rattle.section_model.specs.Lane.{stray_answer, is_tick};
+ghost use Rattle.section_coupling.specs.Duos.{duo_at};
 ghost use Rattle.section_coupling.specs.Openings.{IsAnswered, is_wish};
 ghost use Rattle.section_coupling.specs.Sound.{IsCredit};
-ghost use Rattle.conn_lane.specs.Keeping.{keeping_after, needed as needed_of};
-ghost use Rattle.conn_lane.specs.Views.{keeping_all};
-ghost use Rattle.conn_lane.specs.Turns.{new_keeping, opened_in, outs_in, other_outs_in, keeps_in, IsConnLane};
+ghost use Rattle.conn_lane.specs.Laws.{unheard};
+ghost use Rattle.conn_lane.specs.Turns.{opened_in};
 ghost use Rattle.conn_lane.specs.Lanes.{lane_of, conn_asked_of};
-ghost use Rattle.conn_lane.specs.Grown.{Grows};
+ghost use Rattle.conn_lane.specs.Grown.{Comes, Grows};
 
-use crate::feeding::{hear_all, needed as needed_of, tell_all};
-use crate::kept::Kept;
-use crate::slots::lowest_free;
-use plant_core::{Answer, Ask, Asked, Entry, EntryList, LaneHead, Plant};
+use crate::openings::Openings;
+use plant_core::{Answer, Ask, Asked, Entry, EntryList, LaneHead, Plant, fitted};
 use relay_base::{Event, Memory, Outs, Stamp};
 use routing_control::route;
 use section_coupling::{Begun, Duo, ask_of, opens, stray};
 use std::alloc::{AllocError, Global};
 use std::marker::Model;
-use std::mem;
 
 /// The connections of one lane. Its journal is a legal one at all times.
 #[derive(Drop)]
@@ -34,11 +30,8 @@ pub struct ConnLane {
     head: LaneHead,
     number: u8,
     journal: EntryList,
-    /// How many ticks it has taken.
-    taken: u64,
-    kept: Vec<Kept>,
-    /// Memory ran out in mid-event: what is kept is no longer right, and the lane takes no more.
-    spent: bool,
+    /// What is kept of its openings; nothing once memory ran out in mid-event, after which the lane takes no more.
+    openings: Option<Openings>,
 }
 
 impl Model for ConnLane {
@@ -49,7 +42,7 @@ impl Model for ConnLane {
 
     ghost view = { λ l. record { head = l.head; number = l.number; journal = l.journal } };
 
-    ghost invariant = { λ l. IsConnLane l.head l.number l.journal l.taken l.kept.items l.spent };
+    ghost invariant = { λ l. IsConnLane l.head l.number l.journal l.openings };
 }
 
 fn copy_of(event: &Event) -> Result<Event, AllocError>
@@ -81,18 +74,17 @@ fn asked_by(plant: &Plant, event: &Event) -> Option<Asked>
 /// What comes of an event: what is kept then, the routing where it asked one, and the outputs.
 #[derive(Drop)]
 struct Turn {
-    kept: Vec<Kept>,
+    openings: Openings,
     asked: Option<Asked>,
     outs: Outs,
 }
 
-/// A lane's head and number, and how many ticks it has taken.
+/// A lane's head and number.
 #[derive(Clone, Copy)]
 struct Context {
     alloc: Global,
     head: LaneHead,
     number: u8,
-    taken: u64,
 }
 
 /// The answer to what no connection hears.
@@ -102,6 +94,16 @@ fn stray_outs(alloc: Global, event: &Event) -> Result<Outs, Memory>
     let mut outs = Outs::new(alloc);
     stray(alloc, event, &mut outs)?;
     Ok(outs)
+}
+
+/// The outputs of the connection that hears an event, or the answer where none does.
+fn or_stray(alloc: Global, event: &Event, part: Option<Outs>) -> Result<Outs, Memory>
+    ensures { IfOk result (λ outs. outs ≡ unheard part (stray_answer event.now)) }
+{
+    match part {
+        Some(outs) => Ok(outs),
+        None => stray_outs(alloc, event),
+    }
 }
 
 /// The answer of a routing.
@@ -125,35 +127,29 @@ fn needed(event: &Event, answer: Option<&Answer>) -> u8
     }
 }
 
-/// What is kept with a new connection, if there is one.
-fn with_new(kept: Vec<Kept>, duo: Option<Duo>) -> Result<Vec<Kept>, Memory>
-    ensures { (now : ℕ) → (ticks : TimerTicks) → IfSome duo (λ d. d.ticks ≡ ticks) → IfOk result (λ r. keeping_all now r.items ≡ keeping_all now kept.items ++ new_keeping ticks (option_map (duo_at now) duo)) }
-{
-    let mut kept = kept;
-    if let Some(duo) = duo {
-        kept.push(Kept::opened(duo))?;
-    }
-    Ok(kept)
-}
-
 impl Context {
     /// Opens a connection with the lowest free references.
     #[tactic(auto, using(crate::proofs::LaneGrows::opens_so))]
-    fn begin(&self, event: &Event, asked: &Option<Asked>, kept: &[Kept]) -> Result<Begun, Memory>
-        requires taken { self.now.taken ≤ 4_294_967_295 }
+    fn begin(
+        &self,
+        event: &Event,
+        asked: &Option<Asked>,
+        openings: &Openings,
+    ) -> Result<Begun, Memory>
+        requires taken { openings.now.taken ≤ 4_294_967_295 }
         requires number { self.now.number < 16 }
         requires credit { IsCredit self.now.head.terms.credit }
         requires answered { IsAnswered (wish_of self.now.head.terms event.now) (answer_in asked.now) }
-        ensures opened { IfOk result (λ b. opened_in (lane_of self.now.head self.now.number) (keeping_all self.now.taken kept.now) (wish_of self.now.head.terms event.now) (answer_in asked.now) ≡ record { connection = option_map (duo_at self.now.taken) b.duo; outs = b.outs }) }
+        ensures opened { IfOk result (λ b. opened_in (lane_of self.now.head self.now.number) openings.now.keeps (wish_of self.now.head.terms event.now) (answer_in asked.now) ≡ record { connection = option_map (duo_at openings.now.taken) b.duo; outs = b.outs }) }
         ensures ticks { IfOk result (λ b. IfSome b.duo (λ d. d.ticks ≡ self.now.head.terms.ticks)) }
     {
         let answer = answer_in(asked);
         let count = needed(event, answer);
-        let refs = lowest_free(self.alloc, kept, self.number, count)?;
+        let refs = openings.lowest_free(self.number, count)?;
         let begun = Duo::begin(
             self.alloc,
             &self.head.terms,
-            self.taken,
+            openings.taken(),
             event,
             answer,
             refs.as_slice(),
@@ -162,77 +158,67 @@ impl Context {
     }
 
     /// A CR, or a user's request for a connection.
-    #[tactic(auto, using(crate::proofs::LaneGrows::open_taken))]
-    fn open(&self, plant: &Plant, event: &Event, kept: Vec<Kept>) -> Result<Turn, Memory>
-        requires taken { self.now.taken ≤ 4_294_967_295 }
+    fn open(&self, plant: &Plant, event: &Event, openings: Openings) -> Result<Turn, Memory>
+        requires taken { openings.taken ≤ 4_294_967_295 }
         requires number { self.now.number < 16 }
         requires credit { IsCredit self.now.head.terms.credit }
         requires wish { is_wish (wish_of self.now.head.terms event.now) ≡ true }
-        ensures asked { IfOk result (λ turn. turn.asked ≡ conn_asked_of self.now.head plant.now event.now) }
-        ensures outs { IfOk result (λ turn. turn.outs ≡ outs_in (lane_of self.now.head self.now.number) (keeping_all self.now.taken kept.items) event.now (wish_of self.now.head.terms event.now) (answer_in turn.asked)) }
-        ensures keeps { IfOk result (λ turn. keeping_all (taken_after self.now.taken event.now) turn.kept.items ≡ keeps_in (lane_of self.now.head self.now.number) (keeping_all self.now.taken kept.items) event.now (wish_of self.now.head.terms event.now) (answer_in turn.asked)) }
+        ensures { IfOk result (λ turn. Comes plant.now self.now.head self.now.number event.now openings turn.openings turn.asked turn.outs) }
     {
         let asked = asked_by(plant, event);
-        let Begun { duo, outs } = self.begin(event, &asked, &kept)?;
-        let (kept, _) = hear_all(self.alloc, self.taken, event, kept)?;
-        let kept = with_new(kept, duo)?;
-        Ok(Turn { kept, asked, outs })
+        let begun = self.begin(event, &asked, &openings)?;
+        let (openings, _) = openings.hear(event)?;
+        let openings = openings.with(begun.duo)?;
+        Ok(Turn {
+            openings,
+            asked,
+            outs: begun.outs,
+        })
     }
 
-    /// An event that opens no connection.
-    #[tactic(auto, using(crate::proofs::LaneGrows::other_keeps, crate::proofs::LaneGrows::other_outs))]
-    fn other(&self, event: &Event, kept: Vec<Kept>) -> Result<Turn, Memory>
-        requires taken { self.now.taken ≤ 4_294_967_295 }
-        requires wish { is_wish (wish_of self.now.head.terms event.now) ≡ false }
-        ensures asked { IfOk result (λ turn. turn.asked ≡ None) }
-        ensures outs { IfOk result (λ turn. turn.outs ≡ outs_in (lane_of self.now.head self.now.number) (keeping_all self.now.taken kept.items) event.now (wish_of self.now.head.terms event.now) None) }
-        ensures keeps { IfOk result (λ turn. keeping_all (taken_after self.now.taken event.now) turn.kept.items ≡ keeps_in (lane_of self.now.head self.now.number) (keeping_all self.now.taken kept.items) event.now (wish_of self.now.head.terms event.now) None) }
+    /// A tick.
+    fn tick(&self, plant: &Plant, openings: Openings) -> Result<Turn, Memory>
+        requires taken { openings.taken ≤ 4_294_967_295 }
+        ensures { IfOk result (λ turn. Comes plant.now self.now.head self.now.number Tick openings turn.openings turn.asked turn.outs) }
     {
-        if matches!(event, Event::Tick) {
-            let (kept, outs) = tell_all(self.alloc, self.taken, event, kept)?;
-            let asked = None;
-            return Ok(Turn { kept, asked, outs });
-        }
-        let (kept, part) = hear_all(self.alloc, self.taken, event, kept)?;
-        let outs = match part {
-            Some(outs) => outs,
-            None => stray_outs(self.alloc, event)?,
-        };
-        let asked = None;
-        Ok(Turn { kept, asked, outs })
+        let (openings, outs) = openings.tick()?;
+        Ok(Turn {
+            openings,
+            asked: None,
+            outs,
+        })
+    }
+
+    /// An event that opens no connection, and is no tick.
+    fn hear(&self, plant: &Plant, event: &Event, openings: Openings) -> Result<Turn, Memory>
+        requires taken { openings.taken ≤ 4_294_967_295 }
+        requires event { is_tick event.now ≡ false }
+        requires wish { is_wish (wish_of self.now.head.terms event.now) ≡ false }
+        ensures { IfOk result (λ turn. Comes plant.now self.now.head self.now.number event.now openings turn.openings turn.asked turn.outs) }
+    {
+        let (openings, part) = openings.hear(event)?;
+        let outs = or_stray(self.alloc, event, part)?;
+        Ok(Turn {
+            openings,
+            asked: None,
+            outs,
+        })
     }
 
     /// What comes of an event.
-    #[tactic(auto, using(crate::proofs::LaneGrows::none_asked_of))]
-    fn turn(&self, plant: &Plant, event: &Event, kept: Vec<Kept>) -> Result<Turn, Memory>
-        requires taken { self.now.taken ≤ 4_294_967_295 }
+    fn turn(&self, plant: &Plant, event: &Event, openings: Openings) -> Result<Turn, Memory>
+        requires taken { openings.taken ≤ 4_294_967_295 }
         requires number { self.now.number < 16 }
         requires credit { IsCredit self.now.head.terms.credit }
-        ensures asked { IfOk result (λ turn. turn.asked ≡ conn_asked_of self.now.head plant.now event.now) }
-        ensures outs { IfOk result (λ turn. turn.outs ≡ outs_in (lane_of self.now.head self.now.number) (keeping_all self.now.taken kept.items) event.now (wish_of self.now.head.terms event.now) (answer_in turn.asked)) }
-        ensures keeps { IfOk result (λ turn. keeping_all (taken_after self.now.taken event.now) turn.kept.items ≡ keeps_in (lane_of self.now.head self.now.number) (keeping_all self.now.taken kept.items) event.now (wish_of self.now.head.terms event.now) (answer_in turn.asked)) }
+        ensures { IfOk result (λ turn. Comes plant.now self.now.head self.now.number event.now openings turn.openings turn.asked turn.outs) }
     {
-        if opens(event) {
-            return self.open(plant, event, kept);
+        if matches!(event, Event::Tick) {
+            self.tick(plant, openings)
+        } else if opens(event) {
+            self.open(plant, event, openings)
+        } else {
+            self.hear(plant, event, openings)
         }
-        let Turn { kept, asked, outs } = self.other(event, kept)?;
-        Ok(Turn { kept, asked, outs })
-    }
-}
-
-impl Context {
-    /// What comes of an event, and what is needed then of what is kept.
-    fn needed_turn(&self, plant: &Plant, event: &Event, kept: Vec<Kept>) -> Result<Turn, Memory>
-        requires taken { self.now.taken ≤ 4_294_967_295 }
-        requires number { self.now.number < 16 }
-        requires credit { IsCredit self.now.head.terms.credit }
-        ensures asked { IfOk result (λ turn. turn.asked ≡ conn_asked_of self.now.head plant.now event.now) }
-        ensures outs { IfOk result (λ turn. turn.outs ≡ outs_in (lane_of self.now.head self.now.number) (keeping_all self.now.taken kept.items) event.now (wish_of self.now.head.terms event.now) (answer_in turn.asked)) }
-        ensures keeps { IfOk result (λ turn. keeping_all (taken_after self.now.taken event.now) turn.kept.items ≡ needed_of (keeps_in (lane_of self.now.head self.now.number) (keeping_all self.now.taken kept.items) event.now (wish_of self.now.head.terms event.now) (answer_in turn.asked))) }
-    {
-        let Turn { kept, asked, outs } = self.turn(plant, event, kept)?;
-        let kept = needed_of(self.alloc, taken_after(self.taken, event), kept)?;
-        Ok(Turn { kept, asked, outs })
     }
 
     /// The entry of an event, and what is kept then.
@@ -241,24 +227,28 @@ impl Context {
         plant: &Plant,
         stamp: Stamp,
         event: &Event,
-        kept: Vec<Kept>,
-    ) -> Result<(Vec<Kept>, Entry), Memory>
-        requires taken { self.now.taken ≤ 4_294_967_295 }
+        openings: Openings,
+    ) -> Result<(Openings, Entry), Memory>
+        requires taken { openings.taken ≤ 4_294_967_295 }
         requires number { self.now.number < 16 }
         requires credit { IsCredit self.now.head.terms.credit }
-        ensures grows { IfOk result (λ r. Grows plant.now self.now.head self.now.number self.now.taken kept.items r.0.items r.1) }
+        ensures grows { IfOk result (λ r. Grows plant.now self.now.head self.now.number openings r.0 r.1) }
         ensures stamp { IfOk result (λ r. r.1.stamp ≡ stamp) }
         ensures event { IfOk result (λ r. r.1.event ≡ event.now) }
     {
-        let Turn { kept, asked, outs } = self.needed_turn(plant, event, kept)?;
+        let Turn {
+            openings,
+            asked,
+            outs,
+        } = self.turn(plant, event, openings)?;
         let event = copy_of(event)?;
         let entry = Entry {
             stamp,
             event,
             asked,
-            outs,
+            outs: fitted(outs),
         };
-        Ok((kept, entry))
+        Ok((openings, entry))
     }
 }
 
@@ -276,35 +266,27 @@ impl ConnLane {
             head: *head,
             number,
             journal: EntryList::new(alloc),
-            taken: 0,
-            kept: Vec::new(alloc),
-            spent: false,
+            openings: Some(Openings::new(alloc)?),
         })
     }
 
     /// Takes an event, with these routing data. After want of memory the journal is as before, and the lane takes no more.
-    #[tactic(auto, using(crate::proofs::LaneGrows::lane_spent, crate::proofs::LaneGrows::few_taken))]
     pub fn step(&mut self, plant: &Plant, stamp: Stamp, event: &Event) -> Result<(), Memory>
         requires few { length self.old.journal < 2 ^ 32 }
         ensures ok { OnOk result (Takes plant.now stamp event.now self.old self.new) }
         ensures err { OnErr result (self.new ≡ self.old) }
     {
-        if self.spent {
+        let Some(openings) = self.openings.take() else {
             return Err(Memory);
-        }
+        };
         let context = Context {
             alloc: self.alloc,
             head: self.head,
             number: self.number,
-            taken: self.taken,
         };
-        self.spent = true;
-        let kept = mem::replace(&mut self.kept, Vec::new(self.alloc));
-        let (kept, entry) = context.entry(plant, stamp, event, kept)?;
+        let (openings, entry) = context.entry(plant, stamp, event, openings)?;
         self.journal.push(entry)?;
-        self.kept = kept;
-        self.taken = taken_after(context.taken, event);
-        self.spent = false;
+        self.openings = Some(openings);
         Ok(())
     }
 
@@ -322,16 +304,5 @@ impl ConnLane {
         ensures legal { IsConnJournal self.head self.number self.journal }
     {
         self.journal
-    }
-}
-
-/// How many ticks a lane has taken after an event.
-fn taken_after(taken: u64, event: &Event) -> u64
-    requires { taken ≤ 4_294_967_295 }
-    ensures { result ≡ taken_after taken event.now }
-{
-    match event {
-        Event::Message { .. } | Event::Asked { .. } => taken,
-        Event::Tick => taken + 1,
     }
 }

@@ -1,11 +1,13 @@
 //! The connection lane: the connections of one lane, and its journal.
 #![tactic(auto)]
 
-mod feeding;
+mod index;
 mod kept;
 mod lane;
 mod laws;
-mod slots;
+mod openings;
+#[cfg(test)]
+mod tests;
 
 pub use lane::ConnLane;
 pub use laws::keeps_all;

@@ -1,0 +1,74 @@
+-- Each opening stays seated: an end has its reference until it is gone, whatever happens.
+use Rattle.std.proofs.Common.{◌≡◌, ℕ, Bool, true, false, List, map, All, Option, Some, None, is_some, if◌then◌else◌, refl, sym, ◌∙◌}
+use Rattle.std.proofs.lemmas.List.Elements.{All-map, All-weaker, All-filter}
+use Rattle.relay_base.specs.declared.words.Event.{Event}
+use Rattle.plant_core.specs.declared.terms.Ticks.{Ticks}
+use Rattle.section_model.specs.Ends.{End, Connection}
+use Rattle.section_model.specs.Step.{end_is_gone, is_over}
+use Rattle.section_model.specs.Lane.{fed}
+use Rattle.reference_law.specs.ReferenceLaw.{Stays, BothStay}
+use Rattle.reference_law.proofs.Following.{fed_stays}
+use Rattle.conn_lane.specs.Keeping.{Live, Seat, Keeping, live_of, left_after, seat_after, keeping_after, is_needed, needed}
+use Rattle.conn_lane.specs.Seated.{SeatIs, AreSeated, IsInLane, IsSeated}
+
+-- A seat.
+
+frozen_once : (freeze : ℕ) (is_gone : Bool) → is_some (if is_gone then Some freeze else None) ≡ is_gone
+frozen_once freeze true = refl
+frozen_once freeze false = refl
+
+left_later : (freeze : ℕ) (event : Event) (before after : End) (left : Option ℕ) → Stays before after
+    → is_some left ≡ end_is_gone before → is_some (left_after freeze event (end_is_gone after) left) ≡ end_is_gone after
+left_later freeze event before after None stays is = frozen_once freeze (end_is_gone after)
+left_later freeze event before after (Some left) stays is = sym (stays.gone (sym is))
+
+seat_later : (freeze : ℕ) (event : Event) (before after : End) (seat : Option Seat) → Stays before after
+    → SeatIs before seat → SeatIs after (seat_after freeze event (end_is_gone after) seat)
+seat_later freeze event before after None stays is = (is.0 ∙ sym stays.reference, tt)
+seat_later freeze event before after (Some s) stays is = (is.0 ∙ sym stays.reference, left_later freeze event before after s.left stays is.1)
+
+lane_later : (freeze : ℕ) (event : Event) (is_gone : Bool) (seat : Option Seat) → IsInLane seat → IsInLane (seat_after freeze event is_gone seat)
+lane_later freeze event is_gone None within = tt
+lane_later freeze event is_gone (Some s) within = within
+
+-- An opening.
+
+abbrev pub kept_as : Option Live → Option Seat → Option Seat → Keeping
+kept_as live this that = record { live = live; this = this; that = that }
+
+-- a connection with its seats, whether it is over or not
+pub seated_live : (ticks : Ticks) (c : Connection) (this that : Option Seat)
+    → SeatIs c.this this → SeatIs c.that that → IsInLane this → IsInLane that → IsSeated (record { live = live_of ticks c; this = this; that = that })
+seated_live ticks c this that is_this is_that in_this in_that = by_test (is_over c) refl
+  where
+    by_test : (b : Bool) → is_over c ≡ b → IsSeated (kept_as (if b then None else Some (record { ticks = ticks; connection = c })) this that)
+    by_test true over = record { on = tt; live = tt; this = in_this; that = in_that }
+    by_test false on = record { on = on; live = (is_this, is_that); this = in_this; that = in_that }
+
+seated_parts : (event : Event) (live : Option Live) (this that : Option Seat)
+    → AreSeated live this that → IsInLane this → IsInLane that → IsSeated (keeping_after event (kept_as live this that))
+seated_parts event None this that are in_this in_that =
+    record { on = tt; live = tt; this = lane_later 0 event false this in_this; that = lane_later 0 event false that in_that }
+seated_parts event (Some l) this that are in_this in_that =
+    let c : Connection = fed l.ticks l.connection event in
+    let both : BothStay l.connection c = fed_stays l.ticks l.connection event in
+    seated_live l.ticks c
+    (seat_after l.ticks.freeze event (end_is_gone c.this) this)
+    (seat_after l.ticks.freeze event (end_is_gone c.that) that)
+    (seat_later l.ticks.freeze event l.connection.this c.this this both.this are.0)
+    (seat_later l.ticks.freeze event l.connection.that c.that that both.that are.1)
+    (lane_later l.ticks.freeze event (end_is_gone c.this) this in_this)
+    (lane_later l.ticks.freeze event (end_is_gone c.that) that in_that)
+
+-- one more event
+pub seated_after : (event : Event) (k : Keeping) → IsSeated k → IsSeated (keeping_after event k)
+seated_after event k seated = seated_parts event k.live k.this k.that seated.live seated.this seated.that
+
+-- All openings.
+
+pub all_seated_after : (event : Event) (keeps : List Keeping) → All IsSeated keeps → All IsSeated (map (keeping_after event) keeps)
+all_seated_after event keeps seated =
+    All-map IsSeated (keeping_after event) keeps (All-weaker IsSeated (λ k. IsSeated (keeping_after event k)) (seated_after event) keeps seated)
+
+pub all_seated_needed : (keeps : List Keeping) → All IsSeated keeps → All IsSeated (needed keeps)
+all_seated_needed keeps seated = All-filter is_needed IsSeated keeps seated

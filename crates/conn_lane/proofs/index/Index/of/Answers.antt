@@ -1,0 +1,17 @@
+use Rattle.std.proofs.Common.{[], sym, subst, take_all}
+use Rattle.conn_lane.specs.Index.{IsIndexOf}
+use Rattle.conn_lane.specs.Views.{keeping_all}
+use Rattle.conn_lane.proofs.Indexed.{indexed_none, indexed_next}
+use Rattle.conn_lane.proofs.index.Index.of.Goals as goal
+
+pub loop-place-init : goal.loop-place-init
+loop-place-init c = subst (IsIndexOf []) (sym c.in_ok-index.ensures) indexed_none
+
+pub loop-place-preserved : goal.loop-place-preserved
+loop-place-preserved c =
+    indexed_next c.args.now c.args.kept.now c.loop-place.index c.take.new.self c.loop-place.place c.index-kept-place.result c.loop-place-test.true c.index-kept-place.is c.loop-place.invariant c.take.ensures
+
+pub returns : goal.returns
+returns c =
+    subst (IsIndexOf (keeping_all c.args.now c.args.kept.now)) (sym c.advance.ensures)
+    (subst (λ xs. IsIndexOf (keeping_all c.args.now xs) c.loop-place.index) (take_all c.loop-place.place c.args.kept.now c.loop-place-test.false) c.loop-place.invariant)

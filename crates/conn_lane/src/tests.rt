@@ -1,0 +1,160 @@
+//! Worked rows of a connection lane: a connection of class 2 for a subsystem of this node, a tick, and messages to references that nobody has.
+ghost use Rattle.std.specs.Prelude.{◌≡◌};
+
+use crate::ConnLane;
+use plant_core::{LaneHead, Plant, Terms, Ticks};
+use relay_base::{
+    Event, Lost, Memory, Octets, Output, Outs, Pc, Ref24, Request, Sls, Ssn, Stamp, Tell,
+};
+use std::alloc::Global;
+use std::test::Fail;
+
+/// How many events the lane of a test takes at most.
+const MOST_EVENTS: usize = 5;
+
+/// Point 100, where connections have a credit of 7.
+fn lane_head() -> LaneHead
+    ensures { result.terms.credit ≡ 7 }
+{
+    let ticks = Ticks {
+        connect: 90,
+        ias: 420,
+        iar: 900,
+        rel: 15,
+        repeat: 15,
+        int: 60,
+        reset: 15,
+        reassembly: 15,
+        freeze: 60,
+        status: 30,
+        status_max: 600,
+        coord: 90,
+    };
+    let terms = Terms {
+        own: Pc::new(100).unwrap(),
+        credit: 7,
+        ticks,
+    };
+    LaneHead {
+        terms,
+        reassembly: 15,
+    }
+}
+
+/// A lane, and the routing data that it asks.
+#[derive(Drop)]
+struct Scene {
+    plant: Plant,
+    lane: ConnLane,
+}
+
+impl Scene {
+    /// The first lane of point 100, which has subsystem 8.
+    fn new(alloc: Global) -> Result<Scene, Memory> {
+        let plant = Plant::start(alloc, Pc::new(100).unwrap(), &[Ssn::from(8)])?;
+        let lane = ConnLane::new(alloc, &lane_head(), 0)?;
+        Ok(Scene { plant, lane })
+    }
+
+    /// What comes of an event.
+    fn outcome(&mut self, event: &Event) -> Result<Outs, Memory> {
+        if self.lane.journal().len() >= MOST_EVENTS {
+            return Err(Memory);
+        }
+        let stamp = Stamp {
+            phase: 1,
+            link: 1,
+            line: 4,
+        };
+        self.lane.step(&self.plant, stamp, event)?;
+        match self.lane.journal().as_slice().last() {
+            Some(entry) => Ok(entry.outs.clone()?),
+            None => Err(Memory),
+        }
+    }
+}
+
+fn reference() -> Ref24 {
+    Ref24::new(16).unwrap()
+}
+
+/// A message from point 200.
+fn message(alloc: Global, octets: &[u8]) -> Result<Event, Memory> {
+    Ok(Event::Message {
+        opc: Pc::new(200).unwrap(),
+        sls: Sls::new(3).unwrap(),
+        bytes: Octets::from_slice(alloc, octets)?,
+    })
+}
+
+/// Subsystem 8 accepts the connection of the first reference.
+fn acceptance(alloc: Global) -> Event {
+    Event::Asked {
+        ssn: Ssn::from(8),
+        request: Request::Accept {
+            mine: reference(),
+            class: 2,
+            credit: 0,
+            body: Octets::new(alloc),
+        },
+    }
+}
+
+fn single(alloc: Global, output: Output) -> Result<Outs, Memory> {
+    let mut outs = Outs::new(alloc);
+    outs.push(output)?;
+    Ok(outs)
+}
+
+/// A message to point 200, alone.
+fn sent(alloc: Global, octets: &[u8]) -> Result<Outs, Memory> {
+    let output = Output::Sent {
+        point: Pc::new(200).unwrap(),
+        sls: Sls::new(3).unwrap(),
+        bytes: Octets::from_slice(alloc, octets)?,
+    };
+    single(alloc, output)
+}
+
+/// Subsystem 8 is offered the connection of the first reference, alone.
+fn offered(alloc: Global) -> Result<Outs, Memory> {
+    let tell = Tell::Conn {
+        mine: reference(),
+        class: 2,
+        credit: 0,
+        called: Octets::from_slice(alloc, b"\x42\x08")?,
+        calling: None,
+        body: None,
+    };
+    let output = Output::Told {
+        ssn: Ssn::from(8),
+        tell,
+    };
+    single(alloc, output)
+}
+
+#[test]
+fn carries_a_connection(rt: HostRuntime) -> Result<(), Fail> {
+    let alloc = rt.alloc();
+    let mut scene = Scene::new(alloc)?;
+
+    let request = message(alloc, b"\x01\x01\x00\x00\x02\x02\x00\x02\x42\x08")?;
+    assert_eq!(rt; scene.outcome(&request)?, offered(alloc)?);
+
+    let confirmation = sent(alloc, b"\x02\x01\x00\x00\x10\x00\x00\x02\x00")?;
+    assert_eq!(rt; scene.outcome(&acceptance(alloc))?, confirmation);
+
+    assert_eq!(rt; scene.outcome(&Event::Tick)?, Outs::new(alloc));
+
+    let release = message(alloc, b"\x04\x07\x00\x00\x05\x00\x00\x00\x00")?;
+    let complete = sent(alloc, b"\x05\x05\x00\x00\x07\x00\x00")?;
+    assert_eq!(rt; scene.outcome(&release)?, complete);
+
+    let data = message(alloc, b"\x06\x09\x00\x00\x00\x01\x01\x61")?;
+    let stray = single(alloc, Output::Lost(Lost::Stray))?;
+    assert_eq!(rt; scene.outcome(&data)?, stray);
+
+    let Scene { lane, .. } = scene;
+    assert_eq!(rt; lane.into_journal().len(), 5);
+    Ok(())
+}
