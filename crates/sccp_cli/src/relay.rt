@@ -85,28 +85,29 @@ fn output_of(alloc: Global, command: Command, book: &Book) -> Result<Octets, Mem
     }
 }
 
-/// Runs the capture of a command, and writes the output.
+/// Runs the capture of a command, gives it up, and writes the output.
 fn run_and_write<R: Threads + Wait + Sync, K: Sink, P: Pace>(
     rt: &R,
     alloc: Global,
     command: Command,
-    capture: &Capture,
+    capture: Capture,
     out: &mut K,
     pace: &P,
     book: &mut Book,
 ) -> Result<(), Stop>
-    requires head { IsHead capture.now.head }
-    requires stamped { IsStamped capture.now.head capture.now.phases }
-    requires few { length (all_events capture.now.phases) < 2 ^ 32 }
+    requires head { IsHead capture.head }
+    requires stamped { IsStamped capture.head capture.phases }
+    requires few { length (all_events capture.phases) < 2 ^ 32 }
     requires empty { IsEmpty book.old }
-    ensures ok { OnOk result (Filled command (K.held out.old) (K.held out.new) capture.now book.new) }
-    ensures stopped { IfErr result (Partly command (K.held out.old) (K.held out.new) capture.now book.new) }
+    ensures ok { OnOk result (Filled command (K.held out.old) (K.held out.new) capture book.new) }
+    ensures stopped { IfErr result (Partly command (K.held out.old) (K.held out.new) capture book.new) }
     ensures fault { result ≡ Err Stop.WriteFault → Rose (K.faults out.old) (K.faults out.new) }
     ensures kept { result ≢ Err Stop.WriteFault → K.faults out.new ≡ K.faults out.old }
 {
-    if run_capture(rt, alloc, capture, pace, book).is_err() {
+    if run_capture(rt, alloc, &capture, pace, book).is_err() {
         return Err(Stop::Memory);
     }
+    drop(capture);
     let Ok(text) = output_of(alloc, command, book) else {
         return Err(Stop::Memory);
     };
@@ -134,7 +135,7 @@ fn run<R: Threads + Wait + Sync, S: Source, K: Sink, P: Pace>(
     ensures out_kept { result ≢ Err Stop.WriteFault → K.faults out.new ≡ K.faults out.old }
 {
     let capture = take_capture(alloc, source)?;
-    run_and_write(rt, alloc, Command::Run, &capture, out, pace, book)
+    run_and_write(rt, alloc, Command::Run, capture, out, pace, book)
 }
 
 /// Makes a capture of a number and a count of lines, runs it, and writes the line of counts.
@@ -158,7 +159,7 @@ fn generate<R: Threads + Wait + Sync, K: Sink, P: Pace>(
         return Err(Stop::Memory);
     };
     let command = Command::Generate { number, lines };
-    run_and_write(rt, alloc, command, &capture, out, pace, book)
+    run_and_write(rt, alloc, command, capture, out, pace, book)
 }
 
 /// Does what the words ask.
