@@ -69,38 +69,42 @@ fn absorbs(
 fn absorbs_rows(rt: HostRuntime) -> Result<(), Fail> {
     let mut plant = Plant::start(rt.alloc(), point(&rt, 100), &[Ssn::from(8)])?;
     assert_eq!(rt; plant.add(row(&rt, &[4, 9], 300)), Ok(()));
-    let start = plant.copy()?;
-    let add = Change::AddRow(row(&rt, &[4, 9, 1, 7], 400));
-    let delete = Change::DelRow(selector(), digits(&[4, 9, 1, 7]));
-    absorbs(&rt, &mut plant, &add, Verdict::Alters)?;
-    absorbs(&rt, &mut plant, &add, Verdict::Duplicate)?;
+    assert_eq!(rt; plant.copy()?.edition(), 0);
     let titles = digits(&[4, 9, 1, 7, 1, 2]);
+    for verdict in [Verdict::Alters, Verdict::Duplicate] {
+        let add = Change::AddRow(row(&rt, &[4, 9, 1, 7], 400));
+        absorbs(&rt, &mut plant, &add, verdict)?;
+    }
     let long = row(&rt, &[4, 9, 1, 7], 400);
     assert_eq!(rt; plant.look(&selector(), &titles), Look::Row(&long));
-    absorbs(&rt, &mut plant, &delete, Verdict::Alters)?;
-    absorbs(&rt, &mut plant, &delete, Verdict::NoRow)?;
+    for verdict in [Verdict::Alters, Verdict::NoRow] {
+        let delete = Change::DelRow(selector(), digits(&[4, 9, 1, 7]));
+        absorbs(&rt, &mut plant, &delete, verdict)?;
+    }
     let short = row(&rt, &[4, 9], 300);
     assert_eq!(rt; plant.look(&selector(), &titles), Look::Row(&short));
-    assert_eq!(rt; start.edition(), 0);
     Ok(())
 }
 
 #[test]
 fn absorbs_statuses(rt: HostRuntime) -> Result<(), Fail> {
     let far = point(&rt, 300);
-    let mut plant = Plant::start(rt.alloc(), point(&rt, 100), &[Ssn::from(8)])?;
-    let plant = &mut plant;
     let ssn = Ssn::from(8);
-    absorbs(&rt, plant, &Change::FreePoint(far), Verdict::Same)?;
-    absorbs(&rt, plant, &Change::BarPoint(far), Verdict::Alters)?;
-    absorbs(&rt, plant, &Change::FreePoint(far), Verdict::Alters)?;
-    absorbs(&rt, plant, &Change::BarSub(far, ssn), Verdict::Alters)?;
-    absorbs(&rt, plant, &Change::BarSub(far, ssn), Verdict::Same)?;
-    absorbs(&rt, plant, &Change::FreeSub(far, ssn), Verdict::Alters)?;
-    absorbs(&rt, plant, &Change::LocalUp(ssn), Verdict::Same)?;
-    absorbs(&rt, plant, &Change::LocalDown(ssn), Verdict::Alters)?;
-    absorbs(&rt, plant, &Change::LocalDown(Ssn::from(9)), Verdict::Same)?;
-    absorbs(&rt, plant, &Change::LocalUp(ssn), Verdict::Alters)?;
+    let mut plant = Plant::start(rt.alloc(), point(&rt, 100), &[ssn])?;
+    for (change, verdict) in [
+        (Change::FreePoint(far), Verdict::Same),
+        (Change::BarPoint(far), Verdict::Alters),
+        (Change::FreePoint(far), Verdict::Alters),
+        (Change::BarSub(far, ssn), Verdict::Alters),
+        (Change::BarSub(far, ssn), Verdict::Same),
+        (Change::FreeSub(far, ssn), Verdict::Alters),
+        (Change::LocalUp(ssn), Verdict::Same),
+        (Change::LocalDown(ssn), Verdict::Alters),
+        (Change::LocalDown(Ssn::from(9)), Verdict::Same),
+        (Change::LocalUp(ssn), Verdict::Alters),
+    ] {
+        absorbs(&rt, &mut plant, &change, verdict)?;
+    }
     Ok(())
 }
 
