@@ -18,7 +18,7 @@ mod words;
 
 pub use capture::{Capture, MOST_BYTES, read_capture};
 pub use fault::{CaptureFault, Limit, LineFault, LineKind};
-pub use journal_text::{Book, print_book};
+pub use journal_text::{Book, WriteFault, print_book, write_book};
 pub use lane_place::{LanePlace, place};
 pub use note::fault_note;
 pub use reading::{Phase, PhaseList, StampedControlList};

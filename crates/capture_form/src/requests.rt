@@ -5,7 +5,7 @@ ghost use Rattle.capture_form.specs.Requests.{unit_of, unit_asked, conn_of, conn
 
 use crate::fault::LineKind;
 use crate::refused::LineRefused;
-use crate::words::{asks_return, below, body, called, calling, class, is_return, text};
+use crate::words::{asks_return, below, body, boxed_body, called, calling, class, is_return, text};
 use relay_base::Request;
 use std::alloc::Global;
 
@@ -26,7 +26,7 @@ fn unit_of(
     let ret = asks_return(ret);
     let called = called(alloc, called_word)?;
     let calling = calling(alloc, calling_word)?;
-    let body = body(alloc, 2_560, body_word)?;
+    let body = boxed_body(alloc, 2_560, body_word)?;
     Ok(Request::Unit {
         sls,
         class,

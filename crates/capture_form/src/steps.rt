@@ -104,6 +104,20 @@ fn event_at(
     }
 }
 
+/// The same events, in no more memory than they take.
+fn fitted(alloc: Global, phase: Phase) -> Phase
+    ensures { result ≡ phase }
+{
+    let mut lists = phase.into_vec();
+    for link in 0..lists.len() {
+        let list = mem::replace(&mut lists[link], StampedControlList::new(alloc));
+        let mut events = list.into_vec();
+        events.shrink_to_fit();
+        lists[link] = StampedControlList::from(events);
+    }
+    Phase::from(lists)
+}
+
 /// Ends the phase that stands, and begins the next one.
 fn end_phase(alloc: Global, head: &Head, read: &mut Reading) -> Result<(), CaptureFault>
     requires { (read.old.phase + 1 < 2 ^ 32) × (read.old.line + 1 < 2 ^ 32) }
@@ -112,7 +126,7 @@ fn end_phase(alloc: Global, head: &Head, read: &mut Reading) -> Result<(), Captu
 {
     let next = empty_phase(alloc, head.links)?;
     let ended = mem::replace(&mut read.current, next);
-    read.phases.push(ended)?;
+    read.phases.push(fitted(alloc, ended))?;
     read.phase += 1;
     read.line += 1;
     Ok(())

@@ -6,7 +6,7 @@ use crate::{
 use gtt_table::Row;
 use node_head::{digits_of, entity_of};
 use plant_core::{Change, ControlEvent};
-use relay_base::{Digits, Event, Memory, Octets, Pc, Ref24, Request, Sls, Ssn, Stamp};
+use relay_base::{BoxedOctets, Digits, Event, Memory, Octets, Pc, Ref24, Request, Sls, Ssn, Stamp};
 use sccp_address::Selector;
 use std::alloc::Global;
 use std::test::Fail;
@@ -409,9 +409,9 @@ fn unit(alloc: Global, called: &[u8], body: &[u8]) -> Result<ControlEvent, Memor
         sls: Sls::new(15).ok_or(Memory)?,
         class: 1,
         ret: true,
-        called: Octets::from_slice(alloc, called)?,
+        called: BoxedOctets::from_slice(alloc, called)?,
         calling: None,
-        body: Octets::from_slice(alloc, body)?,
+        body: BoxedOctets::from_slice(alloc, body)?,
     };
     let ssn = Ssn::from(8);
     Ok(ControlEvent::Plain(Event::Asked { ssn, request }))
@@ -508,7 +508,7 @@ fn request(alloc: Global, place: u32) -> Result<Request, Memory> {
             tag: 65_535,
             class: 2,
             credit: 127,
-            called: octets(alloc, &[0x42, 0x09])?,
+            called: BoxedOctets::from_slice(alloc, &[0x42, 0x09])?,
             body: octets(alloc, &[0x01])?,
         },
         1 => Request::Accept {

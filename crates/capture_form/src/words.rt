@@ -10,7 +10,7 @@ use crate::refused::LineRefused;
 use crate::text::{is_dash, octets};
 use gtt_table::Entity;
 use node_head::{digits_of, entity_of, number_of};
-use relay_base::{Below, Digits, Octets, Pc, Ssn};
+use relay_base::{Below, BoxedOctets, Digits, Octets, Pc, Ssn};
 use sccp_address::parse;
 use std::alloc::Global;
 
@@ -114,7 +114,7 @@ fn is_address(octets: &[u8]) -> bool
 }
 
 /// An address of at most 40 octets.
-pub fn called(alloc: Global, word: &[u8]) -> Result<Octets, LineRefused>
+pub fn called(alloc: Global, word: &[u8]) -> Result<BoxedOctets, LineRefused>
     ensures { States result (called_of word.now) }
 {
     let octets = hex_octets(alloc, word)?;
@@ -124,11 +124,11 @@ pub fn called(alloc: Global, word: &[u8]) -> Result<Octets, LineRefused>
     if octets.len() > 40 {
         return Err(LineRefused::Kind(LineKind::Size));
     }
-    Ok(octets)
+    Ok(BoxedOctets::new(alloc, octets)?)
 }
 
 /// An address, or none.
-pub fn calling(alloc: Global, word: &[u8]) -> Result<Option<Octets>, LineRefused>
+pub fn calling(alloc: Global, word: &[u8]) -> Result<Option<BoxedOctets>, LineRefused>
     ensures { States result (calling_of word.now) }
 {
     if is_dash(word) {
@@ -147,6 +147,14 @@ pub fn body(alloc: Global, most: usize, word: &[u8]) -> Result<Octets, LineRefus
         return Err(LineRefused::Kind(LineKind::Size));
     }
     Ok(octets)
+}
+
+/// At most so many octets, in a place of their own.
+pub fn boxed_body(alloc: Global, most: usize, word: &[u8]) -> Result<BoxedOctets, LineRefused>
+    ensures { States result (body_of most word.now) }
+{
+    let octets = body(alloc, most, word)?;
+    Ok(BoxedOctets::new(alloc, octets)?)
 }
 
 /// One octet or more, and at most so many.

@@ -4,7 +4,8 @@ ghost use Rattle.std.specs.Prelude.{◌≡◌};
 use crate::ConnLane;
 use plant_core::{LaneHead, Plant, Terms, Ticks};
 use relay_base::{
-    Event, Lost, Memory, Octets, Output, Outs, Pc, Ref24, Request, Sls, Ssn, Stamp, Tell,
+    BoxedOctets, Event, Lost, Memory, Octets, Output, Outs, Pc, Ref24, Request, Sls, Ssn, Stamp,
+    Tell,
 };
 use std::alloc::Global;
 use std::test::Fail;
@@ -122,7 +123,7 @@ fn offered(alloc: Global) -> Result<Outs, Memory> {
         mine: reference(),
         class: 2,
         credit: 0,
-        called: Octets::from_slice(alloc, b"\x42\x08")?,
+        called: BoxedOctets::from_slice(alloc, b"\x42\x08")?,
         calling: None,
         body: None,
     };

@@ -5,16 +5,16 @@ ghost use Rattle.connectionless.specs.Routed.{told_by, segmentation_in, segment_
 
 use crate::segment::{Next, Segment};
 use crate::unitdata::{Kind, UnitView};
-use relay_base::{Memory, Octets, Output, Outs, Pc, Sls, Ssn, Tell};
+use relay_base::{BoxedOctets, Memory, Octets, Output, Outs, Pc, Sls, Ssn, Tell};
 use std::alloc::Global;
 
 /// What a user is told of a unit, or of a service message.
 fn tell_of(alloc: Global, unit: &UnitView<'_>) -> Result<Tell, Memory>
     ensures { IfOk result (λ tell. tell ≡ told_by unit.now.is_service (seen_unit unit.now)) }
 {
-    let called = Octets::from_slice(alloc, unit.called)?;
-    let calling = Octets::from_slice(alloc, unit.calling)?;
-    let body = Octets::from_slice(alloc, unit.body)?;
+    let called = BoxedOctets::from_slice(alloc, unit.called)?;
+    let calling = BoxedOctets::from_slice(alloc, unit.calling)?;
+    let body = BoxedOctets::from_slice(alloc, unit.body)?;
     if unit.is_service {
         return Ok(Tell::Notice {
             cause: unit.first,

@@ -2,7 +2,7 @@
 ghost use Rattle.std.specs.Prelude.{◌≡◌, IsTrue, Some, unwrap_or};
 ghost use Rattle.connectionless.specs.Given.{is_address, is_optional_address, subsystem_address, is_unit_request, given_of, seen_given, IsInRange};
 
-use relay_base::{Octets, Request, Sls, Ssn};
+use relay_base::{BoxedOctets, Request, Sls, Ssn};
 use sccp_address::parse;
 
 /// The unit that a user gives, with its calling address.
@@ -20,17 +20,17 @@ pub struct GivenView<'a> {
 }
 
 /// Whether octets are an address that a user may give: at most 40 of them, which parse.
-fn is_address(octets: &Octets) -> bool
+fn is_address(octets: &[u8]) -> bool
     ensures { result ≡ is_address octets.now }
 {
-    octets.len() <= 40 && parse(octets.as_slice()).is_ok()
+    octets.len() <= 40 && parse(octets).is_ok()
 }
 
-fn is_optional_address(octets: &Option<Octets>) -> bool
+fn is_optional_address(octets: &Option<BoxedOctets>) -> bool
     ensures { result ≡ is_optional_address octets.now }
 {
     match octets {
-        Some(octets) => is_address(octets),
+        Some(octets) => is_address(octets.as_slice()),
         None => true,
     }
 }
@@ -49,11 +49,14 @@ pub fn is_unit_request(request: &Request) -> bool
     else {
         return false;
     };
-    *class <= 1 && is_address(called) && is_optional_address(calling) && body.len() <= 2_560
+    *class <= 1
+        && is_address(called.as_slice())
+        && is_optional_address(calling)
+        && body.as_slice().len() <= 2_560
 }
 
 /// The calling address that is given, else the user's own one.
-fn calling_or<'a>(calling: &'a Option<Octets>, own: &'a [u8]) -> &'a [u8]
+fn calling_or<'a>(calling: &'a Option<BoxedOctets>, own: &'a [u8]) -> &'a [u8]
     ensures { result.now ≡ unwrap_or calling.now own.now }
 {
     match calling {

@@ -5,7 +5,9 @@ use crate::{Next, Segment, message_ask, message_in, return_outs, unit_outs, user
 use plant_core::{Answer, Rewrite, RouteCause};
 use q713_codec::View;
 use reassembly::Piece;
-use relay_base::{Lost, Memory, Octets, Output, Outs, Pc, ReadFault, Request, Sls, Ssn, Tell};
+use relay_base::{
+    BoxedOctets, Lost, Memory, Octets, Output, Outs, Pc, ReadFault, Request, Sls, Ssn, Tell,
+};
 use std::alloc::Global;
 use std::test::Fail;
 
@@ -65,9 +67,9 @@ fn lost(alloc: Global, lost: Lost) -> Result<Outs, Memory> {
 
 /// What user 8 is told, alone: a unit of class 0, or a notice with a cause.
 fn told(alloc: Global, notice: Option<u8>, called: &[u8], calling: &[u8]) -> Result<Outs, Memory> {
-    let called = Octets::from_slice(alloc, called)?;
-    let calling = Octets::from_slice(alloc, calling)?;
-    let body = Octets::from_slice(alloc, b"\xaa")?;
+    let called = BoxedOctets::from_slice(alloc, called)?;
+    let calling = BoxedOctets::from_slice(alloc, calling)?;
+    let body = BoxedOctets::from_slice(alloc, b"\xaa")?;
     let tell = match notice {
         None => Tell::Unit {
             class: 0,
@@ -382,9 +384,9 @@ fn unit(
         sls: selection(),
         class,
         ret,
-        called: Octets::from_slice(alloc, called)?,
+        called: BoxedOctets::from_slice(alloc, called)?,
         calling: None,
-        body: Octets::from_slice(alloc, body)?,
+        body: BoxedOctets::from_slice(alloc, body)?,
     })
 }
 

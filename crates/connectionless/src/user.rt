@@ -8,7 +8,7 @@ use crate::given::{GivenView, given_in};
 use crate::leaving::append;
 use crate::outgoing::OutgoingUnit;
 use plant_core::{Answer, Rewrite, return_cause};
-use relay_base::{Lost, Memory, Octets, Output, Outs, Pc, Ref24, Request, Ssn, Tell};
+use relay_base::{BoxedOctets, Lost, Memory, Output, Outs, Pc, Ref24, Request, Ssn, Tell};
 use std::alloc::Global;
 
 /// What a user of this node is told of another user's unit.
@@ -17,9 +17,9 @@ fn told(alloc: Global, ssn: Ssn, given: &GivenView<'_>) -> Result<Output, Memory
 {
     let tell = Tell::Unit {
         class: given.class,
-        called: Octets::from_slice(alloc, given.called)?,
-        calling: Octets::from_slice(alloc, given.calling)?,
-        body: Octets::from_slice(alloc, given.body)?,
+        called: BoxedOctets::from_slice(alloc, given.called)?,
+        calling: BoxedOctets::from_slice(alloc, given.calling)?,
+        body: BoxedOctets::from_slice(alloc, given.body)?,
     };
     Ok(Output::Told { ssn, tell })
 }
@@ -33,9 +33,9 @@ fn refused(alloc: Global, cause: u8, given: &GivenView<'_>) -> Result<Output, Me
     }
     let tell = Tell::Notice {
         cause,
-        called: Octets::from_slice(alloc, given.calling)?,
-        calling: Octets::from_slice(alloc, given.called)?,
-        body: Octets::from_slice(alloc, given.body)?,
+        called: BoxedOctets::from_slice(alloc, given.calling)?,
+        calling: BoxedOctets::from_slice(alloc, given.called)?,
+        body: BoxedOctets::from_slice(alloc, given.body)?,
     };
     Ok(Output::Told {
         ssn: given.ssn,

@@ -8,7 +8,7 @@ use crate::effect::Work;
 use connectionless::return_outs;
 use plant_core::LaneHead;
 use reassembly::{Bench, Now, Piece};
-use relay_base::{Lost, Memory, Output, Outs, Pc, Tell};
+use relay_base::{BoxedOctets, Lost, Memory, Octets, Output, Outs, Pc, Tell};
 use std::alloc::Global;
 
 /// The return causes of a reassembly that failed, and of one without room (Q.713).
@@ -16,18 +16,39 @@ const FAILED: u8 = 0x0E;
 
 const NO_ROOM: u8 = 0x09;
 
-/// What a user is told of a message that is whole: it has the class of its first segment.
-fn whole_told(piece: Piece) -> Output
-    ensures { result ≡ whole_told piece }
-{
-    Output::Told {
-        ssn: piece.ssn,
-        tell: Tell::Unit {
-            class: piece.segmentation[0] / 64 % 2,
-            called: piece.called,
-            calling: piece.calling,
-            body: piece.body,
-        },
+/// Room for what a user is told of a message: its octets take no more memory then.
+#[derive(Drop)]
+struct TellRoom {
+    called: BoxedOctets,
+    calling: BoxedOctets,
+    body: BoxedOctets,
+}
+
+impl TellRoom {
+    fn new(alloc: Global) -> Result<TellRoom, Memory> {
+        Ok(TellRoom {
+            called: BoxedOctets::new(alloc, Octets::new(alloc))?,
+            calling: BoxedOctets::new(alloc, Octets::new(alloc))?,
+            body: BoxedOctets::new(alloc, Octets::new(alloc))?,
+        })
+    }
+
+    /// What a user is told of a message that is whole: it has the class of its first segment.
+    fn whole_told(mut self, piece: Piece) -> Output
+        ensures { result ≡ whole_told piece }
+    {
+        self.called.put(piece.called);
+        self.calling.put(piece.calling);
+        self.body.put(piece.body);
+        Output::Told {
+            ssn: piece.ssn,
+            tell: Tell::Unit {
+                class: piece.segmentation[0] / 64 % 2,
+                called: self.called,
+                calling: self.calling,
+                body: self.body,
+            },
+        }
     }
 }
 
@@ -48,7 +69,13 @@ fn put_ended(
 }
 
 /// Puts what comes of a segment at the end, where there is room for one output. Only the return of one without room can lack memory.
-fn put_now(alloc: Global, own: Pc, now: Now, mut outs: Vec<Output>) -> Result<Outs, Memory>
+fn put_now(
+    alloc: Global,
+    own: Pc,
+    now: Now,
+    room: TellRoom,
+    mut outs: Vec<Output>,
+) -> Result<Outs, Memory>
     requires { vec_len outs + 1 ≤ vec_capacity outs }
     ensures ok { IfOk result (λ all. all ≡ outs.items ++ of_now own now) }
     ensures err { OnErr result (is_no_room now ≡ true) }
@@ -61,7 +88,7 @@ fn put_now(alloc: Global, own: Pc, now: Now, mut outs: Vec<Output>) -> Result<Ou
             return Ok(outs);
         }
         Now::Orphan | Now::Broken => Output::Lost(Lost::Segment),
-        Now::Whole(whole) => whole_told(whole),
+        Now::Whole(whole) => room.whole_told(whole),
     };
     outs.push_reserved(output);
     Ok(Outs::from(outs))
@@ -85,8 +112,9 @@ fn take(
     put_ended(alloc, own, bench, &piece, &mut outs)?;
     let mut outs = outs.into_vec();
     outs.reserve(1)?;
+    let room = TellRoom::new(alloc)?;
     let taken = bench.take(piece)?;
-    put_now(alloc, own, taken.now, outs)
+    put_now(alloc, own, taken.now, room, outs)
 }
 
 /// A tick goes by: puts the returns of those that fail at the end, in the order in which these began. After `Memory` the

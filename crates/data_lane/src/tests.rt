@@ -1,7 +1,7 @@
 //! Worked rows of a data lane, with ticks, and the references of what it cuts.
 use crate::DataLane;
 use plant_core::{LaneHead, Plant, Terms, Ticks};
-use relay_base::{Event, Memory, Octets, Output, Outs, Pc, Request, Sls, Ssn, Stamp};
+use relay_base::{BoxedOctets, Event, Memory, Octets, Output, Outs, Pc, Request, Sls, Ssn, Stamp};
 use std::alloc::Global;
 use std::test::Fail;
 
@@ -79,14 +79,14 @@ const LAST_SEGMENT: usize = 78;
 /// A user's unit of so many octets for subsystem 8 of point 300.
 fn unit(alloc: Global, size: usize) -> Result<Event, Memory> {
     let body = Vec::from_elem(alloc, 0x61, size)?;
-    let called = Octets::from_slice(alloc, b"\x43\x2c\x01\x08")?;
+    let called = BoxedOctets::from_slice(alloc, b"\x43\x2c\x01\x08")?;
     let request = Request::Unit {
         sls: Sls::new(5).ok_or(Memory)?,
         class: 0,
         ret: false,
         called,
         calling: None,
-        body: Octets::from(body),
+        body: BoxedOctets::new(alloc, Octets::from(body))?,
     };
     Ok(Event::Asked {
         ssn: Ssn::from(8),

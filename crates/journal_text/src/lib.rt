@@ -2,8 +2,11 @@
 #![tactic(auto)]
 
 mod book;
+mod entries;
 mod tell;
 #[cfg(test)]
 mod tests;
+mod writing;
 
 pub use book::{Book, print_book};
+pub use writing::{WriteFault, write_book};

@@ -1,26 +1,26 @@
 //! The text of what a user is told, of what is lost, and of outputs.
-ghost use Rattle.std.specs.Prelude.{◌≡◌, IfOk, string_bytes};
+ghost use Rattle.std.specs.Prelude.{◌≡◌, ◌++◌, codes, IfOk, OnOk, string_bytes};
 ghost use Rattle.journal_text.specs.Print.{octets_text, optional_text, up_text, reason_text, tell_text, read_fault_text, lost_text, output_text};
 
-use relay_base::{Lost, Octets, Output, ReadFault, Reason, Tell};
+use relay_base::{BoxedOctets, Lost, Output, ReadFault, Reason, Tell};
 use std::alloc::{AllocError, Global};
 
 /// Octets in hex, or a dash for none.
-pub fn octets_text(alloc: Global, octets: &Octets) -> Result<String, AllocError>
+fn octets_text(alloc: Global, octets: &[u8]) -> Result<String, AllocError>
     ensures { IfOk result (λ t. string_bytes t ≡ octets_text octets.now) }
 {
     if octets.is_empty() {
         String::from_str(alloc, "-")
     } else {
-        hex::encode(alloc, octets.as_slice())
+        hex::encode(alloc, octets)
     }
 }
 
-fn optional_text(alloc: Global, octets: &Option<Octets>) -> Result<String, AllocError>
+fn optional_text(alloc: Global, octets: &Option<BoxedOctets>) -> Result<String, AllocError>
     ensures { IfOk result (λ t. string_bytes t ≡ optional_text octets.now) }
 {
     match octets {
-        Some(octets) => octets_text(alloc, octets),
+        Some(octets) => octets_text(alloc, octets.as_slice()),
         None => String::from_str(alloc, "-"),
     }
 }
@@ -56,9 +56,9 @@ pub fn tell_text(alloc: Global, tell: &Tell) -> Result<String, AllocError>
             calling,
             body,
         } => {
-            let called = octets_text(alloc, called)?;
-            let calling = octets_text(alloc, calling)?;
-            let body = octets_text(alloc, body)?;
+            let called = octets_text(alloc, called.as_slice())?;
+            let calling = octets_text(alloc, calling.as_slice())?;
+            let body = octets_text(alloc, body.as_slice())?;
             format!(in alloc; "unit {class} {called} {calling} {body}")
         }
         Tell::Notice {
@@ -67,9 +67,9 @@ pub fn tell_text(alloc: Global, tell: &Tell) -> Result<String, AllocError>
             calling,
             body,
         } => {
-            let called = octets_text(alloc, called)?;
-            let calling = octets_text(alloc, calling)?;
-            let body = octets_text(alloc, body)?;
+            let called = octets_text(alloc, called.as_slice())?;
+            let calling = octets_text(alloc, calling.as_slice())?;
+            let body = octets_text(alloc, body.as_slice())?;
             format!(in alloc; "notice {cause} {called} {calling} {body}")
         }
         Tell::Conn {
@@ -81,7 +81,7 @@ pub fn tell_text(alloc: Global, tell: &Tell) -> Result<String, AllocError>
             body,
         } => {
             let mine = mine.number();
-            let called = octets_text(alloc, called)?;
+            let called = octets_text(alloc, called.as_slice())?;
             let calling = optional_text(alloc, calling)?;
             let body = optional_text(alloc, body)?;
             format!(in alloc; "conn {mine} {class} {credit} {called} {calling} {body}")
@@ -105,12 +105,12 @@ pub fn tell_text(alloc: Global, tell: &Tell) -> Result<String, AllocError>
         }
         Tell::Text { mine, body } => {
             let mine = mine.number();
-            let body = octets_text(alloc, body)?;
+            let body = octets_text(alloc, body.as_slice())?;
             format!(in alloc; "text {mine} {body}")
         }
         Tell::Expedited { mine, body } => {
             let mine = mine.number();
-            let body = octets_text(alloc, body)?;
+            let body = octets_text(alloc, body.as_slice())?;
             format!(in alloc; "ed {mine} {body}")
         }
         Tell::Renewed { mine, cause } => {
@@ -189,25 +189,27 @@ fn lost_text(alloc: Global, lost: Lost) -> Result<String, AllocError>
     }
 }
 
-/// The text of an output.
-pub fn output_text(alloc: Global, output: &Output) -> Result<String, AllocError>
-    ensures { IfOk result (λ t. string_bytes t ≡ output_text output.now) }
+/// Appends the line of an output.
+pub fn push_output(alloc: Global, text: &mut String, output: &Output) -> Result<(), AllocError>
+    ensures { OnOk result (string_bytes text.new ≡ string_bytes text.old ++ (codes " " ++ output_text output.now ++ codes "\n")) }
 {
     match output {
         Output::Sent { point, sls, bytes } => {
             let point = point.number();
             let sls = sls.number();
-            let bytes = octets_text(alloc, bytes)?;
-            format!(in alloc; "> {point} {sls} {bytes}")
+            write!(text, " > {point} {sls} ")?;
+            let bytes = octets_text(alloc, bytes.as_slice())?;
+            text.push_str(&bytes)?;
+            text.push('\n')
         }
         Output::Told { ssn, tell } => {
             let ssn = ssn.number();
             let tell = tell_text(alloc, tell)?;
-            format!(in alloc; "< {ssn} {tell}")
+            writeln!(text, " < {ssn} {tell}")
         }
         Output::Lost(lost) => {
             let lost = lost_text(alloc, *lost)?;
-            format!(in alloc; ". {lost}")
+            writeln!(text, " . {lost}")
         }
     }
 }

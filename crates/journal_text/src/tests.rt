@@ -1,15 +1,16 @@
 //! The print of journals, against texts that follow from its rules alone.
 ghost use Rattle.std.specs.Prelude.{◌<◌};
 
-use crate::{Book, print_book};
+use crate::{Book, WriteFault, print_book, write_book};
 use plant_core::{
     Answer, Asked, Change, ControlEntry, ControlEvent, ControlList, Entry, EntryList, Rewrite,
     RouteCause,
 };
 use relay_base::{
-    Event, Lost, Memory, Octets, Output, Outs, Pc, ReadFault, Reason, Ref24, Sls, Ssn, Stamp, Tell,
+    BoxedOctets, Event, Lost, MemSink, Memory, Octets, Output, Outs, Pc, ReadFault, Reason, Ref24,
+    Sls, Ssn, Stamp, Tell,
 };
-use std::alloc::Global;
+use std::alloc::{AllocError, Global};
 use std::test::Fail;
 
 /// A change that was published and two that had no effect, lanes with and without entries, routings of each kind,
@@ -275,16 +276,16 @@ fn put_losses(outs: &mut Outs) -> Result<(), Memory> {
 fn put_units(alloc: Global, outs: &mut Outs) -> Result<(), Memory> {
     let unit = Tell::Unit {
         class: 1,
-        called: Octets::from_slice(alloc, b"\x42\x08")?,
-        calling: Octets::from_slice(alloc, b"\x42\x06")?,
-        body: Octets::from_slice(alloc, b"\xaa")?,
+        called: BoxedOctets::from_slice(alloc, b"\x42\x08")?,
+        calling: BoxedOctets::from_slice(alloc, b"\x42\x06")?,
+        body: BoxedOctets::from_slice(alloc, b"\xaa")?,
     };
     put_told(outs, unit)?;
     let notice = Tell::Notice {
         cause: 12,
-        called: Octets::from_slice(alloc, b"\x42\x06")?,
-        calling: Octets::new(alloc),
-        body: Octets::new(alloc),
+        called: BoxedOctets::from_slice(alloc, b"\x42\x06")?,
+        calling: BoxedOctets::from_slice(alloc, b"")?,
+        body: BoxedOctets::from_slice(alloc, b"")?,
     };
     put_told(outs, notice)
 }
@@ -294,18 +295,18 @@ fn put_openings(alloc: Global, outs: &mut Outs) -> Result<(), Memory> {
         mine: reference(16_777_215),
         class: 3,
         credit: 127,
-        called: Octets::from_slice(alloc, b"\x42\x08")?,
-        calling: Some(Octets::from_slice(alloc, b"\x42\x06")?),
-        body: Some(Octets::from_slice(alloc, b"\x0b")?),
+        called: BoxedOctets::from_slice(alloc, b"\x42\x08")?,
+        calling: Some(BoxedOctets::from_slice(alloc, b"\x42\x06")?),
+        body: Some(BoxedOctets::from_slice(alloc, b"\x0b")?),
     };
     put_told(outs, whole)?;
     let bare = Tell::Conn {
         mine: reference(16),
         class: 2,
         credit: 0,
-        called: Octets::from_slice(alloc, b"\x42\x08")?,
+        called: BoxedOctets::from_slice(alloc, b"\x42\x08")?,
         calling: None,
-        body: Some(Octets::new(alloc)),
+        body: Some(BoxedOctets::from_slice(alloc, b"")?),
     };
     put_told(outs, bare)
 }
@@ -318,7 +319,7 @@ fn put_answers(alloc: Global, outs: &mut Outs) -> Result<(), Memory> {
         mine,
         class: 3,
         credit: 7,
-        called: Some(Octets::from_slice(alloc, b"\x42\x08")?),
+        called: Some(BoxedOctets::from_slice(alloc, b"\x42\x08")?),
         body: None,
     };
     put_told(outs, named)?;
@@ -327,7 +328,7 @@ fn put_answers(alloc: Global, outs: &mut Outs) -> Result<(), Memory> {
         class: 2,
         credit: 0,
         called: None,
-        body: Some(Octets::from_slice(alloc, b"\x0c")?),
+        body: Some(BoxedOctets::from_slice(alloc, b"\x0c")?),
     };
     put_told(outs, filled)
 }
@@ -349,7 +350,7 @@ fn put_transfers(alloc: Global, outs: &mut Outs) -> Result<(), Memory> {
     let filled = Tell::Disc {
         mine: reference(0),
         cause: 3,
-        body: Some(Octets::from_slice(alloc, b"\xa0")?),
+        body: Some(BoxedOctets::from_slice(alloc, b"\xa0")?),
     };
     put_told(outs, filled)
 }
@@ -409,6 +410,17 @@ fn lane_of_outputs(alloc: Global) -> Result<EntryList, Memory> {
     Ok(lane)
 }
 
+/// A sink that takes eight bytes at a time, and fails at the calls of these numbers.
+fn sink_of(alloc: Global, fails: &[u64]) -> Result<MemSink, AllocError> {
+    Ok(MemSink {
+        held: Vec::new(alloc),
+        most: 8,
+        fails: Vec::from_slice(alloc, fails)?,
+        calls: 0,
+        faults: 0,
+    })
+}
+
 /// The lanes in their order, with all forms of an entry.
 #[test]
 fn prints_journals(rt: HostRuntime) -> Result<(), Fail> {
@@ -432,6 +444,12 @@ fn prints_journals(rt: HostRuntime) -> Result<(), Fail> {
     book.units.push(EntryList::new(alloc))?;
     let print = print_book(alloc, &book)?;
     assert_eq!(rt; print.as_slice(), JOURNALS.as_bytes());
+    let mut sink = sink_of(alloc, &[])?;
+    assert_eq!(rt; write_book(alloc, &book, &mut sink), Ok(()));
+    assert_eq!(rt; sink.held.as_slice(), print.as_slice());
+    let mut sink = sink_of(alloc, &[2])?;
+    assert_eq!(rt; write_book(alloc, &book, &mut sink), Err(WriteFault::Sink));
+    assert_eq!(rt; sink.held.as_slice(), b"= contro".as_slice());
     Ok(())
 }
 
@@ -443,5 +461,21 @@ fn prints_outputs(rt: HostRuntime) -> Result<(), Fail> {
     book.conns.push(lane_of_outputs(alloc)?)?;
     let print = print_book(alloc, &book)?;
     assert_eq!(rt; print.as_slice(), OUTPUTS.as_bytes());
+    Ok(())
+}
+
+/// A lane whose print is too long to wait in memory whole.
+#[test]
+fn writes_long_lanes(rt: HostRuntime) -> Result<(), Fail> {
+    let alloc = rt.alloc();
+    let mut book = Book::new(alloc);
+    let mut lane = EntryList::new(alloc);
+    for line in 0..8192 {
+        put_entry(&mut lane, line, None, Outs::new(alloc))?;
+    }
+    book.units.push(lane)?;
+    let mut sink = sink_of(alloc, &[])?;
+    assert_eq!(rt; write_book(alloc, &book, &mut sink), Ok(()));
+    assert_eq!(rt; sink.held.as_slice(), print_book(alloc, &book)?.as_slice());
     Ok(())
 }

@@ -7,16 +7,6 @@ use crate::message::{Message, View};
 use relay_base::{Memory, Octets};
 use std::alloc::Global;
 
-/// A copy of an optional address or data.
-fn owned(alloc: Global, value: Option<&[u8]>) -> Result<Option<Octets>, Memory>
-    ensures { IfOk result (λ o. o ≡ option_map (λ v. v.now) value.entry) }
-{
-    match value {
-        Some(octets) => Ok(Some(Octets::from_slice(alloc, octets)?)),
-        None => Ok(None),
-    }
-}
-
 /// The message whose parts lie in octets, with copies of them.
 pub fn own(alloc: Global, view: &View<'_>) -> Result<Message, Memory>
     ensures { IfOk result (λ message. message ≡ seen view.now) }
@@ -28,7 +18,7 @@ pub fn own(alloc: Global, view: &View<'_>) -> Result<Message, Memory>
                 $(View::$variant { $($plain,)* $($octets,)* $($optional,)* } => Ok(Message::$variant {
                     $($plain,)*
                     $($octets: Octets::from_slice(alloc, $octets)?,)*
-                    $($optional: owned(alloc, $optional)?,)*
+                    $($optional: Octets::from_optional(alloc, $optional)?,)*
                 }),)*
             }
         };

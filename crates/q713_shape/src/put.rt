@@ -67,7 +67,7 @@ fn optional_pointer_fits(
 
 /// Writes the pointer of the optional part, where the type has one.
 fn put_optional_pointer(
-    out: &mut Vec<u8>,
+    out: &mut Octets,
     before: usize,
     rule: &OptionRule,
     values: &[Option<&[u8]>; 5],
@@ -76,7 +76,7 @@ fn put_optional_pointer(
     requires before { before ≤ 200_000 }
     requires few { IsTrue (has_few_names rule.now) }
     requires options { IsTrue (are_options_of (names_of rule.now) (optional_slices values.now)) }
-    ensures { OnOk result (out.new.items ≡ out.old.items ++ concat (map (number_octets wide) (option_skip (names_of rule.now) before (optional_part (names_of rule.now) (optional_slices values.now))))) }
+    ensures { OnOk result (out.new ≡ out.old ++ concat (map (number_octets wide) (option_skip (names_of rule.now) before (optional_part (names_of rule.now) (optional_slices values.now))))) }
 {
     if let OptionRule::Names(_) = rule {
         put_number(out, optional_skip(before, optional_len(rule, values)), wide)?;
@@ -86,13 +86,13 @@ fn put_optional_pointer(
 
 /// Writes the optional part, with its end where it has a parameter.
 fn put_optional_part(
-    out: &mut Vec<u8>,
+    out: &mut Octets,
     rule: &OptionRule,
     values: &[Option<&[u8]>; 5],
 ) -> Result<(), Memory>
     requires few { IsTrue (has_few_names rule.now) }
     requires options { IsTrue (are_options_of (names_of rule.now) (optional_slices values.now)) }
-    ensures { OnOk result (out.new.items ≡ out.old.items ++ optional_part (names_of rule.now) (optional_slices values.now)) }
+    ensures { OnOk result (out.new ≡ out.old ++ optional_part (names_of rule.now) (optional_slices values.now)) }
 {
     if let OptionRule::Names(names) = rule {
         put_options(out, names, values)?;
@@ -144,9 +144,9 @@ impl<const F: usize, const V: usize> Shape<F, V> {
         ensures { IfOk result (λ o. o ≡ octets_of (format_of self.now) (values_seen parts.now)) }
     {
         let before = variables_len(&self.vars, &parts.vars);
-        let mut out = Vec::with_capacity(alloc, self.length(parts))?;
+        let mut out = Octets::with_capacity(alloc, self.length(parts))?;
         out.push(self.kind)?;
-        out.extend_from_slice(&parts.fixed)?;
+        out.extend(&parts.fixed)?;
         put_pointers(
             &mut out,
             &self.vars,
@@ -157,6 +157,6 @@ impl<const F: usize, const V: usize> Shape<F, V> {
         put_optional_pointer(&mut out, before, &self.options, &parts.options, self.wide)?;
         put_variables(&mut out, &self.vars, &parts.vars)?;
         put_optional_part(&mut out, &self.options, &parts.options)?;
-        Ok(Octets::from(out))
+        Ok(out)
     }
 }

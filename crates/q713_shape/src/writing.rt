@@ -8,11 +8,11 @@ ghost use Rattle.q713_shape.specs.Writing.{number_octets, variable, variables, a
 
 use crate::lengths::{pointer_octets, variable_len};
 use crate::rules::VarRule;
-use relay_base::Memory;
+use relay_base::{Memory, Octets};
 
 /// Writes the low octet of a number, or its two low octets, the least significant first.
-pub fn put_number(out: &mut Vec<u8>, number: usize, wide: bool) -> Result<(), Memory>
-    ensures { OnOk result (out.new.items ≡ out.old.items ++ number_octets wide number) }
+pub fn put_number(out: &mut Octets, number: usize, wide: bool) -> Result<(), Memory>
+    ensures { OnOk result (out.new ≡ out.old ++ number_octets wide number) }
 {
     out.push((number % 256) as u8)?;
     if wide {
@@ -57,7 +57,7 @@ pub fn pointers_fit(rules: &[VarRule], values: &[&[u8]], behind: usize, wide: bo
 
 /// Writes the pointers of the variable parameters.
 pub fn put_pointers(
-    out: &mut Vec<u8>,
+    out: &mut Octets,
     rules: &[VarRule],
     values: &[&[u8]],
     behind: usize,
@@ -67,7 +67,7 @@ pub fn put_pointers(
     requires behind { behind ≤ 1 }
     requires values { length rules.now ≤ length values.now }
     requires lengths { IsTrue (have_lengths rules.now (slices values.now)) }
-    ensures { OnOk result (out.new.items ≡ out.old.items ++ concat (map (number_octets wide) (skips (pointer_width wide) behind 0 (variables rules.now (slices values.now))))) }
+    ensures { OnOk result (out.new ≡ out.old ++ concat (map (number_octets wide) (skips (pointer_width wide) behind 0 (variables rules.now (slices values.now))))) }
 {
     let mut before = 0;
     for i in 0..rules.len() {
@@ -78,18 +78,18 @@ pub fn put_pointers(
 }
 
 /// Writes a variable parameter, with its length.
-fn put_variable(out: &mut Vec<u8>, rule: &VarRule, value: &[u8]) -> Result<(), Memory>
-    ensures { OnOk result (out.new.items ≡ out.old.items ++ variable rule.now value.now) }
+fn put_variable(out: &mut Octets, rule: &VarRule, value: &[u8]) -> Result<(), Memory>
+    ensures { OnOk result (out.new ≡ out.old ++ variable rule.now value.now) }
 {
     put_number(out, value.len(), rule.most > 255)?;
-    out.extend_from_slice(value)?;
+    out.extend(value)?;
     Ok(())
 }
 
 /// Writes the variable parameters.
-pub fn put_variables(out: &mut Vec<u8>, rules: &[VarRule], values: &[&[u8]]) -> Result<(), Memory>
+pub fn put_variables(out: &mut Octets, rules: &[VarRule], values: &[&[u8]]) -> Result<(), Memory>
     requires { length rules.now ≤ length values.now }
-    ensures { OnOk result (out.new.items ≡ out.old.items ++ concat (variables rules.now (slices values.now))) }
+    ensures { OnOk result (out.new ≡ out.old ++ concat (variables rules.now (slices values.now))) }
 {
     for i in 0..rules.len() {
         put_variable(out, &rules[i], values[i])?;
@@ -98,21 +98,21 @@ pub fn put_variables(out: &mut Vec<u8>, rules: &[VarRule], values: &[&[u8]]) -> 
 }
 
 /// Writes an optional parameter, with its name and its length, where it is there.
-fn put_option(out: &mut Vec<u8>, name: u8, value: Option<&[u8]>) -> Result<(), Memory>
-    ensures { OnOk result (out.new.items ≡ out.old.items ++ given name (option_map (λ v. v.now) value.entry)) }
+fn put_option(out: &mut Octets, name: u8, value: Option<&[u8]>) -> Result<(), Memory>
+    ensures { OnOk result (out.new ≡ out.old ++ given name (option_map (λ v. v.now) value.entry)) }
 {
     if let Some(value) = value {
         out.push(name)?;
         out.push((value.len() % 256) as u8)?;
-        out.extend_from_slice(value)?;
+        out.extend(value)?;
     }
     Ok(())
 }
 
 /// Writes the optional parameters.
-pub fn put_options(out: &mut Vec<u8>, names: &[u8], values: &[Option<&[u8]>]) -> Result<(), Memory>
+pub fn put_options(out: &mut Octets, names: &[u8], values: &[Option<&[u8]>]) -> Result<(), Memory>
     requires { length names.now ≤ length values.now }
-    ensures { OnOk result (out.new.items ≡ out.old.items ++ all_given names.now (optional_slices values.now)) }
+    ensures { OnOk result (out.new ≡ out.old ++ all_given names.now (optional_slices values.now)) }
 {
     for i in 0..names.len() {
         put_option(out, names[i], values[i])?;

@@ -5,6 +5,7 @@ mod digits;
 mod errors;
 mod lists;
 mod numbers;
+mod octets;
 mod outside;
 mod stream;
 #[cfg(test)]
@@ -13,8 +14,9 @@ mod words;
 
 pub use digits::Digits;
 pub use errors::{Failed, Memory, ReadAllFault};
-pub use lists::{Octets, Outs, PcList, PlainList, SsnList, StampedList};
+pub use lists::{Outs, PcList, PlainList, SsnList, StampedList};
 pub use numbers::{Below, Digit, Pc, Ref24, Sls, Ssn};
+pub use octets::{BoxedOctets, Octets};
 pub use outside::{MemSink, MemSource, NoPace, Pace, Sink, Source, StdSink, StdSource};
 pub use stream::{read_all, write_all};
 pub use words::{Event, Lost, Output, ReadFault, Reason, Request, Stamp, Tell};

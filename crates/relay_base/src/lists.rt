@@ -118,9 +118,6 @@ impl<T: Eq> Eq for PlainList<T> {
     ghost laws = { lists_equiv T.Eq.laws };
 }
 
-/// Octets.
-pub type Octets = PlainList<u8>;
-
 /// What a step gives, in order.
 pub type Outs = PlainList<Output>;
 

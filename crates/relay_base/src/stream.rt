@@ -5,7 +5,7 @@ ghost use Rattle.relay_base.specs.Causes.{HasCause, Rose};
 ghost use Rattle.relay_base.specs.Streams.{ReadWhole, TookMore, TookWithin, AppendedPart};
 
 use crate::errors::{Failed, ReadAllFault};
-use crate::lists::Octets;
+use crate::octets::Octets;
 use crate::outside::{Sink, Source};
 use std::alloc::Global;
 

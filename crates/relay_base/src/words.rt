@@ -1,6 +1,6 @@
 //! Events, requests, and what comes of them.
-use crate::lists::Octets;
 use crate::numbers::{Pc, Ref24, Sls, Ssn};
+use crate::octets::{BoxedOctets, Octets};
 
 /// Where an event stands in the input: its phase, its link and its line.
 #[derive(Clone, Copy, Debug, PartialEq, Eq)]
@@ -25,15 +25,15 @@ pub enum Request {
         sls: Sls,
         class: u8,
         ret: bool,
-        called: Octets,
-        calling: Option<Octets>,
-        body: Octets,
+        called: BoxedOctets,
+        calling: Option<BoxedOctets>,
+        body: BoxedOctets,
     },
     Conn {
         tag: u16,
         class: u8,
         credit: u8,
-        called: Octets,
+        called: BoxedOctets,
         body: Octets,
     },
     Accept {
@@ -74,23 +74,23 @@ pub enum Request {
 pub enum Tell {
     Unit {
         class: u8,
-        called: Octets,
-        calling: Octets,
-        body: Octets,
+        called: BoxedOctets,
+        calling: BoxedOctets,
+        body: BoxedOctets,
     },
     Notice {
         cause: u8,
-        called: Octets,
-        calling: Octets,
-        body: Octets,
+        called: BoxedOctets,
+        calling: BoxedOctets,
+        body: BoxedOctets,
     },
     Conn {
         mine: Ref24,
         class: u8,
         credit: u8,
-        called: Octets,
-        calling: Option<Octets>,
-        body: Option<Octets>,
+        called: BoxedOctets,
+        calling: Option<BoxedOctets>,
+        body: Option<BoxedOctets>,
     },
     Named {
         tag: u16,
@@ -104,8 +104,8 @@ pub enum Tell {
         mine: Ref24,
         class: u8,
         credit: u8,
-        called: Option<Octets>,
-        body: Option<Octets>,
+        called: Option<BoxedOctets>,
+        body: Option<BoxedOctets>,
     },
     Text {
         mine: Ref24,
@@ -125,7 +125,7 @@ pub enum Tell {
     Disc {
         mine: Ref24,
         cause: u8,
-        body: Option<Octets>,
+        body: Option<BoxedOctets>,
     },
     State {
         ssn: Ssn,

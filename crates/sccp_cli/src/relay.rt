@@ -1,7 +1,8 @@
 //! The top call.
-ghost use Rattle.std.specs.Prelude.{◌≡◌, ◌≢◌, ◌<◌, ◌≤◌, ◌^◌, ◌⊎◌, ℕ, IfOk, IfErr, IfSome, OnOk, OnErr, Ok, Err, Some, None, IsTrue, [], map, string_bytes, length};
+ghost use Rattle.std.specs.Prelude.{◌≡◌, ◌≢◌, ◌<◌, ◌≤◌, ◌^◌, ◌⊎◌, ◌++◌, codes, ℕ, IfOk, IfErr, IfSome, OnOk, OnErr, Ok, Err, Some, None, IsTrue, [], map, string_bytes, length};
 ghost use Rattle.std.specs.Io.KnownBytes.{Appends, Keeps};
 ghost use Rattle.relay_base.specs.Causes.{Rose};
+ghost use Rattle.relay_base.specs.Streams.{AppendedPart};
 ghost use Rattle.journal_text.specs.Book.{IsEmpty};
 ghost use Rattle.node_head.specs.Ranges.{IsHead};
 ghost use Rattle.capture_form.specs.Capture.{capture_of};
@@ -11,16 +12,18 @@ ghost use Rattle.node_engine.specs.Own.{all_events};
 ghost use Rattle.command_words.specs.Commands.{command_in};
 ghost use Rattle.command_words.specs.declared.command.Command.TheVariants.{Run, Generate};
 ghost use Rattle.capture_generator.specs.Generator.{generated_capture};
+ghost use Rattle.capture_generator.specs.Counts.{counts_of, counts_text};
 ghost use Rattle.sccp_cli.specs.Outcome.{ReadAs, Refused, Untouched, Partly, Filled, Done, IsDone, IsDonePartly, PassesLimit, Stands, Stopped, IsHeadFault, IsLineFault, Says, note_of, status_of, plain_note, IsDue, output_of};
 
 use capture_form::{
-    Book, Capture, CaptureFault, Limit, LineFault, MOST_BYTES, fault_note, print_book, read_capture,
+    Book, Capture, CaptureFault, Limit, LineFault, MOST_BYTES, WriteFault, fault_note,
+    read_capture, write_book,
 };
 use capture_generator::{counts_line, generated};
 use command_words::{Command, command_of};
 use node_engine::run_capture;
 use node_head::HeadFault;
-use relay_base::{Memory, Octets, Pace, ReadAllFault, Sink, Source, read_all, write_all};
+use relay_base::{Octets, Pace, ReadAllFault, Sink, Source, read_all, write_all};
 use std::alloc::Global;
 use std::sync::Wait;
 use std::thread::Threads;
@@ -75,13 +78,38 @@ fn take_capture<S: Source>(alloc: Global, source: &mut S) -> Result<Capture, Sto
     }
 }
 
-/// What a command writes of a book.
-fn output_of(alloc: Global, command: Command, book: &Book) -> Result<Octets, Memory>
-    ensures { IfOk result (λ text. text ≡ output_of command book.now) }
+/// Writes the line of a book's counts.
+fn write_counts<K: Sink>(
+    alloc: Global,
+    lines: u32,
+    book: &Book,
+    out: &mut K,
+) -> Result<(), WriteFault>
+    ensures ok { OnOk result (Appends (K.held out.old) (K.held out.new) (counts_text lines (counts_of book.now) ++ codes "\n")) }
+    ensures err { OnErr result (AppendedPart (K.held out.old) (K.held out.new) (counts_text lines (counts_of book.now) ++ codes "\n")) }
+    ensures fault { result ≡ Err WriteFault.Sink → Rose (K.faults out.old) (K.faults out.new) }
+    ensures kept { result ≢ Err WriteFault.Sink → K.faults out.new ≡ K.faults out.old }
+{
+    let line = counts_line(alloc, lines, book)?;
+    write_all(out, line.as_slice())?;
+    Ok(())
+}
+
+/// Writes what a command writes of a book.
+fn write_output<K: Sink>(
+    alloc: Global,
+    command: Command,
+    book: &Book,
+    out: &mut K,
+) -> Result<(), WriteFault>
+    ensures ok { OnOk result (Appends (K.held out.old) (K.held out.new) (output_of command book.now)) }
+    ensures err { OnErr result (AppendedPart (K.held out.old) (K.held out.new) (output_of command book.now)) }
+    ensures fault { result ≡ Err WriteFault.Sink → Rose (K.faults out.old) (K.faults out.new) }
+    ensures kept { result ≢ Err WriteFault.Sink → K.faults out.new ≡ K.faults out.old }
 {
     match command {
-        Command::Run => print_book(alloc, book),
-        Command::Generate { lines, .. } => counts_line(alloc, lines, book),
+        Command::Run => write_book(alloc, book, out),
+        Command::Generate { lines, .. } => write_counts(alloc, lines, book, out),
     }
 }
 
@@ -108,12 +136,10 @@ fn run_and_write<R: Threads + Wait + Sync, K: Sink, P: Pace>(
         return Err(Stop::Memory);
     }
     drop(capture);
-    let Ok(text) = output_of(alloc, command, book) else {
-        return Err(Stop::Memory);
-    };
-    match write_all(out, text.as_slice()) {
+    match write_output(alloc, command, book, out) {
         Ok(()) => Ok(()),
-        Err(_) => Err(Stop::WriteFault),
+        Err(WriteFault::Sink) => Err(Stop::WriteFault),
+        Err(WriteFault::Memory) => Err(Stop::Memory),
     }
 }
 

@@ -161,11 +161,11 @@ fn tests_sent(alloc: Global, due: &[StatusTest]) -> Result<Outs, Memory>
     ensures { IfOk result (λ outs. outs ≡ map test_sent (by_subsystem due.now)) }
 {
     let tests = by_subsystem(alloc, due)?;
-    let mut outs = Outs::new(alloc);
+    let mut outs = Vec::with_capacity(alloc, tests.len())?;
     for test in &tests {
         outs.push(test_sent(alloc, test)?)?;
     }
-    Ok(outs)
+    Ok(Outs::from(outs))
 }
 
 fn denied(one: &Coordination) -> Output

@@ -4,7 +4,7 @@ ghost use Rattle.std.specs.Option.{option_map};
 ghost use Rattle.sccp_address.specs.Parsing.{address_of};
 ghost use Rattle.scmg.specs.Messages.{code_of, octets_of, sent, format_of, notice_in, is_for_management, data_in};
 
-use q713_codec::{Message, View, read, write};
+use q713_codec::{View, read};
 use relay_base::{Memory, Octets, Output, Pc, Sls, Ssn};
 use sccp_address::parse;
 use std::alloc::Global;
@@ -12,8 +12,8 @@ use std::alloc::Global;
 /// The most octets of a UDT.
 const LONGEST: usize = 268;
 
-/// The address of management: it routes on subsystem number 1.
-const MANAGEMENT: [u8; 2] = [0x42, 0x01];
+/// What stands before the five octets of data: the type, class 0 and the pointers of UDT, and its addresses, which are those of subsystem 1.
+const BEFORE_DATA: [u8; 12] = [9, 0, 3, 5, 7, 2, 0x42, 1, 2, 0x42, 1, 5];
 
 /// SSA, SSP, SST, SOR and SOG.
 #[derive(Clone, Copy, Debug, PartialEq, Eq)]
@@ -60,20 +60,17 @@ impl Format {
     }
 }
 
-/// The octets of a message about a subsystem of a point.
+/// The octets of a message about a subsystem of a point: those before its data are the same in every one.
+#[tactic(auto, using(crate::proofs::MessageLemmas::notice_octets))]
 fn octets_of(alloc: Global, format: Format, ssn: Ssn, point: Pc) -> Result<Octets, Memory>
     ensures { IfOk result (λ octets. octets ≡ octets_of format ssn point) }
 {
     let low = (point.number() % 256) as u8;
     let high = (point.number() / 256) as u8;
     let data = [format.code(), ssn.number() as u8, low, high, 0x00];
-    let message = Message::Udt {
-        class_octet: 0,
-        called: Octets::from_slice(alloc, &MANAGEMENT)?,
-        calling: Octets::from_slice(alloc, &MANAGEMENT)?,
-        body: Octets::from_slice(alloc, &data)?,
-    };
-    write(alloc, &message)
+    let mut octets = Octets::from_slice(alloc, &BEFORE_DATA)?;
+    octets.extend(&data)?;
+    Ok(octets)
 }
 
 /// A message about a subsystem of a point, to a point.

@@ -25,16 +25,6 @@ const UNQUALIFIED: u8 = 0x0F;
 /// The error cause "service class mismatch".
 const CLASS_MISMATCH: u8 = 3;
 
-/// A copy of an optional address or of optional data.
-fn owned(alloc: Global, octets: Option<&[u8]>) -> Result<Option<Octets>, Memory>
-    ensures { IfOk result (λ o. o ≡ option_map (λ b. b.now) octets.entry) }
-{
-    match octets {
-        Some(octets) => Ok(Some(Octets::from_slice(alloc, octets)?)),
-        None => Ok(None),
-    }
-}
-
 /// The credit that CC agrees on: none but in class 3, where it is at least 1 and at most the credit that was asked for.
 fn agreed(wire: &WireHead, message: &ParametersView<'_>) -> u8
     ensures { result ≡ agreed (section_of wire.now) (seen_parameters message.now) }
@@ -62,8 +52,8 @@ fn refused(
 {
     let refuse = Hand::Refuse {
         cause: message.cause,
-        called: owned(alloc, message.called)?,
-        body: owned(alloc, message.body)?,
+        called: Octets::from_optional(alloc, message.called)?,
+        body: Octets::from_optional(alloc, message.body)?,
         importance: message.importance,
     };
     let acted = Acted::handing(alloc, refuse)?;
@@ -83,7 +73,7 @@ fn released(
 {
     let end = Hand::End {
         cause: message.cause,
-        body: owned(alloc, message.body)?,
+        body: Octets::from_optional(alloc, message.body)?,
         importance: message.importance,
     };
     let acted = Acted::giving_then(alloc, rlc(alloc, wire)?, end)?;
@@ -133,8 +123,8 @@ impl Line {
             let accept = Hand::Accept {
                 class: message.class,
                 credit,
-                called: owned(alloc, message.called)?,
-                body: owned(alloc, message.body)?,
+                called: Octets::from_optional(alloc, message.called)?,
+                body: Octets::from_optional(alloc, message.body)?,
                 importance: message.importance,
             };
             let acted = Acted::handing(alloc, accept)?;

@@ -27,7 +27,7 @@ use crate::wish::{Calling, Incoming, Outgoing, WantedView, WishView, wish_of};
 use connectionless::{called_onward, put_status};
 use plant_core::{Answer, Rewrite, RouteCause, Terms, refusal_cause};
 use q713_codec::Message;
-use relay_base::{Event, Memory, Octets, Output, Outs, Pc, Ref24, Ssn, Tell};
+use relay_base::{BoxedOctets, Event, Memory, Octets, Output, Outs, Pc, Ref24, Ssn, Tell};
 use sccp_address::parse;
 use section_class2::Line;
 use section_class3::Windows;
@@ -150,16 +150,6 @@ fn user_side(
     }))
 }
 
-/// Octets of a message, owned.
-fn owned(alloc: Global, octets: Option<&[u8]>) -> Result<Option<Octets>, Memory>
-    ensures { IfOk result (λ o. o ≡ option_map (λ b. b.now) octets.entry) }
-{
-    match octets {
-        Some(octets) => Ok(Some(Octets::from_slice(alloc, octets)?)),
-        None => Ok(None),
-    }
-}
-
 /// The octets of a calling address.
 fn calling_octets(alloc: Global, calling: &Calling<'_>) -> Result<Option<Octets>, Memory>
     ensures { IfOk result (λ o. o ≡ seen_calling calling.now) }
@@ -171,6 +161,16 @@ fn calling_octets(alloc: Global, calling: &Calling<'_>) -> Result<Option<Octets>
             let octets = [0x42, ssn.number() as u8];
             Ok(Some(Octets::from_slice(alloc, &octets)?))
         }
+    }
+}
+
+/// The octets of the calling address that a user is told.
+fn told_calling(alloc: Global, calling: &Calling<'_>) -> Result<Option<BoxedOctets>, Memory>
+    ensures { IfOk result (λ o. o ≡ seen_calling calling.now) }
+{
+    match calling_octets(alloc, calling)? {
+        Some(octets) => Ok(Some(BoxedOctets::new(alloc, octets)?)),
+        None => Ok(None),
     }
 }
 
@@ -220,7 +220,7 @@ fn onward(
         called: called_octets(alloc, wanted.called, to.rewrite)?,
         credit: credit_in_cr(terms, wanted),
         calling: calling_octets(alloc, &wanted.calling)?,
-        body: owned(alloc, wanted.body)?,
+        body: Octets::from_optional(alloc, wanted.body)?,
         hop: to.hop,
         importance: wanted.importance,
     })
@@ -282,9 +282,9 @@ fn told(
         mine,
         class: wanted.class,
         credit: offered(terms, wanted),
-        called: Octets::from_slice(alloc, wanted.called)?,
-        calling: calling_octets(alloc, &wanted.calling)?,
-        body: owned(alloc, wanted.body)?,
+        called: BoxedOctets::from_slice(alloc, wanted.called)?,
+        calling: told_calling(alloc, &wanted.calling)?,
+        body: BoxedOctets::from_optional(alloc, wanted.body)?,
     };
     single(alloc, Output::Told { ssn, tell })
 }

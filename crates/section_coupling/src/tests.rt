@@ -3,7 +3,9 @@ ghost use Rattle.std.specs.Prelude.{◌≡◌};
 
 use crate::{Begun, Duo, Heard, ask_of, stray};
 use plant_core::{Answer, Terms, Ticks};
-use relay_base::{Event, Memory, Octets, Output, Outs, Pc, Ref24, Request, Sls, Ssn, Tell};
+use relay_base::{
+    BoxedOctets, Event, Memory, Octets, Output, Outs, Pc, Ref24, Request, Sls, Ssn, Tell,
+};
 use std::alloc::Global;
 use std::test::Fail;
 
@@ -100,7 +102,7 @@ fn a_connection_carries_data(rt: HostRuntime) -> Result<(), Fail> {
         mine: reference(),
         class: 2,
         credit: 0,
-        called: Octets::from_slice(alloc, b"\x42\x08")?,
+        called: BoxedOctets::from_slice(alloc, b"\x42\x08")?,
         calling: None,
         body: None,
     };

@@ -100,13 +100,13 @@ fn calling_of(calling: Option<&[u8]>) -> Calling<'_>
 }
 
 /// Whether a request for a connection is in its ranges.
-fn may_be_wanted(class: u8, credit: u8, called: &Octets, body: &Octets) -> bool
+fn may_be_wanted(class: u8, credit: u8, called: &[u8], body: &[u8]) -> bool
     ensures { result ≡ may_be_wanted class credit called.now body.now }
 {
     (class == 2 || class == 3)
         && credit <= 127
         && called.len() <= 40
-        && parse(called.as_slice()).is_ok()
+        && parse(called).is_ok()
         && body.len() <= 128
 }
 
@@ -135,7 +135,7 @@ fn wish_of_request(ssn: Ssn, request: &Request) -> WishView<'_>
     else {
         return WishView::NoWish;
     };
-    if !may_be_wanted(*class, *credit, called, body) {
+    if !may_be_wanted(*class, *credit, called.as_slice(), body.as_slice()) {
         return WishView::NoWish;
     }
     let wanted = WantedView {

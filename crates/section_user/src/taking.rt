@@ -4,7 +4,7 @@ ghost use Rattle.section_model.specs.UserEnd.{confirmed, disconnected, hears_exp
 ghost use Rattle.section_user.specs.Side.{ActsAs, reset_done};
 
 use crate::side::UserSide;
-use crate::units::{copied, copied_if_any};
+use crate::units::{boxed_if_any, copied};
 use relay_base::{Memory, Octets, Tell};
 use section_model::{Acted, Cell, Hand, UserState};
 use std::alloc::Global;
@@ -29,8 +29,8 @@ impl UserSide {
             mine: self.mine,
             class: *class,
             credit: *credit,
-            called: copied_if_any(alloc, called)?,
-            body: copied_if_any(alloc, body)?,
+            called: boxed_if_any(alloc, called)?,
+            body: boxed_if_any(alloc, body)?,
         };
         let done = Acted::giving(alloc, self.told(tell))?;
         self.state = UserState::Ready;
@@ -52,7 +52,7 @@ impl UserSide {
         let tell = Tell::Disc {
             mine: self.mine,
             cause,
-            body: copied_if_any(alloc, body)?,
+            body: boxed_if_any(alloc, body)?,
         };
         let done = Acted::giving(alloc, self.told(tell))?;
         self.state = UserState::Gone;

@@ -3,7 +3,7 @@ ghost use Rattle.std.specs.Prelude.{◌≡◌, ◌<◌, ◌≤◌, length, take,
 ghost use Rattle.section_model.specs.UserEnd.{given, handed, unit_count, units_of};
 ghost use Rattle.section_user.specs.Side.{unit_at};
 
-use relay_base::{Memory, Octets};
+use relay_base::{BoxedOctets, Memory, Octets};
 use section_model::{Hand, HandList};
 use std::alloc::Global;
 
@@ -17,12 +17,12 @@ pub fn copied(alloc: Global, octets: &Octets) -> Result<Octets, Memory>
     Octets::from_slice(alloc, octets.as_slice())
 }
 
-/// A copy of octets where they are there.
-pub fn copied_if_any(alloc: Global, octets: &Option<Octets>) -> Result<Option<Octets>, Memory>
+/// A copy of octets where they are there, in a place of its own.
+pub fn boxed_if_any(alloc: Global, octets: &Option<Octets>) -> Result<Option<BoxedOctets>, Memory>
     ensures { IfOk result (λ copy. copy ≡ octets.now) }
 {
     match octets {
-        Some(octets) => Ok(Some(copied(alloc, octets)?)),
+        Some(octets) => Ok(Some(BoxedOctets::from_slice(alloc, octets.as_slice())?)),
         None => Ok(None),
     }
 }

@@ -14,6 +14,6 @@ pub loop-i-preserved : goal.loop-i-preserved
 loop-i-preserved c = record {
   counted = IsCounted-next c.args.rules.now c.args.values.now c.loop-i.before c.loop-i.i c.variable_len-before.result _ _ c.loop-i-test.true c.requires.values c.variable_len-before.ensures.value c.variable_len-before.ensures.small c.loop-i.invariant.counted;
   left =
-      c.loop-i.invariant.left ∙ pointers-next c.args.rules.now c.args.values.now c.args.wide c.loop-i.out.items c.args.behind c.loop-i.before c.variable_len-before.result c.skip.result c.loop-i.i _ _ c.loop-i-test.true c.requires.values c.variable_len-before.ensures.value c.skip.ensures
+      c.loop-i.invariant.left ∙ pointers-next c.args.rules.now c.args.values.now c.args.wide c.loop-i.out c.args.behind c.loop-i.before c.variable_len-before.result c.skip.result c.loop-i.i _ _ c.loop-i-test.true c.requires.values c.variable_len-before.ensures.value c.skip.ensures
       ∙ ap (λ x. x ++ concat (map (number_octets c.args.wide) (skips (pointer_width c.args.wide) c.args.behind (c.loop-i.before + c.variable_len-before.result) (variables (drop (c.loop-i.i + 1) c.args.rules.now) (drop (c.loop-i.i + 1) (slices c.args.values.now)))))) (sym c.in_ok-put_number.ensures);
 }

@@ -9,5 +9,5 @@ use Rattle.q713_shape.proofs.writing.put_pointers.Given as goal
 abbrev pub invariant-loop-i : goal.invariant-loop-i
 invariant-loop-i l = record {
   counted : IsCounted l.rules l.values l.before l.i;
-  left : l.initial.out.items ++ concat (map (number_octets l.wide) (skips (pointer_width l.wide) l.behind 0 (variables l.rules (slices l.values)))) ≡ l.out.items ++ concat (map (number_octets l.wide) (skips (pointer_width l.wide) l.behind l.before (variables (drop l.i l.rules) (drop l.i (slices l.values)))));
+  left : l.initial.out ++ concat (map (number_octets l.wide) (skips (pointer_width l.wide) l.behind 0 (variables l.rules (slices l.values)))) ≡ l.out ++ concat (map (number_octets l.wide) (skips (pointer_width l.wide) l.behind l.before (variables (drop l.i l.rules) (drop l.i (slices l.values)))));
 }

@@ -7,5 +7,5 @@ use Rattle.q713_shape.proofs.writing.put_variables.Goals as goal
 
 pub loop-i-preserved : goal.loop-i-preserved
 loop-i-preserved c =
-    c.loop-i.invariant ∙ variables-next c.args.rules.now c.args.values.now c.loop-i.out.items c.loop-i.i _ _ c.loop-i-test.true c.requires
+    c.loop-i.invariant ∙ variables-next c.args.rules.now c.args.values.now c.loop-i.out c.loop-i.i _ _ c.loop-i-test.true c.requires
     ∙ ap (λ x. x ++ concat (variables (drop (c.loop-i.i + 1) c.args.rules.now) (drop (c.loop-i.i + 1) (slices c.args.values.now)))) (sym c.in_ok-put_variable.ensures)

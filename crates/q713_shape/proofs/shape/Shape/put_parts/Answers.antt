@@ -17,4 +17,4 @@ put_optional_part-requires-clause-options g c = in_range-options (format_of c.ar
 
 pub returns : goal.returns
 returns g c =
-    c.from.ensures ∙ octets_of-written (format_of c.args.self.now) (values_seen c.args.parts.now) c.variables_len-before.result c.count.result c.in_ok-out.out.items c.push.new.self.items c.extend_from_slice.new.self.items c.put_pointers.new.out.items c.put_optional_pointer.new.out.items c.put_variables.new.out.items c.put_optional_part.new.out.items c.variables_len-before.ensures.value c.count.ensures c.in_ok-out.ensures.items c.in_ok-push.ensures.items c.in_ok-extend_from_slice.ensures.items c.in_ok-put_pointers.ensures c.in_ok-put_optional_pointer.ensures c.in_ok-put_variables.ensures c.in_ok-put_optional_part.ensures
+    octets_of-written (format_of c.args.self.now) (values_seen c.args.parts.now) c.variables_len-before.result c.count.result c.in_ok-out.out c.push.new.self c.extend.new.self c.put_pointers.new.out c.put_optional_pointer.new.out c.put_variables.new.out c.put_optional_part.new.out c.variables_len-before.ensures.value c.count.ensures c.in_ok-out.ensures c.in_ok-push.ensures.ok c.in_ok-extend.ensures.ok c.in_ok-put_pointers.ensures c.in_ok-put_optional_pointer.ensures c.in_ok-put_variables.ensures c.in_ok-put_optional_part.ensures

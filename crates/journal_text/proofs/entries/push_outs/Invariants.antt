@@ -1,6 +1,6 @@
 use Rattle.std.proofs.Common.{◌≡◌, ◌++◌, drop, string_bytes}
 use Rattle.journal_text.specs.Print.{outs_text}
-use Rattle.journal_text.proofs.book.push_outs.Given as goal
+use Rattle.journal_text.proofs.entries.push_outs.Given as goal
 
 -- the text so far, and that of what is left
 abbrev pub invariant-loop-output : goal.invariant-loop-output
