@@ -2,8 +2,8 @@
 ghost use Rattle.std.specs.Prelude.{◌≡◌, ◌<◌, ◌≤◌};
 
 use crate::{
-    Digit, Digits, Failed, MemSink, MemSource, ReadAllFault, Sink, Source, StdSink, StdSource,
-    read_all, write_all,
+    BoxedOctets, Digit, Digits, Failed, MemSink, MemSource, Octets, ReadAllFault, Sink, Source,
+    StdSink, StdSource, read_all, write_all,
 };
 use std::alloc::{AllocError, Global};
 use std::io::{self, ErrorKind, Read, Write};
@@ -122,5 +122,37 @@ fn digits_in_place(rt: HostRuntime) -> Result<(), Fail> {
     assert_eq!(rt; digits.as_slice(), [4, 9, 15].as_slice());
     assert!(rt; !prefix.starts_with(&digits));
     assert_eq!(rt; Digit::new(16), None);
+    Ok(())
+}
+
+/// Octets that stay in place, that leave it, and that never had it.
+#[test]
+fn octets_by_their_number(rt: HostRuntime) -> Result<(), Fail> {
+    let alloc = rt.alloc();
+    for count in [0, 22, 23, 24, 300] {
+        let mut octets = Octets::from(vec![in alloc; 0xAA; count]?);
+        assert_eq!(rt; octets.is_empty(), count == 0);
+        octets.push(0xBB)?;
+        octets.extend(b"\xcc\xdd")?;
+        let mut wanted = Octets::with_capacity(alloc, count)?;
+        wanted.extend(vec![in alloc; 0xAA; count]?.as_slice())?;
+        wanted.extend(b"\xbb\xcc\xdd")?;
+        assert_eq!(rt; octets, wanted);
+        assert_eq!(rt; octets.len(), count + 3);
+    }
+    Ok(())
+}
+
+#[test]
+fn octets_in_a_place_of_their_own(rt: HostRuntime) -> Result<(), Fail> {
+    let alloc = rt.alloc();
+    let few = Octets::from_optional(alloc, Some(b"\x01\x02"))?.ok_or("octets")?;
+    let mut boxed = BoxedOctets::from_optional(alloc, Some(few.as_slice()))?.ok_or("octets")?;
+    assert_eq!(rt; boxed.as_slice(), few.as_slice());
+    let copy = boxed.clone()?;
+    boxed.put(Octets::new(alloc));
+    assert_eq!(rt; boxed.as_slice(), b"".as_slice());
+    assert_eq!(rt; copy, BoxedOctets::new(alloc, few)?);
+    assert_eq!(rt; copy, BoxedOctets::from_slice(alloc, b"\x01\x02")?);
     Ok(())
 }
