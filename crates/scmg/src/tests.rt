@@ -1,6 +1,5 @@
 //! Worked rows of management.
-ghost use Rattle.std.specs.Prelude.{◌≡◌, ◌+◌, [], ◌∷◌, ◌++◌, length, IfOk, OnOk, OnErr};
-ghost use Rattle.scmg.specs.Control.{changes_in};
+ghost use Rattle.std.specs.Prelude.{◌≡◌, [], ◌∷◌, ◌++◌, OnOk, OnErr};
 
 use crate::{ControlHead, ControlLane, Publish};
 use gtt_table::{Entity, Row};
@@ -12,7 +11,6 @@ use relay_base::{
 use sccp_address::Selector;
 use std::alloc::Global;
 use std::process::Abort;
-use std::test::Fail;
 
 /// Puts a copy of an item at the end.
 fn put<T: Copy>(list: &mut Vec<T>, item: &T) -> Result<(), Memory>
@@ -42,8 +40,8 @@ impl Publish for Published {
     }
 }
 
-fn point(number: u32) -> Result<Pc, Memory> {
-    Pc::new(number).ok_or(Memory)
+fn point(rt: &impl Abort, number: u32) -> Pc {
+    Pc::new(number).expect(rt, "a point code")
 }
 
 /// Points 100 and 300, as in a message.
@@ -57,23 +55,26 @@ const SHORT: [u8; 16] = [
 ];
 
 /// A message of management about a subsystem of a point.
-fn octets(alloc: Global, format: u8, ssn: u8, of: [u8; 2]) -> Result<Octets, Memory> {
-    let bytes = [
+fn message(format: u8, ssn: u8, of: [u8; 2]) -> [u8; 17] {
+    [
         0x09, 0x00, 0x03, 0x05, 0x07, 0x02, 0x42, 0x01, 0x02, 0x42, 0x01, 0x05, format, ssn, of[0],
         of[1], 0x00,
-    ];
-    Octets::from_slice(alloc, &bytes)
+    ]
+}
+
+fn octets(rt: &impl Abort, alloc: Global, bytes: &[u8]) -> Octets {
+    Octets::from_slice(alloc, bytes).expect(rt, "memory")
 }
 
 /// The row of titles that begin with 4917, to point 400.
-fn row() -> Result<Row, Memory> {
+fn row(rt: &impl Abort) -> Row {
     let mut prefix = Digits::new();
     for number in [4, 9, 1, 7] {
         if prefix.len() < 24 {
-            prefix.push(Digit::new(number).ok_or(Memory)?);
+            prefix.push(Digit::new(number).expect(rt, "a digit"));
         }
     }
-    Ok(Row {
+    Row {
         selector: Selector {
             gti: 4,
             tt: 0,
@@ -82,15 +83,16 @@ fn row() -> Result<Row, Memory> {
         },
         prefix,
         first: Entity {
-            point: point(400)?,
+            point: point(rt, 400),
             ssn: Some(Ssn::from(8)),
             on_ssn: true,
         },
         second: None,
-    })
+    }
 }
 
 /// An event: a message from point 300 about a subsystem of a point, by its format, or one of four octets, and requests and changes about subsystem 8 and point 300.
+/// So many ticks are one event after the other, and nothing comes of any but the last.
 #[derive(Clone, Copy, Debug)]
 enum Line {
     Arrives(u8, u8, [u8; 2]),
@@ -103,21 +105,30 @@ enum Line {
     Down,
     Up,
     BarSub,
-    Tick,
+    Ticks(u32),
 }
 
-fn change_of(line: Line) -> Result<Option<Change>, Memory> {
-    let row = row()?;
+fn change_of(rt: &impl Abort, line: Line) -> Option<Change> {
     let user = Ssn::from(8);
-    Ok(match line {
+    let far = point(rt, 300);
+    let row = row(rt);
+    match line {
         Line::AddRow => Some(Change::AddRow(row)),
         Line::DelRow => Some(Change::DelRow(row.selector, row.prefix)),
-        Line::Pause => Some(Change::BarPoint(point(300)?)),
-        Line::BarSub => Some(Change::BarSub(point(300)?, user)),
+        Line::Pause => Some(Change::BarPoint(far)),
+        Line::BarSub => Some(Change::BarSub(far, user)),
         Line::Down => Some(Change::LocalDown(user)),
         Line::Up => Some(Change::LocalUp(user)),
         _ => None,
-    })
+    }
+}
+
+fn arrives(rt: &impl Abort, alloc: Global, bytes: &[u8]) -> Event {
+    Event::Message {
+        opc: point(rt, 300),
+        sls: Sls::new(5).expect(rt, "a selection"),
+        bytes: octets(rt, alloc, bytes),
+    }
 }
 
 fn asks(request: Request) -> Event {
@@ -127,32 +138,25 @@ fn asks(request: Request) -> Event {
     }
 }
 
-fn event_of(alloc: Global, line: Line) -> Result<ControlEvent, Memory> {
-    if let Some(change) = change_of(line)? {
-        return Ok(ControlEvent::Change(change));
+fn event_of(rt: &impl Abort, alloc: Global, line: Line) -> ControlEvent {
+    if let Some(change) = change_of(rt, line) {
+        return ControlEvent::Change(change);
     }
-    Ok(ControlEvent::Plain(match line {
-        Line::Arrives(format, ssn, of) => Event::Message {
-            opc: point(300)?,
-            sls: Sls::new(5).ok_or(Memory)?,
-            bytes: octets(alloc, format, ssn, of)?,
-        },
-        Line::Short => Event::Message {
-            opc: point(300)?,
-            sls: Sls::new(5).ok_or(Memory)?,
-            bytes: Octets::from_slice(alloc, &SHORT)?,
-        },
+    let point = point(rt, 300);
+    ControlEvent::Plain(match line {
+        Line::Arrives(format, ssn, of) => arrives(rt, alloc, &message(format, ssn, of)),
+        Line::Short => arrives(rt, alloc, &SHORT),
         Line::Coord => asks(Request::Coord),
-        Line::Grant => asks(Request::Grant { point: point(300)? }),
+        Line::Grant => asks(Request::Grant { point }),
         _ => Event::Tick,
-    }))
+    })
 }
 
-/// What comes of an event: a message about a subsystem, to a point; or what subsystem 8 is told, of subsystem 8 and point 300.
+/// What comes of an event: a message about a subsystem, to a point; or what subsystem 8 is told, of a subsystem and point 300.
 #[derive(Clone, Copy, Debug)]
 enum Came {
     Sent(u32, u8, u8, [u8; 2]),
-    State(bool),
+    State(u8, bool),
     Paused,
     Coord,
     Granted,
@@ -161,11 +165,11 @@ enum Came {
     Lost(Lost),
 }
 
-fn tell_of(came: Came) -> Result<Tell, Memory> {
-    let point = point(300)?;
-    Ok(match came {
-        Came::State(up) => Tell::State {
-            ssn: Ssn::from(8),
+fn tell_of(rt: &impl Abort, came: Came) -> Tell {
+    let point = point(rt, 300);
+    match came {
+        Came::State(ssn, up) => Tell::State {
+            ssn: Ssn::from(ssn),
             point,
             up,
         },
@@ -174,30 +178,30 @@ fn tell_of(came: Came) -> Result<Tell, Memory> {
         Came::Granted => Tell::Granted { point },
         Came::Denied => Tell::Denied { point },
         _ => Tell::No(Reason::State),
-    })
+    }
 }
 
-fn output_of(alloc: Global, came: Came) -> Result<Output, Memory> {
-    Ok(match came {
+fn output_of(rt: &impl Abort, alloc: Global, came: Came) -> Output {
+    match came {
         Came::Sent(to, format, ssn, of) => Output::Sent {
-            point: point(to)?,
-            sls: Sls::new(0).ok_or(Memory)?,
-            bytes: octets(alloc, format, ssn, of)?,
+            point: point(rt, to),
+            sls: Sls::new(0).expect(rt, "a selection"),
+            bytes: octets(rt, alloc, &message(format, ssn, of)),
         },
         Came::Lost(lost) => Output::Lost(lost),
         told => Output::Told {
             ssn: Ssn::from(8),
-            tell: tell_of(told)?,
+            tell: tell_of(rt, told),
         },
-    })
+    }
 }
 
-fn outs_of(alloc: Global, came: Option<Came>) -> Result<Outs, Memory> {
+fn outs_of(rt: &impl Abort, alloc: Global, came: &[Came]) -> Outs {
     let mut outs = Outs::new(alloc);
-    if let Some(came) = came {
-        outs.push(output_of(alloc, came)?)?;
+    for one in came {
+        outs.push(output_of(rt, alloc, *one)).expect(rt, "memory");
     }
-    Ok(outs)
+    outs
 }
 
 /// Status tests are sent after 2 ticks, then 4, then at most 5; a coordinated change has 3.
@@ -219,225 +223,162 @@ fn ticks() -> Ticks {
 }
 
 /// Point 100 with subsystem 8, which point 300 has too; point 200 is concerned.
-fn lane(alloc: Global) -> Result<ControlLane, Memory>
-    ensures { IfOk result (λ lane. lane.journal ≡ []) }
-{
+fn lane(rt: &impl Abort, alloc: Global) -> ControlLane {
     let users = [Ssn::from(8)];
     let replicate = Replicate {
         ssn: Ssn::from(8),
-        point: point(300)?,
+        point: point(rt, 300),
     };
     let head = ControlHead {
-        users: SsnList::from_slice(alloc, &users)?,
-        concerned: PcList::from_slice(alloc, &[point(200)?])?,
-        replicates: ReplicateList::from_slice(alloc, &[replicate])?,
+        users: SsnList::from_slice(alloc, &users).expect(rt, "memory"),
+        concerned: PcList::from_slice(alloc, &[point(rt, 200)]).expect(rt, "memory"),
+        replicates: ReplicateList::from_slice(alloc, &[replicate]).expect(rt, "memory"),
         ticks: ticks(),
     };
-    let plant = Plant::start(alloc, point(100)?, &users)?;
-    ControlLane::new(alloc, &head, plant)
+    let plant = Plant::start(alloc, point(rt, 100), &users).expect(rt, "memory");
+    ControlLane::new(alloc, &head, plant).expect(rt, "memory")
 }
 
-/// A lane that publishes into a list.
-#[derive(Drop)]
-struct Scene {
-    alloc: Global,
-    lane: ControlLane,
-    publish: Published,
-    ghost in_step: { publish.first + length publish.changes.items ≡ length (changes_in lane.head lane.start lane.journal) },
+/// Takes an event, and publishes into a new list, from the edition that is reached.
+fn take(rt: &impl Abort, alloc: Global, lane: &mut ControlLane, line: Line) {
+    let event = event_of(rt, alloc, line);
+    let mut publish = Published {
+        first: lane.plant().edition(),
+        changes: Vec::new(alloc),
+    };
+    let stamp = Stamp {
+        phase: 1,
+        link: 1,
+        line: 4,
+    };
+    assert!(rt; lane.journal().len() < 1000);
+    assert_eq!(rt; lane.step(&mut publish, stamp, &event), Ok(()));
 }
 
-impl Scene {
-    fn new(alloc: Global) -> Result<Scene, Memory> {
-        Ok(Scene {
-            alloc,
-            lane: lane(alloc)?,
-            publish: Published {
-                first: 0,
-                changes: Vec::new(alloc),
-            },
-        })
-    }
-
-    fn take(&mut self, event: &ControlEvent) -> Result<(), Memory> {
-        let stamp = Stamp {
-            phase: 1,
-            link: 1,
-            line: 4,
-        };
-        if self.lane.journal().len() < 1000 {
-            self.lane.step(&mut self.publish, stamp, event)?;
-        }
-        Ok(())
-    }
-
-    /// Goes on with another list, from the edition that is reached.
-    fn reopen(&mut self) {
-        self.publish = Published {
-            first: self.lane.plant().edition(),
-            changes: Vec::new(self.alloc),
-        };
-    }
-
-    /// Whether an event publishes this edition and gives this output.
-    fn gives(
-        &mut self,
-        line: Line,
-        published: Option<u64>,
-        came: Option<Came>,
-    ) -> Result<bool, Memory> {
-        let event = event_of(self.alloc, line)?;
-        self.take(&event)?;
-        let outs = outs_of(self.alloc, came)?;
-        Ok(match self.lane.journal().as_slice().last() {
-            Some(entry) => entry.published == published && entry.outs == outs,
-            None => false,
-        })
-    }
-
-    /// Whether nothing comes of so many ticks.
-    fn is_quiet_for(&mut self, ticks: u32) -> Result<bool, Memory> {
-        let mut is_quiet = true;
-        for _ in 0..ticks {
-            is_quiet = self.gives(Line::Tick, None, None)? && is_quiet;
-        }
-        Ok(is_quiet)
+/// Whether the last event published this edition and gave these outputs.
+fn gave(lane: &ControlLane, published: Option<u64>, outs: &Outs) -> bool {
+    match lane.journal().as_slice().last() {
+        Some(entry) => entry.published == published && entry.outs == *outs,
+        None => false,
     }
 }
 
-fn plays(
-    rt: &impl Abort,
-    scene: &mut Scene,
-    rows: &[(Line, Option<u64>, Option<Came>)],
-) -> Result<(), Memory> {
+/// Takes ticks of which nothing comes.
+fn passes(rt: &impl Abort, alloc: Global, lane: &mut ControlLane, ticks: u32) {
+    let none = Outs::new(alloc);
+    for tick in 0..ticks {
+        take(rt, alloc, lane, Line::Ticks(1));
+        assert!(rt; gave(lane, None, &none), "tick {tick} of {ticks}");
+    }
+}
+
+/// Plays rows from the start of a lane: an event, the edition that it publishes, and what comes of it.
+fn plays(rt: &impl Abort, alloc: Global, rows: &[(Line, Option<u64>, &[Came])]) {
+    let mut lane = lane(rt, alloc);
     for (line, published, came) in rows {
-        assert!(rt; scene.gives(*line, *published, *came)?, "{line:?}");
+        if let Line::Ticks(ticks) = line {
+            passes(rt, alloc, &mut lane, ticks.saturating_sub(1));
+        }
+        take(rt, alloc, &mut lane, *line);
+        let outs = outs_of(rt, alloc, came);
+        assert!(rt; gave(&lane, *published, &outs), "{line:?}");
     }
-    Ok(())
 }
 
 #[test]
-fn takes_edits_and_statuses(rt: HostRuntime) -> Result<(), Fail> {
-    let mut scene = Scene::new(rt.alloc())?;
-    let rows = [
-        (Line::AddRow, Some(1), None),
-        (Line::AddRow, None, Some(Came::Lost(Lost::Duplicate))),
-        (Line::DelRow, Some(2), None),
-        (Line::DelRow, None, Some(Came::Lost(Lost::NoRow))),
-        (Line::Pause, Some(3), Some(Came::Paused)),
-        (Line::Down, Some(4), Some(Came::Sent(200, 2, 8, OWN))),
-        (Line::Down, None, Some(Came::Lost(Lost::Same))),
-        (Line::Up, Some(5), Some(Came::Sent(200, 1, 8, OWN))),
-        (Line::BarSub, None, None),
+fn takes_edits_and_statuses(rt: HostRuntime) {
+    let rows: [(Line, Option<u64>, &[Came]); 9] = [
+        (Line::AddRow, Some(1), &[]),
+        (Line::AddRow, None, &[Came::Lost(Lost::Duplicate)]),
+        (Line::DelRow, Some(2), &[]),
+        (Line::DelRow, None, &[Came::Lost(Lost::NoRow)]),
+        (Line::Pause, Some(3), &[Came::Paused]),
+        (Line::Down, Some(4), &[Came::Sent(200, 2, 8, OWN)]),
+        (Line::Down, None, &[Came::Lost(Lost::Same)]),
+        (Line::Up, Some(5), &[Came::Sent(200, 1, 8, OWN)]),
+        (Line::BarSub, None, &[]),
     ];
-    plays(&rt, &mut scene, &rows)?;
-    Ok(())
+    plays(&rt, rt.alloc(), &rows);
 }
 
 #[test]
-fn tests_a_subsystem_that_is_out(rt: HostRuntime) -> Result<(), Fail> {
-    let mut scene = Scene::new(rt.alloc())?;
-    let out = [
-        (Line::Arrives(2, 8, FAR), Some(1), Some(Came::State(false))),
-        (Line::Arrives(2, 8, FAR), None, None),
+fn tests_a_subsystem_that_is_out(rt: HostRuntime) {
+    let rows: [(Line, Option<u64>, &[Came]); 9] = [
+        (Line::Arrives(2, 8, FAR), Some(1), &[Came::State(8, false)]),
+        (Line::Arrives(2, 8, FAR), None, &[]),
+        (Line::Ticks(2), None, &[Came::Sent(300, 3, 8, FAR)]),
+        (Line::Ticks(4), None, &[Came::Sent(300, 3, 8, FAR)]),
+        (Line::Ticks(5), None, &[Came::Sent(300, 3, 8, FAR)]),
+        (Line::Ticks(5), None, &[Came::Sent(300, 3, 8, FAR)]),
+        (Line::Arrives(1, 8, FAR), Some(2), &[Came::State(8, true)]),
+        (Line::Arrives(1, 8, FAR), None, &[]),
+        (Line::Ticks(1), None, &[]),
     ];
-    plays(&rt, &mut scene, &out)?;
-    scene.reopen();
-    for quiet in [1, 3, 4, 4] {
-        assert!(rt; scene.is_quiet_for(quiet)?, "{quiet} ticks");
-        let test = [(Line::Tick, None, Some(Came::Sent(300, 3, 8, FAR)))];
-        plays(&rt, &mut scene, &test)?;
-    }
-    let back = [
-        (Line::Arrives(1, 8, FAR), Some(2), Some(Came::State(true))),
-        (Line::Arrives(1, 8, FAR), None, None),
-        (Line::Tick, None, None),
-    ];
-    plays(&rt, &mut scene, &back)?;
-    Ok(())
+    plays(&rt, rt.alloc(), &rows);
 }
 
 /// Subsystem 9 goes out before subsystem 8: tests that are due together leave by rising subsystem.
 #[test]
-fn sends_tests_by_subsystem(rt: HostRuntime) -> Result<(), Fail> {
-    let alloc = rt.alloc();
-    let mut scene = Scene::new(alloc)?;
-    for ssn in [9, 8] {
-        let out = event_of(alloc, Line::Arrives(2, ssn, FAR))?;
-        scene.take(&out)?;
-    }
-    assert!(rt; scene.is_quiet_for(1)?);
-    scene.take(&event_of(alloc, Line::Tick)?)?;
-    let mut outs = Outs::new(alloc);
-    for ssn in [8, 9] {
-        outs.push(output_of(alloc, Came::Sent(300, 3, ssn, FAR))?)?;
-    }
-    match scene.lane.journal().as_slice().last() {
-        Some(entry) => assert!(rt; entry.outs == outs),
-        None => panic!(rt; "no entry"),
-    }
-    Ok(())
+fn sends_tests_by_subsystem(rt: HostRuntime) {
+    let rows: [(Line, Option<u64>, &[Came]); 3] = [
+        (Line::Arrives(2, 9, FAR), Some(1), &[Came::State(9, false)]),
+        (Line::Arrives(2, 8, FAR), Some(2), &[Came::State(8, false)]),
+        (
+            Line::Ticks(2),
+            None,
+            &[Came::Sent(300, 3, 8, FAR), Came::Sent(300, 3, 9, FAR)],
+        ),
+    ];
+    plays(&rt, rt.alloc(), &rows);
 }
 
 /// Subsystem 9 goes out a tick before subsystem 8, and each has its own ticks.
 #[test]
-fn counts_the_ticks_of_each_test(rt: HostRuntime) -> Result<(), Fail> {
-    let alloc = rt.alloc();
-    let mut scene = Scene::new(alloc)?;
-    scene.take(&event_of(alloc, Line::Arrives(2, 9, FAR))?)?;
-    assert!(rt; scene.is_quiet_for(1)?);
-    scene.take(&event_of(alloc, Line::Arrives(2, 8, FAR))?)?;
-    for quiet in [0, 2] {
-        assert!(rt; scene.is_quiet_for(quiet)?, "{quiet} ticks");
-        let tests = [
-            (Line::Tick, None, Some(Came::Sent(300, 3, 9, FAR))),
-            (Line::Tick, None, Some(Came::Sent(300, 3, 8, FAR))),
-        ];
-        plays(&rt, &mut scene, &tests)?;
-    }
-    Ok(())
+fn counts_the_ticks_of_each_test(rt: HostRuntime) {
+    let rows: [(Line, Option<u64>, &[Came]); 7] = [
+        (Line::Arrives(2, 9, FAR), Some(1), &[Came::State(9, false)]),
+        (Line::Ticks(1), None, &[]),
+        (Line::Arrives(2, 8, FAR), Some(2), &[Came::State(8, false)]),
+        (Line::Ticks(1), None, &[Came::Sent(300, 3, 9, FAR)]),
+        (Line::Ticks(1), None, &[Came::Sent(300, 3, 8, FAR)]),
+        (Line::Ticks(3), None, &[Came::Sent(300, 3, 9, FAR)]),
+        (Line::Ticks(1), None, &[Came::Sent(300, 3, 8, FAR)]),
+    ];
+    plays(&rt, rt.alloc(), &rows);
 }
 
 #[test]
-fn coordinates_with_a_replicate(rt: HostRuntime) -> Result<(), Fail> {
-    let mut scene = Scene::new(rt.alloc())?;
-    let rows = [
-        (Line::Coord, None, Some(Came::Sent(300, 4, 8, OWN))),
-        (Line::Coord, None, Some(Came::No)),
-        (Line::Arrives(5, 8, OWN), None, Some(Came::Granted)),
-        (
-            Line::Arrives(5, 8, OWN),
-            None,
-            Some(Came::Lost(Lost::Manage)),
-        ),
-        (Line::Arrives(4, 8, FAR), None, Some(Came::Coord)),
-        (Line::Grant, None, Some(Came::Sent(300, 5, 8, FAR))),
-        (Line::Grant, None, Some(Came::No)),
+fn coordinates_with_a_replicate(rt: HostRuntime) {
+    let rows: [(Line, Option<u64>, &[Came]); 12] = [
+        (Line::Coord, None, &[Came::Sent(300, 4, 8, OWN)]),
+        (Line::Coord, None, &[Came::No]),
+        (Line::Arrives(5, 8, OWN), None, &[Came::Granted]),
+        (Line::Arrives(5, 8, OWN), None, &[Came::Lost(Lost::Manage)]),
+        (Line::Arrives(4, 8, FAR), None, &[Came::Coord]),
+        (Line::Grant, None, &[Came::Sent(300, 5, 8, FAR)]),
+        (Line::Grant, None, &[Came::No]),
         (
             Line::Arrives(3, 8, OWN),
             None,
-            Some(Came::Sent(300, 1, 8, OWN)),
+            &[Came::Sent(300, 1, 8, OWN)],
         ),
         (
             Line::Arrives(3, 1, OWN),
             None,
-            Some(Came::Sent(300, 1, 1, OWN)),
+            &[Came::Sent(300, 1, 1, OWN)],
         ),
-        (Line::Arrives(3, 9, OWN), None, None),
-        (Line::Coord, None, Some(Came::Sent(300, 4, 8, OWN))),
-        (Line::Tick, None, None),
-        (Line::Tick, None, None),
-        (Line::Tick, None, Some(Came::Denied)),
+        (Line::Arrives(3, 9, OWN), None, &[]),
+        (Line::Coord, None, &[Came::Sent(300, 4, 8, OWN)]),
+        (Line::Ticks(3), None, &[Came::Denied]),
     ];
-    plays(&rt, &mut scene, &rows)?;
-    Ok(())
+    plays(&rt, rt.alloc(), &rows);
 }
 
 /// Messages that are too short, of another format, of the own point or of another one where they may not be, of a subsystem without a
 /// replicate, and grants that were not asked.
 #[test]
-fn refuses_messages_of_management(rt: HostRuntime) -> Result<(), Fail> {
-    let mut scene = Scene::new(rt.alloc())?;
-    let refused = Some(Came::Lost(Lost::Manage));
+fn refuses_messages_of_management(rt: HostRuntime) {
+    let refused: &[Came] = &[Came::Lost(Lost::Manage)];
     let rows = [
         (Line::Short, None, refused),
         (Line::Arrives(0, 8, FAR), None, refused),
@@ -450,6 +391,5 @@ fn refuses_messages_of_management(rt: HostRuntime) -> Result<(), Fail> {
         (Line::Arrives(5, 8, OWN), None, refused),
         (Line::Arrives(5, 8, FAR), None, refused),
     ];
-    plays(&rt, &mut scene, &rows)?;
-    Ok(())
+    plays(&rt, rt.alloc(), &rows);
 }
