@@ -1,14 +1,15 @@
 //! Captures with each kind of line fault, the limits, the phases, and the places of events.
 use crate::{
-    Capture, CaptureFault, LanePlace, Limit, LineFault, LineKind, Phase, PhaseList,
-    StampedControlList, place, read_capture,
+    Capture, CaptureFault, LanePlace, LineFault, LineKind, Phase, PhaseList, StampedControlList,
+    place, read_capture,
 };
 use gtt_table::Row;
 use node_head::{digits_of, entity_of};
 use plant_core::{Change, ControlEvent};
 use relay_base::{BoxedOctets, Digits, Event, Memory, Octets, Pc, Ref24, Request, Sls, Ssn, Stamp};
 use sccp_address::Selector;
-use std::alloc::Global;
+use std::alloc::{AllocError, Global};
+use std::process::Abort;
 use std::test::Fail;
 
 /// The capture of a line after a head of three lines, with own point 100 and user 8.
@@ -24,6 +25,47 @@ fn fault_of(alloc: Global, line: &str) -> Option<CaptureFault> {
 
 fn at_line(line: u32, kind: LineKind) -> Option<CaptureFault> {
     Some(CaptureFault::Line(LineFault { line, kind }))
+}
+
+/// What is wrong with a capture, as `Hex of line 4`, and `too many Barriers` where there is too much.
+fn fault_text(alloc: Global, fault: CaptureFault) -> Result<String, AllocError> {
+    match fault {
+        CaptureFault::Head(fault) => format!(in alloc; "{fault:?}"),
+        CaptureFault::Line(fault) => format!(in alloc; "{:?} of line {}", fault.kind, fault.line),
+        CaptureFault::TooLong(limit) => format!(in alloc; "too many {limit:?}"),
+        CaptureFault::Memory => format!(in alloc; "memory"),
+    }
+}
+
+/// The text that a row stands for: each semicolon ends a line, and of `a{3 b}c` the `b` stands three times.
+fn spelled(alloc: Global, row: &str) -> Result<String, Fail> {
+    let row = row.replace(alloc, ";", "\n")?;
+    let mut text = String::new(alloc);
+    for part in row.as_str().split('{') {
+        let Some((repeated, after)) = part.split_once('}') else {
+            text.push_str(part)?;
+            continue;
+        };
+        let (count, unit) = repeated.split_once(' ').ok_or("no count")?;
+        let many = unit.repeat(alloc, count.parse::<usize>()?)?;
+        text.push_str(many.as_str())?;
+        text.push_str(after)?;
+    }
+    Ok(text)
+}
+
+/// Reads the lines of each row after a head of three lines. Behind an arrow stands their fault, or that they are read.
+fn assert_faults(rt: &impl Abort, alloc: Global, rows: &str) -> Result<(), Fail> {
+    for row in rows.lines() {
+        let (lines, wanted) = row.split_once(" => ").ok_or("no arrow")?;
+        let lines = spelled(alloc, lines)?;
+        let found = match capture_of(alloc, lines.as_str()) {
+            Ok(_) => String::from_str(alloc, "read")?,
+            Err(fault) => fault_text(alloc, fault)?,
+        };
+        assert_eq!(rt; found.as_str(), wanted, "{row}");
+    }
+    Ok(())
 }
 
 /// The first of these lines that has another fault than one of this kind.
@@ -254,141 +296,74 @@ u 1 9 grant 16384";
 /// An address has at most 40 octets, the body of a unit at most 2,560, data of one call 128, a text 8,192 and expedited data 32.
 #[test]
 fn sizes(rt: HostRuntime) -> Result<(), Fail> {
-    let cases = [
-        ("u 1 8 unit 5 0 r 4208", 38, " - aa", None),
-        ("u 1 8 unit 5 0 r 4208", 39, " 0 0", Some(LineKind::Size)),
-        ("u 1 8 unit 5 0 r 1208001204", 35, " - aa", None),
-        (
-            "u 1 8 unit 5 0 r 1208001204",
-            36,
-            " - aa",
-            Some(LineKind::Size),
-        ),
-        ("u 1 8 unit 5 2 r 4208", 39, " - aa", Some(LineKind::Number)),
-        ("u 1 8 unit 5 0 r 4209 4208", 38, " aa", None),
-        ("u 1 8 unit 5 0 r 4209 4208", 39, " 0", Some(LineKind::Size)),
-        ("u 1 8 unit 5 0 r 4209 - ", 2_560, "", None),
-        ("u 1 8 unit 5 0 r 4209 - ", 2_561, "", Some(LineKind::Size)),
-        ("u 1 8 unit 5 0 r 4209 - ", 2_561, "0", Some(LineKind::Hex)),
-        ("u 1 8 unit 5 0 r 42 - ", 2_561, "", Some(LineKind::Address)),
-        ("u 1 8 conn 7 2 0 4208", 38, " -", None),
-        ("u 1 8 conn 7 2 0 4208", 39, " 0", Some(LineKind::Size)),
-        ("u 1 8 conn 7 2 0 4209 ", 128, "", None),
-        ("u 1 8 conn 7 2 0 4209 ", 129, "", Some(LineKind::Size)),
-        ("u 1 8 conn 7 3 0 4209 ", 128, "", None),
-        ("u 1 8 conn 7 3 0 4209 ", 129, "", Some(LineKind::Size)),
-        ("u 1 8 accept 16 3 0 ", 128, "", None),
-        ("u 1 8 accept 16 3 0 ", 129, "", Some(LineKind::Size)),
-        ("u 1 8 refuse 16 0 ", 128, "", None),
-        ("u 1 8 refuse 16 0 ", 129, "", Some(LineKind::Size)),
-        ("u 1 8 send 16 ", 8_192, "", None),
-        ("u 1 8 send 16 ", 8_193, "", Some(LineKind::Size)),
-        ("u 1 8 ed 16 ", 32, "", None),
-        ("u 1 8 ed 16 ", 33, "", Some(LineKind::Size)),
-        ("u 1 8 disc 16 0 ", 128, "", None),
-        ("u 1 8 disc 16 0 ", 129, "", Some(LineKind::Size)),
-    ];
-    for (before, count, after, kind) in cases {
-        let zeros = "00".repeat(rt.alloc(), count)?;
-        let line = format!(in rt.alloc(); "{before}{zeros}{after}")?;
-        let fault = kind.and_then(|kind| at_line(4, kind));
-        assert_eq!(rt;
-            fault_of(rt.alloc(), line.as_str()),
-            fault,
-            "{before} {count}"
-        );
-    }
-    Ok(())
-}
-
-/// The fault of a line many times, after another one and before a last one.
-fn fault_of_many(
-    alloc: Global,
-    before: &str,
-    line: &str,
-    count: usize,
-    after: &str,
-) -> Option<CaptureFault> {
-    match line.repeat(alloc, count) {
-        Ok(lines) => match format!(in alloc; "{before}{lines}{after}") {
-            Ok(text) => fault_of(alloc, text.as_str()),
-            Err(_) => Some(CaptureFault::Memory),
-        },
-        Err(_) => Some(CaptureFault::Memory),
-    }
+    let rows = "u 1 8 unit 5 0 r 4208{38 00} - aa => read
+u 1 8 unit 5 0 r 4208{39 00} 0 0 => Size of line 4
+u 1 8 unit 5 0 r 1208001204{35 00} - aa => read
+u 1 8 unit 5 0 r 1208001204{36 00} - aa => Size of line 4
+u 1 8 unit 5 2 r 4208{39 00} - aa => Number of line 4
+u 1 8 unit 5 0 r 4209 4208{38 00} aa => read
+u 1 8 unit 5 0 r 4209 4208{39 00} 0 => Size of line 4
+u 1 8 unit 5 0 r 4209 - {2560 00} => read
+u 1 8 unit 5 0 r 4209 - {2561 00} => Size of line 4
+u 1 8 unit 5 0 r 4209 - {2561 00}0 => Hex of line 4
+u 1 8 unit 5 0 r 42 - {2561 00} => Address of line 4
+u 1 8 conn 7 2 0 4208{38 00} - => read
+u 1 8 conn 7 2 0 4208{39 00} 0 => Size of line 4
+u 1 8 conn 7 2 0 4209 {128 00} => read
+u 1 8 conn 7 2 0 4209 {129 00} => Size of line 4
+u 1 8 conn 7 3 0 4209 {128 00} => read
+u 1 8 conn 7 3 0 4209 {129 00} => Size of line 4
+u 1 8 accept 16 3 0 {128 00} => read
+u 1 8 accept 16 3 0 {129 00} => Size of line 4
+u 1 8 refuse 16 0 {128 00} => read
+u 1 8 refuse 16 0 {129 00} => Size of line 4
+u 1 8 send 16 {8192 00} => read
+u 1 8 send 16 {8193 00} => Size of line 4
+u 1 8 ed 16 {32 00} => read
+u 1 8 ed 16 {33 00} => Size of line 4
+u 1 8 disc 16 0 {128 00} => read
+u 1 8 disc 16 0 {129 00} => Size of line 4";
+    assert_faults(&rt, rt.alloc(), rows)
 }
 
 /// 1,000 barriers, whatever their form; a fault that comes before is the answer.
 #[test]
-fn limit_of_barriers(rt: HostRuntime) {
-    let cases = [
-        ("", 1_000, "# none\n\n", None),
-        ("", 1_000, "m 1 200 5 -", None),
-        ("", 999, "w 1", at_line(1_003, LineKind::Words)),
-        ("", 1_000, "w", Some(CaptureFault::TooLong(Limit::Barriers))),
-        (
-            "",
-            1_000,
-            "w 1",
-            Some(CaptureFault::TooLong(Limit::Barriers)),
-        ),
-        ("", 1_000, "x", at_line(1_004, LineKind::Words)),
-        ("x\n", 1_001, "", at_line(4, LineKind::Words)),
-    ];
-    for (before, count, after, fault) in cases {
-        assert_eq!(rt;
-            fault_of_many(rt.alloc(), before, "w\n", count, after),
-            fault,
-            "{before} {count} {after}"
-        );
-    }
+fn limit_of_barriers(rt: HostRuntime) -> Result<(), Fail> {
+    let rows = "{1000 w;}# none;; => read
+{1000 w;}m 1 200 5 - => read
+{999 w;}w 1 => Words of line 1003
+{1000 w;}w => too many Barriers
+{1000 w;}w 1 => too many Barriers
+{1000 w;}x => Words of line 1004
+x;{1001 w;} => Words of line 4";
+    assert_faults(&rt, rt.alloc(), rows)
 }
 
 /// 20,000 tick lines, whatever their form; lines with other first words are none.
 #[test]
-fn limit_of_ticks(rt: HostRuntime) {
-    let cases = [
-        ("", 20_000, "# none\n\nw\nm 1 200 5 -", None),
-        ("", 19_999, "t 1", at_line(20_003, LineKind::Words)),
-        ("", 20_000, "t", Some(CaptureFault::TooLong(Limit::Ticks))),
-        ("", 20_000, "t 1", Some(CaptureFault::TooLong(Limit::Ticks))),
-        ("", 20_000, "x", at_line(20_004, LineKind::Words)),
-        ("x\n", 20_001, "", at_line(4, LineKind::Words)),
-    ];
-    for (before, count, after, fault) in cases {
-        assert_eq!(rt;
-            fault_of_many(rt.alloc(), before, "t\n", count, after),
-            fault,
-            "{before} {count} {after}"
-        );
-    }
+fn limit_of_ticks(rt: HostRuntime) -> Result<(), Fail> {
+    let rows = "{20000 t;}# none;;w;m 1 200 5 - => read
+{19999 t;}t 1 => Words of line 20003
+{20000 t;}t => too many Ticks
+{20000 t;}t 1 => too many Ticks
+{20000 t;}x => Words of line 20004
+x;{20001 t;} => Words of line 4";
+    assert_faults(&rt, rt.alloc(), rows)
 }
 
 /// The line that passes both limits passes that of event lines.
 #[test]
 fn both_limits(rt: HostRuntime) -> Result<(), Fail> {
-    let ticks = "t\n".repeat(rt.alloc(), 20_000)?;
-    assert_eq!(rt;
-        fault_of_many(rt.alloc(), ticks.as_str(), "m 1 200 5 -\n", 180_000, "t"),
-        Some(CaptureFault::TooLong(Limit::Lines))
-    );
-    Ok(())
+    let row = "{20000 t;}{180000 m 1 200 5 -;}t => too many Lines";
+    assert_faults(&rt, rt.alloc(), row)
 }
 
 /// 200,000 event lines, whatever their form; empty lines, comments and barriers are none.
 #[test]
-fn limit_of_event_lines(rt: HostRuntime) {
-    let cases = [
-        ("# none\n\nw", None),
-        ("x", Some(CaptureFault::TooLong(Limit::Lines))),
-    ];
-    for (after, fault) in cases {
-        assert_eq!(rt;
-            fault_of_many(rt.alloc(), "", "m 1 200 5 -\n", 200_000, after),
-            fault,
-            "{after}"
-        );
-    }
+fn limit_of_event_lines(rt: HostRuntime) -> Result<(), Fail> {
+    let rows = "{200000 m 1 200 5 -;}# none;;w => read
+{200000 m 1 200 5 -;}x => too many Lines";
+    assert_faults(&rt, rt.alloc(), rows)
 }
 
 fn stamp(phase: u32, link: u8, line: u32) -> Stamp {
@@ -473,25 +448,22 @@ fn phases(rt: HostRuntime) -> Result<(), Fail> {
 /// An input without events has no phase; a CR stays where no LF follows it; lines are counted from that of the head.
 #[test]
 fn ends_of_input(rt: HostRuntime) -> Result<(), Fail> {
-    let cases = [
-        ("point = 100\n%%", None, 0),
-        ("point = 100\n%%\n# none\n\nw\nw\n", None, 0),
-        ("point = 100\n%%\nm 1 200 5 -", None, 1),
-        ("point = 100\n%%\nt", None, 1),
-        ("point = 100\n%%\nm 1 200 5 -\r\n", None, 1),
-        ("point = 100\n%%\nm 1 200 5 -\nw\n", None, 2),
-        ("point = 100\n%%\nm 1 200 5 -\r", Some(LineKind::Hex), 0),
-        ("point = 100\n%%\nw\r", Some(LineKind::Words), 0),
-    ];
-    for (text, kind, count) in cases {
-        let fault = kind.and_then(|kind| at_line(3, kind));
-        match read_capture(rt.alloc(), text.as_bytes()) {
-            Ok(capture) => {
-                assert_eq!(rt; fault, None, "{text}");
-                assert_eq!(rt; capture.phases.len(), count, "{text}");
-            }
-            Err(found) => assert_eq!(rt; Some(found), fault, "{text}"),
-        }
+    let rows = "point = 100;%% => 0 phases
+point = 100;%%;# none;;w;w; => 0 phases
+point = 100;%%;m 1 200 5 - => 1 phases
+point = 100;%%;t => 1 phases
+point = 100;%%;m 1 200 5 -\r; => 1 phases
+point = 100;%%;m 1 200 5 -;w; => 2 phases
+point = 100;%%;m 1 200 5 -\r => Hex of line 3
+point = 100;%%;w\r => Words of line 3";
+    for row in rows.lines() {
+        let (text, wanted) = row.split_once(" => ").ok_or("no arrow")?;
+        let text = spelled(rt.alloc(), text)?;
+        let found = match read_capture(rt.alloc(), text.as_bytes()) {
+            Ok(capture) => format!(in rt.alloc(); "{} phases", capture.phases.len())?,
+            Err(fault) => fault_text(rt.alloc(), fault)?,
+        };
+        assert_eq!(rt; found.as_str(), wanted, "{row}");
     }
     Ok(())
 }
@@ -686,28 +658,31 @@ fn place_of(alloc: Global, line: &str) -> Result<Option<LanePlace>, CaptureFault
     Ok(first_event(&capture).map(|(_, event)| place(&capture.head, event)))
 }
 
+/// The lanes of event lines, each behind an arrow.
 #[test]
-fn places(rt: HostRuntime) {
-    let cases = [
-        ("t", LanePlace::All),
-        ("e del 4 0 1 4 49", LanePlace::Control),
-        ("p pause 300", LanePlace::Control),
-        ("s 8 out", LanePlace::Control),
-        ("u 1 8 coord", LanePlace::Control),
-        ("u 1 8 grant 300", LanePlace::Control),
-        ("m 1 200 5 090003050702420102420601aa", LanePlace::Control),
-        ("m 1 200 5 0900030406014002420601aa", LanePlace::Unit(2)),
-        ("m 1 200 5 0900030507024208024206", LanePlace::Unit(2)),
-        ("m 1 200 5 010b0000030200024208", LanePlace::Conn(1)),
-        ("m 1 200 5 021e00005500000200", LanePlace::Conn(4)),
-        ("u 1 8 unit 4 0 - 4209 - aa", LanePlace::Unit(1)),
-        ("u 1 8 conn 8 3 0 4209 -", LanePlace::Conn(3)),
-        ("u 1 8 reset 31", LanePlace::Conn(0)),
-    ];
-    for (line, lane) in cases {
-        match place_of(rt.alloc(), line) {
-            Ok(found) => assert_eq!(rt; found, Some(lane), "{line}"),
-            Err(fault) => assert_eq!(rt; Some(fault), None, "{line}"),
-        }
+fn places(rt: HostRuntime) -> Result<(), Fail> {
+    let rows = "t => All
+e del 4 0 1 4 49 => Control
+p pause 300 => Control
+s 8 out => Control
+u 1 8 coord => Control
+u 1 8 grant 300 => Control
+m 1 200 5 090003050702420102420601aa => Control
+m 1 200 5 0900030406014002420601aa => Unit(2)
+m 1 200 5 0900030507024208024206 => Unit(2)
+m 1 200 5 010b0000030200024208 => Conn(1)
+m 1 200 5 021e00005500000200 => Conn(4)
+u 1 8 unit 4 0 - 4209 - aa => Unit(1)
+u 1 8 conn 8 3 0 4209 - => Conn(3)
+u 1 8 reset 31 => Conn(0)";
+    for row in rows.lines() {
+        let (line, wanted) = row.split_once(" => ").ok_or("no arrow")?;
+        let found = match place_of(rt.alloc(), line) {
+            Ok(Some(lane)) => format!(in rt.alloc(); "{lane:?}")?,
+            Ok(None) => String::from_str(rt.alloc(), "no event")?,
+            Err(fault) => fault_text(rt.alloc(), fault)?,
+        };
+        assert_eq!(rt; found.as_str(), wanted, "{row}");
     }
+    Ok(())
 }

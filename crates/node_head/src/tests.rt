@@ -1,5 +1,5 @@
 //! Heads with each kind of fault, and what heads state.
-use crate::{HeadKind, HeadRefused, digits_of, entity_of, read_head, take_head};
+use crate::{HeadRefused, digits_of, entity_of, read_head, take_head};
 use bstr::ByteSlice;
 use gtt_table::{Entity, Row};
 use plant_core::{Replicate, Ticks};
@@ -7,300 +7,188 @@ use relay_base::{Pc, Ssn};
 use sccp_address::Selector;
 use std::alloc::Global;
 use std::process::Abort;
+use std::str::from_utf8;
 use std::test::Fail;
 
-fn assert_fault(rt: &impl Abort, alloc: Global, text: &str, kind: HeadKind, key: &str) {
-    match read_head(alloc, text.as_bytes()) {
+/// What is wrong with a head, and at which key, as `Range timers.ias`; otherwise what was read in place of a fault.
+fn fault_of(alloc: Global, text: &str) -> Result<String, Fail> {
+    Ok(match read_head(alloc, text.as_bytes()) {
         Err(HeadRefused::Fault(fault)) => {
-            assert_eq!(rt; fault.kind, kind, "{text}");
-            assert_eq!(rt; fault.key.as_slice(), key.as_bytes(), "{text}");
+            let key = from_utf8(fault.key.as_slice())?;
+            format!(in alloc; "{:?} {key}", fault.kind)?
         }
-        Err(HeadRefused::Memory) => panic!(rt; "no memory for {text}"),
-        Ok(head) => panic!(rt; "{text} is {head:?}"),
+        Err(HeadRefused::Memory) => format!(in alloc; "memory")?,
+        Ok(head) => format!(in alloc; "{head:?}")?,
+    })
+}
+
+/// Reads the head of each row between two texts. A row is lines, with `; ` in place of the end of each but the last, and after an
+/// arrow the fault of their head.
+fn assert_faults(
+    rt: &impl Abort,
+    alloc: Global,
+    before: &str,
+    rows: &str,
+    after: &str,
+) -> Result<(), Fail> {
+    for row in rows.lines() {
+        let (lines, fault) = row.split_once(" => ").ok_or("no arrow")?;
+        let lines = lines.replace(alloc, "; ", "\n")?;
+        let text = format!(in alloc; "{before}{lines}{after}")?;
+        assert_eq!(rt; fault_of(alloc, text.as_str())?.as_str(), fault, "{row}");
     }
+    Ok(())
 }
 
 #[test]
-fn refuses_in_order(rt: HostRuntime) {
-    let cases = [
-        ("point = 100", HeadKind::End, "-"),
-        ("", HeadKind::End, "-"),
-        ("point =\n%%", HeadKind::Text, "-"),
-        ("point = 99999999999999999999\n%%", HeadKind::Text, "-"),
-        ("point = 100\npoint = 100\n%%", HeadKind::Text, "-"),
-        ("zeta = 1\nalpha = 2\n%%", HeadKind::Unknown, "alpha"),
-        (
-            "beta = 1\n[timers]\nalpha = 1\n%%",
-            HeadKind::Unknown,
-            "beta",
-        ),
-        (
-            "[[row]]\nalpha = 1\n[timers]\nzeta = 1\nbeta = 2\n%%",
-            HeadKind::Unknown,
-            "timers.beta",
-        ),
-        (
-            "[[row]]\n[[row]]\nzeta = 1\nalpha = 1\n%%",
-            HeadKind::Unknown,
-            "row.2.alpha",
-        ),
-        (
-            "[[replicate]]\nssn = 8\n[[replicate]]\nzeta = 1\ngti = 4\n[[row]]\n%%",
-            HeadKind::Unknown,
-            "replicate.2.gti",
-        ),
-        (
-            "[[replicate]]\nzeta = 1\n[[row]]\n[[row]]\nssn = 8\n%%",
-            HeadKind::Unknown,
-            "row.2.ssn",
-        ),
-        ("credit = 0\n%%", HeadKind::Missing, "point"),
-        ("point = \"1\"\nusers = 1\n%%", HeadKind::Kind, "point"),
-        ("point = 1.5\n%%", HeadKind::Kind, "point"),
-        ("point = 16384\nusers = 1\n%%", HeadKind::Range, "point"),
-        ("point = -1\n%%", HeadKind::Range, "point"),
-    ];
-    for (text, kind, key) in cases {
-        assert_fault(&rt, rt.alloc(), text, kind, key);
-    }
+fn refuses_in_order(rt: HostRuntime) -> Result<(), Fail> {
+    let rows = r#"point = 100 => End -
+ => End -
+point =; %% => Text -
+point = 99999999999999999999; %% => Text -
+point = 100; point = 100; %% => Text -
+zeta = 1; alpha = 2; %% => Unknown alpha
+beta = 1; [timers]; alpha = 1; %% => Unknown beta
+[[row]]; alpha = 1; [timers]; zeta = 1; beta = 2; %% => Unknown timers.beta
+[[row]]; [[row]]; zeta = 1; alpha = 1; %% => Unknown row.2.alpha
+[[replicate]]; ssn = 8; [[replicate]]; zeta = 1; gti = 4; [[row]]; %% => Unknown replicate.2.gti
+[[replicate]]; zeta = 1; [[row]]; [[row]]; ssn = 8; %% => Unknown row.2.ssn
+credit = 0; %% => Missing point
+point = "1"; users = 1; %% => Kind point
+point = 1.5; %% => Kind point
+point = 16384; users = 1; %% => Range point
+point = -1; %% => Range point"#;
+    assert_faults(&rt, rt.alloc(), "", rows, "")
 }
 
 #[test]
 fn refuses_values(rt: HostRuntime) -> Result<(), Fail> {
-    let cases = [
-        ("users = 8", HeadKind::Kind, "users"),
-        ("users = [1, \"8\"]", HeadKind::Kind, "users"),
-        ("users = [1]", HeadKind::Range, "users"),
-        ("users = [255]", HeadKind::Range, "users"),
-        ("users = [8, 9, 8]", HeadKind::Range, "users"),
-        (
-            "users = [2, 3, 4, 5, 6, 7, 8, 9, 10, 11, 12, 13, 14, 15, 16, 17, 18]",
-            HeadKind::Range,
-            "users",
-        ),
-        ("conn_lanes = 17\nusers = [1]", HeadKind::Range, "users"),
-        ("conn_lanes = true", HeadKind::Kind, "conn_lanes"),
-        ("conn_lanes = 0", HeadKind::Range, "conn_lanes"),
-        ("conn_lanes = 17", HeadKind::Range, "conn_lanes"),
-        ("data_lanes = 17", HeadKind::Range, "data_lanes"),
-        ("links = 9", HeadKind::Range, "links"),
-        ("credit = 0\nlinks = 0", HeadKind::Range, "links"),
-        ("credit = []", HeadKind::Kind, "credit"),
-        ("credit = 0", HeadKind::Range, "credit"),
-        ("credit = 128", HeadKind::Range, "credit"),
-        ("concerned = 0\ncredit = 0", HeadKind::Range, "credit"),
-        ("concerned = 200", HeadKind::Kind, "concerned"),
-        ("concerned = [16384, \"200\"]", HeadKind::Kind, "concerned"),
-        ("concerned = [16384]", HeadKind::Range, "concerned"),
-        ("concerned = [-1]", HeadKind::Range, "concerned"),
-        ("concerned = [200, 300, 200]", HeadKind::Range, "concerned"),
-        ("concerned = [200, 100]", HeadKind::Range, "concerned"),
-        (
-            "concerned = [1, 2, 3, 4, 5, 6, 7, 8, 9, 10, 11, 12, 13, 14, 15, 16, 17]",
-            HeadKind::Range,
-            "concerned",
-        ),
-        ("concerned = []\ntimers = 1", HeadKind::Kind, "timers"),
-        (
-            "timers = 1\nconcerned = [100]",
-            HeadKind::Range,
-            "concerned",
-        ),
-        ("row = 1\ntimers = 1", HeadKind::Kind, "timers"),
-        ("replicate = 1\nrow = 1", HeadKind::Kind, "row"),
-    ];
-    for (text, kind, key) in cases {
-        let text = format!(in rt.alloc(); "point = 100\n{text}\n%%\n")?;
-        assert_fault(&rt, rt.alloc(), text.as_str(), kind, key);
-    }
-    Ok(())
+    let rows = r#"users = 8 => Kind users
+users = [1, "8"] => Kind users
+users = [1] => Range users
+users = [255] => Range users
+users = [8, 9, 8] => Range users
+users = [2, 3, 4, 5, 6, 7, 8, 9, 10, 11, 12, 13, 14, 15, 16, 17, 18] => Range users
+conn_lanes = 17; users = [1] => Range users
+conn_lanes = true => Kind conn_lanes
+conn_lanes = 0 => Range conn_lanes
+conn_lanes = 17 => Range conn_lanes
+data_lanes = 17 => Range data_lanes
+links = 9 => Range links
+credit = 0; links = 0 => Range links
+credit = [] => Kind credit
+credit = 0 => Range credit
+credit = 128 => Range credit
+concerned = 0; credit = 0 => Range credit
+concerned = 200 => Kind concerned
+concerned = [16384, "200"] => Kind concerned
+concerned = [16384] => Range concerned
+concerned = [-1] => Range concerned
+concerned = [200, 300, 200] => Range concerned
+concerned = [200, 100] => Range concerned
+concerned = [1, 2, 3, 4, 5, 6, 7, 8, 9, 10, 11, 12, 13, 14, 15, 16, 17] => Range concerned
+concerned = []; timers = 1 => Kind timers
+timers = 1; concerned = [100] => Range concerned
+row = 1; timers = 1 => Kind timers
+replicate = 1; row = 1 => Kind row"#;
+    assert_faults(&rt, rt.alloc(), "point = 100\n", rows, "\n%%\n")
 }
 
 #[test]
 fn refuses_timers(rt: HostRuntime) -> Result<(), Fail> {
-    let cases = [
-        (
-            "ias = 59\nconnect = \"1\"",
-            HeadKind::Kind,
-            "timers.connect",
-        ),
-        ("ias = 59\nconnect = 0", HeadKind::Range, "timers.connect"),
-        ("connect = 65536", HeadKind::Range, "timers.connect"),
-        ("ias = 59", HeadKind::Range, "timers.ias"),
-        ("iar = 0", HeadKind::Range, "timers.iar"),
-        ("rel = 0", HeadKind::Range, "timers.rel"),
-        ("repeat = 4", HeadKind::Range, "timers.repeat"),
-        ("int = 0", HeadKind::Range, "timers.int"),
-        ("reset = 0", HeadKind::Range, "timers.reset"),
-        ("reassembly = 0", HeadKind::Range, "timers.reassembly"),
-        ("freeze = 0", HeadKind::Range, "timers.freeze"),
-        (
-            "status_max = 0\nstatus = 0",
-            HeadKind::Range,
-            "timers.status",
-        ),
-        (
-            "status_max = 699\nstatus = 700",
-            HeadKind::Range,
-            "timers.status_max",
-        ),
-        ("status_max = 65536", HeadKind::Range, "timers.status_max"),
-        ("coord = 1979-05-27", HeadKind::Kind, "timers.coord"),
-        ("coord = 0\n[[row]]", HeadKind::Range, "timers.coord"),
-    ];
-    for (text, kind, key) in cases {
-        let text = format!(in rt.alloc(); "point = 100\n[timers]\n{text}\n%%\n")?;
-        assert_fault(&rt, rt.alloc(), text.as_str(), kind, key);
-    }
-    Ok(())
+    let rows = r#"ias = 59; connect = "1" => Kind timers.connect
+ias = 59; connect = 0 => Range timers.connect
+connect = 65536 => Range timers.connect
+ias = 59 => Range timers.ias
+iar = 0 => Range timers.iar
+rel = 0 => Range timers.rel
+repeat = 4 => Range timers.repeat
+int = 0 => Range timers.int
+reset = 0 => Range timers.reset
+reassembly = 0 => Range timers.reassembly
+freeze = 0 => Range timers.freeze
+status_max = 0; status = 0 => Range timers.status
+status_max = 699; status = 700 => Range timers.status_max
+status_max = 65536 => Range timers.status_max
+coord = 1979-05-27 => Kind timers.coord
+coord = 0; [[row]] => Range timers.coord"#;
+    assert_faults(&rt, rt.alloc(), "point = 100\n[timers]\n", rows, "\n%%\n")
 }
 
 #[test]
 fn refuses_rows(rt: HostRuntime) -> Result<(), Fail> {
-    let cases = [
-        ("row = 1", HeadKind::Kind, "row"),
-        ("row = [{}, 1]", HeadKind::Kind, "row"),
-        ("[[row]]\ntt = 256", HeadKind::Missing, "row.1.gti"),
-        ("[[row]]\ngti = 2", HeadKind::Range, "row.1.gti"),
-        ("[[row]]\ngti = 5", HeadKind::Range, "row.1.gti"),
-        ("[[row]]\ngti = 0", HeadKind::Range, "row.1.gti"),
-        (
-            "[[row]]\ngti = 1\ntt = 1\nnp = true",
-            HeadKind::Range,
-            "row.1.tt",
-        ),
-        ("[[row]]\ngti = 1\nnp = 1", HeadKind::Range, "row.1.np"),
-        ("[[row]]\ngti = 1\nnai = 128", HeadKind::Range, "row.1.nai"),
-        ("[[row]]\ngti = 3\ntt = 256", HeadKind::Range, "row.1.tt"),
-        ("[[row]]\ngti = 3\nnp = 16", HeadKind::Range, "row.1.np"),
-        ("[[row]]\ngti = 3\nnai = 1", HeadKind::Range, "row.1.nai"),
-        (
-            "[[row]]\ngti = 4\nfirst = 1",
-            HeadKind::Missing,
-            "row.1.digits",
-        ),
-        (
-            "[[row]]\ngti = 4\ndigits = 49",
-            HeadKind::Kind,
-            "row.1.digits",
-        ),
-        (
-            "[[row]]\ngti = 4\ndigits = \"4g\"",
-            HeadKind::Range,
-            "row.1.digits",
-        ),
-        (
-            "[[row]]\ngti = 4\ndigits = \"0123456789012345678901234\"",
-            HeadKind::Range,
-            "row.1.digits",
-        ),
-    ];
-    for (text, kind, key) in cases {
-        let text = format!(in rt.alloc(); "point = 100\n{text}\n%%\n")?;
-        assert_fault(&rt, rt.alloc(), text.as_str(), kind, key);
-    }
-    Ok(())
+    let rows = r#"row = 1 => Kind row
+row = [{}, 1] => Kind row
+[[row]]; tt = 256 => Missing row.1.gti
+[[row]]; gti = 2 => Range row.1.gti
+[[row]]; gti = 5 => Range row.1.gti
+[[row]]; gti = 0 => Range row.1.gti
+[[row]]; gti = 1; tt = 1; np = true => Range row.1.tt
+[[row]]; gti = 1; np = 1 => Range row.1.np
+[[row]]; gti = 1; nai = 128 => Range row.1.nai
+[[row]]; gti = 3; tt = 256 => Range row.1.tt
+[[row]]; gti = 3; np = 16 => Range row.1.np
+[[row]]; gti = 3; nai = 1 => Range row.1.nai
+[[row]]; gti = 4; first = 1 => Missing row.1.digits
+[[row]]; gti = 4; digits = 49 => Kind row.1.digits
+[[row]]; gti = 4; digits = "4g" => Range row.1.digits
+[[row]]; gti = 4; digits = "0123456789012345678901234" => Range row.1.digits"#;
+    assert_faults(&rt, rt.alloc(), "point = 100\n", rows, "\n%%\n")
 }
 
 #[test]
 fn refuses_entities(rt: HostRuntime) -> Result<(), Fail> {
-    let cases = [
-        ("second = 1", HeadKind::Missing, "row.2.first"),
-        ("first = 8", HeadKind::Kind, "row.2.first"),
-        ("first = \"100/8/g\"", HeadKind::Range, "row.2.first"),
-        ("first = \"100/-/g\"", HeadKind::Range, "row.2.first"),
-        ("first = \"300/-/s\"", HeadKind::Range, "row.2.first"),
-        ("first = \"300/8/x\"", HeadKind::Range, "row.2.first"),
-        ("first = \"300/8\"", HeadKind::Range, "row.2.first"),
-        ("first = \"300/8/s/\"", HeadKind::Range, "row.2.first"),
-        ("first = \"16384/8/s\"", HeadKind::Range, "row.2.first"),
-        ("first = \"300/256/s\"", HeadKind::Range, "row.2.first"),
-        ("first = \"/8/s\"", HeadKind::Range, "row.2.first"),
-        (
-            "first = \"300/8/s\"\nsecond = []",
-            HeadKind::Kind,
-            "row.2.second",
-        ),
-        (
-            "first = \"300/8/s\"\nsecond = \"\"",
-            HeadKind::Range,
-            "row.2.second",
-        ),
-    ];
-    for (text, kind, key) in cases {
-        let text = format!(in rt.alloc();
-            "point = 100\n[[row]]\ngti = 4\nnp = 1\ndigits = \"4f\"\nfirst = \"300/8/s\"\n[[row]]\ngti = 4\nnp = 2\ndigits = \"4F\"\n{text}\n%%\n"
-        )?;
-        assert_fault(&rt, rt.alloc(), text.as_str(), kind, key);
-    }
-    Ok(())
+    let rows = r#"second = 1 => Missing row.2.first
+first = 8 => Kind row.2.first
+first = "100/8/g" => Range row.2.first
+first = "100/-/g" => Range row.2.first
+first = "300/-/s" => Range row.2.first
+first = "300/8/x" => Range row.2.first
+first = "300/8" => Range row.2.first
+first = "300/8/s/" => Range row.2.first
+first = "16384/8/s" => Range row.2.first
+first = "300/256/s" => Range row.2.first
+first = "/8/s" => Range row.2.first
+first = "300/8/s"; second = [] => Kind row.2.second
+first = "300/8/s"; second = "" => Range row.2.second"#;
+    assert_faults(
+        &rt,
+        rt.alloc(),
+        "point = 100\n[[row]]\ngti = 4\nnp = 1\ndigits = \"4f\"\nfirst = \"300/8/s\"\n[[row]]\ngti = 4\nnp = 2\ndigits = \"4F\"\n",
+        rows,
+        "\n%%\n",
+    )
 }
 
 /// Replicates of user 8, after which user 9 follows.
 #[test]
 fn refuses_replicates(rt: HostRuntime) -> Result<(), Fail> {
-    let cases = [
-        ("replicate = 1", HeadKind::Kind, "replicate"),
-        ("replicate = [{}, 1]", HeadKind::Kind, "replicate"),
-        ("[[replicate]]", HeadKind::Missing, "replicate.1.ssn"),
-        (
-            "[[replicate]]\nssn = []\npoint = []",
-            HeadKind::Kind,
-            "replicate.1.ssn",
-        ),
-        (
-            "[[replicate]]\nssn = 256\npoint = []",
-            HeadKind::Range,
-            "replicate.1.ssn",
-        ),
-        (
-            "[[replicate]]\nssn = 7\npoint = 300",
-            HeadKind::Range,
-            "replicate.1.ssn",
-        ),
-        (
-            "[[replicate]]\nssn = 8",
-            HeadKind::Missing,
-            "replicate.1.point",
-        ),
-        (
-            "[[replicate]]\nssn = 8\npoint = \"300\"",
-            HeadKind::Kind,
-            "replicate.1.point",
-        ),
-        (
-            "[[replicate]]\nssn = 8\npoint = 16384",
-            HeadKind::Range,
-            "replicate.1.point",
-        ),
-        (
-            "[[replicate]]\nssn = 8\npoint = 100",
-            HeadKind::Range,
-            "replicate.1.point",
-        ),
-        (
-            "[[replicate]]\nssn = 8\npoint = 300\n[[replicate]]\nssn = 8\npoint = 100",
-            HeadKind::Range,
-            "replicate.2.ssn",
-        ),
-        (
-            "[[replicate]]\nssn = 8\npoint = 300\n[[replicate]]\nssn = 9\npoint = 100",
-            HeadKind::Range,
-            "replicate.2.point",
-        ),
-    ];
-    for (text, kind, key) in cases {
-        let text = format!(in rt.alloc(); "point = 100\nusers = [8, 9]\n{text}\n%%\n")?;
-        assert_fault(&rt, rt.alloc(), text.as_str(), kind, key);
-    }
-    Ok(())
+    let rows = r#"replicate = 1 => Kind replicate
+replicate = [{}, 1] => Kind replicate
+[[replicate]] => Missing replicate.1.ssn
+[[replicate]]; ssn = []; point = [] => Kind replicate.1.ssn
+[[replicate]]; ssn = 256; point = [] => Range replicate.1.ssn
+[[replicate]]; ssn = 7; point = 300 => Range replicate.1.ssn
+[[replicate]]; ssn = 8 => Missing replicate.1.point
+[[replicate]]; ssn = 8; point = "300" => Kind replicate.1.point
+[[replicate]]; ssn = 8; point = 16384 => Range replicate.1.point
+[[replicate]]; ssn = 8; point = 100 => Range replicate.1.point
+[[replicate]]; ssn = 8; point = 300; [[replicate]]; ssn = 8; point = 100 => Range replicate.2.ssn
+[[replicate]]; ssn = 8; point = 300; [[replicate]]; ssn = 9; point = 100 => Range replicate.2.point"#;
+    assert_faults(
+        &rt,
+        rt.alloc(),
+        "point = 100\nusers = [8, 9]\n",
+        rows,
+        "\n%%\n",
+    )
 }
 
 #[test]
-fn refuses_a_second_row_under_one_key(rt: HostRuntime) {
-    let text =
-        "point = 100\n[[row]]\ngti = 1\nnai = 4\ndigits = \"4f\"\nfirst = \"300/8/s\"\n[[row]]\ngti = 1\nnai = 4\ndigits = \"4F\"\n%%";
-    assert_fault(&rt, rt.alloc(), text, HeadKind::Range, "row.2.digits");
+fn refuses_a_second_row_under_one_key(rt: HostRuntime) -> Result<(), Fail> {
+    let row =
+        r#"[[row]]; gti = 1; nai = 4; digits = "4f"; first = "300/8/s"; [[row]]; gti = 1; nai = 4; digits = "4F" => Range row.2.digits"#;
+    assert_faults(&rt, rt.alloc(), "point = 100\n", row, "\n%%")
 }
 
 #[test]
@@ -418,23 +306,22 @@ fn reads_replicates(rt: HostRuntime) -> Result<(), Fail> {
     Ok(())
 }
 
+/// Behind each arrow stand the point, the subsystem, and whether the entity routes on it.
 #[test]
 fn reads_entities(rt: HostRuntime) -> Result<(), Fail> {
     let own = Pc::new(100).ok_or("no point")?;
-    let cases: [(&str, u32, Option<u8>, bool); 5] = [
-        ("300/8/s", 300, Some(8), true),
-        ("100/255/s", 100, Some(255), true),
-        ("16383/0/g", 16_383, Some(0), false),
-        ("0/-/g", 0, None, false),
-        ("0000000300/008/s", 300, Some(8), true),
-    ];
-    for (text, point, ssn, on_ssn) in cases {
-        let Some(entity) = entity_of(own, text.as_bytes()) else {
-            panic!(rt; "{text} is no entity");
-        };
-        assert_eq!(rt; entity.point.number(), point, "{text}");
-        assert_eq!(rt; entity.ssn, ssn.map(Ssn::from), "{text}");
-        assert_eq!(rt; entity.on_ssn, on_ssn, "{text}");
+    let rows = "300/8/s => 300 Some(8) true
+100/255/s => 100 Some(255) true
+16383/0/g => 16383 Some(0) false
+0/-/g => 0 None false
+0000000300/008/s => 300 Some(8) true";
+    for row in rows.lines() {
+        let (text, wanted) = row.split_once(" => ").ok_or("no arrow")?;
+        let entity = entity_of(own, text.as_bytes()).ok_or("no entity")?;
+        let point = entity.point.number();
+        let ssn = entity.ssn.map(|ssn| ssn.number());
+        let found = format!(in rt.alloc(); "{point} {ssn:?} {}", entity.on_ssn)?;
+        assert_eq!(rt; found.as_str(), wanted, "{row}");
     }
     let digits = digits_of(b"0123456789abcdefABCDEF09").ok_or("no digits")?;
     assert_eq!(rt;
@@ -453,8 +340,11 @@ fn refuses_more_than_4096_rows(rt: HostRuntime) -> Result<(), Fail> {
     let alloc = rt.alloc();
     let rows = "{}, ".repeat(alloc, 4096)?;
     let text = format!(in alloc; "point = 100\nrow = [{rows}]\n%%\n")?;
-    assert_fault(&rt, alloc, text.as_str(), HeadKind::Missing, "row.1.gti");
+    assert_eq!(rt;
+        fault_of(alloc, text.as_str())?.as_str(),
+        "Missing row.1.gti"
+    );
     let text = format!(in alloc; "point = 100\nrow = [{rows}{{}}]\n%%\n")?;
-    assert_fault(&rt, alloc, text.as_str(), HeadKind::Range, "row");
+    assert_eq!(rt; fault_of(alloc, text.as_str())?.as_str(), "Range row");
     Ok(())
 }
