@@ -1,4 +1,3 @@
-use Rattle.std.proofs.Common.{◌∙◌}
 use Rattle.q713_shape.specs.Parts.{format_of, values_seen}
 use Rattle.q713_shape.proofs.Ranges.{in_range-lengths, in_range-options, octets_of-written}
 use Rattle.q713_shape.proofs.shape.Shape.put_parts.Goals as goal
