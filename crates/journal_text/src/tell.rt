@@ -1,8 +1,9 @@
 //! The text of what a user is told, of what is lost, and of outputs.
-ghost use Rattle.std.specs.Prelude.{◌≡◌, ◌++◌, codes, IfOk, OnOk, string_bytes};
-ghost use Rattle.journal_text.specs.Print.{octets_text, optional_text, up_text, reason_text, tell_text, read_fault_text, lost_text, output_text};
+ghost use Rattle.std.specs.Prelude.{◌≡◌, [], ◌∷◌, ◌++◌, codes, IfOk, OnOk, string_bytes};
+ghost use Rattle.std.specs.Fmt.{decimal};
+ghost use Rattle.journal_text.specs.Print.{spaced, octets_text, optional_text, up_text, reason_text, tell_text, read_fault_text, lost_text, output_text};
 
-use relay_base::{BoxedOctets, Lost, Output, ReadFault, Reason, Tell};
+use relay_base::{BoxedOctets, Lost, Octets, Output, Pc, ReadFault, Reason, Ref24, Ssn, Tell};
 use std::alloc::{AllocError, Global};
 
 /// Octets in hex, or a dash for none.
@@ -45,6 +46,103 @@ fn reason_text(reason: Reason) -> &'static str
     }
 }
 
+/// A word, a number, two addresses and data.
+fn unit_text(
+    alloc: Global,
+    word: &str,
+    number: u8,
+    called: &BoxedOctets,
+    calling: &BoxedOctets,
+    body: &BoxedOctets,
+) -> Result<String, AllocError>
+    ensures { IfOk result (λ t. string_bytes t ≡ spaced (word.now ∷ decimal number ∷ octets_text called.now ∷ octets_text calling.now ∷ octets_text body.now ∷ [])) }
+{
+    let called = octets_text(alloc, called.as_slice())?;
+    let calling = octets_text(alloc, calling.as_slice())?;
+    let body = octets_text(alloc, body.as_slice())?;
+    format!(in alloc; "{word} {number} {called} {calling} {body}")
+}
+
+fn conn_text(
+    alloc: Global,
+    mine: Ref24,
+    class: u8,
+    credit: u8,
+    called: &BoxedOctets,
+    calling: &Option<BoxedOctets>,
+    body: &Option<BoxedOctets>,
+) -> Result<String, AllocError>
+    ensures { IfOk result (λ t. string_bytes t ≡ tell_text (Tell.Conn mine class credit called.now calling.now body.now)) }
+{
+    let mine = mine.number();
+    let called = octets_text(alloc, called.as_slice())?;
+    let calling = optional_text(alloc, calling)?;
+    let body = optional_text(alloc, body)?;
+    format!(in alloc; "conn {mine} {class} {credit} {called} {calling} {body}")
+}
+
+fn confirm_text(
+    alloc: Global,
+    mine: Ref24,
+    class: u8,
+    credit: u8,
+    called: &Option<BoxedOctets>,
+    body: &Option<BoxedOctets>,
+) -> Result<String, AllocError>
+    ensures { IfOk result (λ t. string_bytes t ≡ tell_text (Tell.Confirm mine class credit called.now body.now)) }
+{
+    let mine = mine.number();
+    let called = optional_text(alloc, called)?;
+    let body = optional_text(alloc, body)?;
+    format!(in alloc; "confirm {mine} {class} {credit} {called} {body}")
+}
+
+/// A word, the reference of a connection, and data that it carries.
+fn data_text(alloc: Global, word: &str, mine: Ref24, body: &Octets) -> Result<String, AllocError>
+    ensures { IfOk result (λ t. string_bytes t ≡ spaced (word.now ∷ decimal mine ∷ octets_text body.now ∷ [])) }
+{
+    let mine = mine.number();
+    let body = octets_text(alloc, body.as_slice())?;
+    format!(in alloc; "{word} {mine} {body}")
+}
+
+fn disc_text(
+    alloc: Global,
+    mine: Ref24,
+    cause: u8,
+    body: &Option<BoxedOctets>,
+) -> Result<String, AllocError>
+    ensures { IfOk result (λ t. string_bytes t ≡ tell_text (Tell.Disc mine cause body.now)) }
+{
+    let mine = mine.number();
+    let body = optional_text(alloc, body)?;
+    format!(in alloc; "disc {mine} {cause} {body}")
+}
+
+fn state_text(alloc: Global, ssn: Ssn, point: Pc, up: bool) -> Result<String, AllocError>
+    ensures { IfOk result (λ t. string_bytes t ≡ tell_text (Tell.State ssn point up)) }
+{
+    let ssn = ssn.number();
+    let point = point.number();
+    let up = up_text(up);
+    format!(in alloc; "state {ssn} {point} {up}")
+}
+
+fn point_text(alloc: Global, point: Pc, up: bool) -> Result<String, AllocError>
+    ensures { IfOk result (λ t. string_bytes t ≡ tell_text (Tell.Point point up)) }
+{
+    let point = point.number();
+    let up = up_text(up);
+    format!(in alloc; "point {point} {up}")
+}
+
+/// A word and a number.
+fn number_text(alloc: Global, word: &str, number: u32) -> Result<String, AllocError>
+    ensures { IfOk result (λ t. string_bytes t ≡ spaced (word.now ∷ decimal number ∷ [])) }
+{
+    format!(in alloc; "{word} {number}")
+}
+
 /// The text of what a user is told.
 pub fn tell_text(alloc: Global, tell: &Tell) -> Result<String, AllocError>
     ensures { IfOk result (λ t. string_bytes t ≡ tell_text tell.now) }
@@ -55,23 +153,13 @@ pub fn tell_text(alloc: Global, tell: &Tell) -> Result<String, AllocError>
             called,
             calling,
             body,
-        } => {
-            let called = octets_text(alloc, called.as_slice())?;
-            let calling = octets_text(alloc, calling.as_slice())?;
-            let body = octets_text(alloc, body.as_slice())?;
-            format!(in alloc; "unit {class} {called} {calling} {body}")
-        }
+        } => unit_text(alloc, "unit", *class, called, calling, body),
         Tell::Notice {
             cause,
             called,
             calling,
             body,
-        } => {
-            let called = octets_text(alloc, called.as_slice())?;
-            let calling = octets_text(alloc, calling.as_slice())?;
-            let body = octets_text(alloc, body.as_slice())?;
-            format!(in alloc; "notice {cause} {called} {calling} {body}")
-        }
+        } => unit_text(alloc, "notice", *cause, called, calling, body),
         Tell::Conn {
             mine,
             class,
@@ -79,17 +167,8 @@ pub fn tell_text(alloc: Global, tell: &Tell) -> Result<String, AllocError>
             called,
             calling,
             body,
-        } => {
-            let mine = mine.number();
-            let called = octets_text(alloc, called.as_slice())?;
-            let calling = optional_text(alloc, calling)?;
-            let body = optional_text(alloc, body)?;
-            format!(in alloc; "conn {mine} {class} {credit} {called} {calling} {body}")
-        }
-        Tell::Named { tag, mine } => {
-            let mine = mine.number();
-            format!(in alloc; "ref {tag} {mine}")
-        }
+        } => conn_text(alloc, *mine, *class, *credit, called, calling, body),
+        Tell::Named { tag, mine } => format!(in alloc; "ref {tag} {}", mine.number()),
         Tell::NotMade { tag, cause } => format!(in alloc; "not-made {tag} {cause}"),
         Tell::Confirm {
             mine,
@@ -97,62 +176,18 @@ pub fn tell_text(alloc: Global, tell: &Tell) -> Result<String, AllocError>
             credit,
             called,
             body,
-        } => {
-            let mine = mine.number();
-            let called = optional_text(alloc, called)?;
-            let body = optional_text(alloc, body)?;
-            format!(in alloc; "confirm {mine} {class} {credit} {called} {body}")
-        }
-        Tell::Text { mine, body } => {
-            let mine = mine.number();
-            let body = octets_text(alloc, body.as_slice())?;
-            format!(in alloc; "text {mine} {body}")
-        }
-        Tell::Expedited { mine, body } => {
-            let mine = mine.number();
-            let body = octets_text(alloc, body.as_slice())?;
-            format!(in alloc; "ed {mine} {body}")
-        }
-        Tell::Renewed { mine, cause } => {
-            let mine = mine.number();
-            format!(in alloc; "reset {mine} {cause}")
-        }
-        Tell::ResetDone { mine } => {
-            let mine = mine.number();
-            format!(in alloc; "reset-done {mine}")
-        }
-        Tell::Disc { mine, cause, body } => {
-            let mine = mine.number();
-            let body = optional_text(alloc, body)?;
-            format!(in alloc; "disc {mine} {cause} {body}")
-        }
-        Tell::State { ssn, point, up } => {
-            let ssn = ssn.number();
-            let point = point.number();
-            let up = up_text(*up);
-            format!(in alloc; "state {ssn} {point} {up}")
-        }
-        Tell::Point { point, up } => {
-            let point = point.number();
-            let up = up_text(*up);
-            format!(in alloc; "point {point} {up}")
-        }
-        Tell::Coord { point } => {
-            let point = point.number();
-            format!(in alloc; "coord {point}")
-        }
-        Tell::Granted { point } => {
-            let point = point.number();
-            format!(in alloc; "granted {point}")
-        }
-        Tell::Denied { point } => {
-            let point = point.number();
-            format!(in alloc; "denied {point}")
-        }
-        Tell::No(reason) => {
-            let reason = reason_text(*reason);
-            format!(in alloc; "no {reason}")
-        }
+        } => confirm_text(alloc, *mine, *class, *credit, called, body),
+        Tell::Text { mine, body } => data_text(alloc, "text", *mine, body),
+        Tell::Expedited { mine, body } => data_text(alloc, "ed", *mine, body),
+        Tell::Renewed { mine, cause } => format!(in alloc; "reset {} {cause}", mine.number()),
+        Tell::ResetDone { mine } => number_text(alloc, "reset-done", mine.number()),
+        Tell::Disc { mine, cause, body } => disc_text(alloc, *mine, *cause, body),
+        Tell::State { ssn, point, up } => state_text(alloc, *ssn, *point, *up),
+        Tell::Point { point, up } => point_text(alloc, *point, *up),
+        Tell::Coord { point } => number_text(alloc, "coord", point.number()),
+        Tell::Granted { point } => number_text(alloc, "granted", point.number()),
+        Tell::Denied { point } => number_text(alloc, "denied", point.number()),
+        Tell::No(reason) => format!(in alloc; "no {}", reason_text(*reason)),
     }
 }
 
