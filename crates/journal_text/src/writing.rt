@@ -1,4 +1,4 @@
-//! The print of a book, written to a sink in parts.
+//! The print of a book, written to a sink, a long one in parts.
 ghost use Rattle.std.specs.Prelude.{◌≡◌, ◌≢◌, ◌++◌, Err, codes, string_bytes, OnOk, OnErr};
 ghost use Rattle.std.specs.List.{flat_map};
 ghost use Rattle.std.specs.Io.KnownBytes.{Appends};
@@ -116,7 +116,8 @@ fn carry_lanes<K: Sink>(
     Ok(())
 }
 
-/// Writes the print of a book in parts, so that the whole never stands in memory. After an error a front of it was written.
+/// Writes the print of a book to a sink. A long one is written in parts, each as soon as 65,536 octets wait, so that it does not stand
+/// in memory whole. After an error a front of it was written.
 pub fn write_book<K: Sink>(alloc: Global, book: &Book, out: &mut K) -> Result<(), WriteFault>
     ensures ok { OnOk result (Appends (K.held out.old) (K.held out.new) (book_text book.now)) }
     ensures err { OnErr result (AppendedPart (K.held out.old) (K.held out.new) (book_text book.now)) }
