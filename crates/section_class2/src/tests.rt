@@ -6,6 +6,7 @@ use crate::Line;
 use relay_base::{Event, Lost, Memory, Octets, Output, Outs, Pc, Ref24, Sls};
 use section_model::{Cell, Hand, HandList, Input, Kept, SectionState, WireHead};
 use std::alloc::Global;
+use std::process::Abort;
 use std::test::Fail;
 
 /// What leaves a section.
@@ -116,10 +117,28 @@ fn played(
     Ok((acted.outs, effects, wire.state(), line.kept.cause))
 }
 
-/// Messages: what arrives, what leaves and is handed on, the state, and the cause that is kept.
+/// What arrives, what leaves and is handed on, the state, and the cause that is kept.
+type Heard = (Cell, &'static [u8], Gives, Hands, SectionState, u8);
+
+/// Each message, to a section of its own.
+fn hear(rt: &impl Abort, alloc: Global, rows: &[Heard]) -> Result<(), Fail> {
+    for (cell, octets, gives, wanted, state, kept) in rows {
+        let event = Event::Message {
+            opc: Pc::new(200).ok_or(Memory)?,
+            sls: Sls::new(3).ok_or(Memory)?,
+            bytes: Octets::from_slice(alloc, octets)?,
+        };
+        let behind = played(alloc, *cell, &Input::Event(&event))?;
+        let wanted = (outs(alloc, *gives)?, *wanted, *state, *kept);
+        assert_eq!(rt; behind, wanted);
+    }
+    Ok(())
+}
+
+/// CC, in time and late, and CREF.
 #[test]
-fn messages_are_heard(rt: HostRuntime) -> Result<(), Fail> {
-    let rows: [(Cell, &'static [u8], Gives, Hands, SectionState, u8); 13] = [
+fn answers_are_heard(rt: HostRuntime) -> Result<(), Fail> {
+    let rows: [Heard; 4] = [
         (
             Cell::Confirm,
             b"\x02\x10\x00\x00\x02\x00\x00\x02\x00",
@@ -152,6 +171,14 @@ fn messages_are_heard(rt: HostRuntime) -> Result<(), Fail> {
             SectionState::Gone,
             3,
         ),
+    ];
+    hear(&rt, rt.alloc(), &rows)
+}
+
+/// RLSD and RLC.
+#[test]
+fn releases_are_heard(rt: HostRuntime) -> Result<(), Fail> {
+    let rows: [Heard; 4] = [
         (
             Cell::Free,
             b"\x05\x10\x00\x00\x01\x00\x00",
@@ -176,6 +203,22 @@ fn messages_are_heard(rt: HostRuntime) -> Result<(), Fail> {
             SectionState::Gone,
             3,
         ),
+        (
+            Cell::Discard,
+            b"\x05\x10\x00\x00\x01\x00\x00",
+            Gives::Lost,
+            Hands::Nothing,
+            SectionState::Up,
+            3,
+        ),
+    ];
+    hear(&rt, rt.alloc(), &rows)
+}
+
+/// DT1, ERR and IT.
+#[test]
+fn data_errors_and_tests_are_heard(rt: HostRuntime) -> Result<(), Fail> {
+    let rows: [Heard; 5] = [
         (
             Cell::TakeData,
             b"\x06\x10\x00\x00\x00\x01\x01\x61",
@@ -216,25 +259,8 @@ fn messages_are_heard(rt: HostRuntime) -> Result<(), Fail> {
             SectionState::Ending,
             5,
         ),
-        (
-            Cell::Discard,
-            b"\x05\x10\x00\x00\x01\x00\x00",
-            Gives::Lost,
-            Hands::Nothing,
-            SectionState::Up,
-            3,
-        ),
     ];
-    for (cell, octets, gives, wanted, state, kept) in rows {
-        let event = Event::Message {
-            opc: Pc::new(200).ok_or(Memory)?,
-            sls: Sls::new(3).ok_or(Memory)?,
-            bytes: Octets::from_slice(rt.alloc(), octets)?,
-        };
-        let behind = played(rt.alloc(), cell, &Input::Event(&event))?;
-        assert_eq!(rt; behind, (outs(rt.alloc(), gives)?, wanted, state, kept));
-    }
-    Ok(())
+    hear(&rt, rt.alloc(), &rows)
 }
 
 /// Timers: what leaves and is handed on, the state, and the cause that is kept.
