@@ -217,6 +217,26 @@ fn entry(cell: Cell, comes: Comes, gives: Gives, hands: [Hands; 2]) -> Row {
     }
 }
 
+/// A unit that the other end hands over, and the messages that leave.
+fn passed(octet: u8, messages: &'static [&'static [u8]], hands: [Hands; 2]) -> Row {
+    entry(
+        Cell::PassUnit,
+        Comes::Unit(octet),
+        Gives::Sent(messages),
+        hands,
+    )
+}
+
+/// A message that comes in, and the messages that leave.
+fn heard(
+    cell: Cell,
+    octets: &'static [u8],
+    messages: &'static [&'static [u8]],
+    hands: [Hands; 2],
+) -> Row {
+    entry(cell, Comes::Message(octets), Gives::Sent(messages), hands)
+}
+
 /// The rows of one section that agreed on a credit of 2, in their order.
 fn plays(rt: &impl Abort, alloc: Global, rows: &[Row]) -> Result<(), Fail> {
     let mut section = Section::new(alloc, 2)?;
@@ -233,41 +253,28 @@ fn units_wait_for_the_window(rt: HostRuntime) -> Result<(), Fail> {
     let none = [Hands::Nothing, Hands::Nothing];
     let one = [Hands::Nothing, Hands::Left(1, false)];
     let two = [Hands::Nothing, Hands::Left(2, false)];
+    let done = [Hands::Done, Hands::Nothing];
+    let ak = Cell::TakeAcknowledgement;
     let rows = [
-        entry(
-            Cell::PassUnit,
-            Comes::Unit(1),
-            Gives::Sent(&[b"\x07\x55\0\0\x00\x00\x01\x01\x01"]),
-            one,
-        ),
-        entry(
-            Cell::PassUnit,
-            Comes::Unit(2),
-            Gives::Sent(&[b"\x07\x55\0\0\x02\x00\x01\x01\x02"]),
-            one,
-        ),
-        entry(Cell::PassUnit, Comes::Unit(3), Gives::Sent(&[]), none),
-        entry(Cell::PassUnit, Comes::Unit(4), Gives::Sent(&[]), none),
-        entry(Cell::PassUnit, Comes::Unit(5), Gives::Sent(&[]), none),
-        entry(
-            Cell::TakeAcknowledgement,
-            Comes::Message(b"\x08\x10\0\0\x04\x00"),
-            Gives::Sent(&[]),
-            none,
-        ),
-        entry(
-            Cell::TakeAcknowledgement,
-            Comes::Message(b"\x08\x10\0\0\x04\x02"),
-            Gives::Sent(&[
+        passed(1, &[b"\x07\x55\0\0\x00\x00\x01\x01\x01"], one),
+        passed(2, &[b"\x07\x55\0\0\x02\x00\x01\x01\x02"], one),
+        passed(3, &[], none),
+        passed(4, &[], none),
+        passed(5, &[], none),
+        heard(ak, b"\x08\x10\0\0\x04\x00", &[], none),
+        heard(
+            ak,
+            b"\x08\x10\0\0\x04\x02",
+            &[
                 b"\x07\x55\0\0\x04\x00\x01\x01\x03",
                 b"\x07\x55\0\0\x06\x00\x01\x01\x04",
-            ]),
+            ],
             two,
         ),
-        entry(
-            Cell::TakeAcknowledgement,
-            Comes::Message(b"\x08\x10\0\0\x08\x02"),
-            Gives::Sent(&[b"\x07\x55\0\0\x08\x00\x01\x01\x05"]),
+        heard(
+            ak,
+            b"\x08\x10\0\0\x08\x02",
+            &[b"\x07\x55\0\0\x08\x00\x01\x01\x05"],
             one,
         ),
         entry(
@@ -276,18 +283,8 @@ fn units_wait_for_the_window(rt: HostRuntime) -> Result<(), Fail> {
             Gives::Sent(&[b"\x0d\x55\0\0\x10\0\0\x00"]),
             none,
         ),
-        entry(
-            Cell::ResetComplete,
-            Comes::Message(b"\x0e\x10\0\0\x55\0\0"),
-            Gives::Sent(&[]),
-            [Hands::Done, Hands::Nothing],
-        ),
-        entry(
-            Cell::PassUnit,
-            Comes::Unit(6),
-            Gives::Sent(&[b"\x07\x55\0\0\x00\x00\x01\x01\x06"]),
-            one,
-        ),
+        heard(Cell::ResetComplete, b"\x0e\x10\0\0\x55\0\0", &[], done),
+        passed(6, &[b"\x07\x55\0\0\x00\x00\x01\x01\x06"], one),
     ];
     plays(&rt, rt.alloc(), &rows)
 }
@@ -297,9 +294,11 @@ fn units_wait_for_the_window(rt: HostRuntime) -> Result<(), Fail> {
 fn expedited_data_are_answered(rt: HostRuntime) -> Result<(), Fail> {
     let none = [Hands::Nothing, Hands::Nothing];
     let left = [Hands::Left(0, true), Hands::Nothing];
-    let ea = Comes::Message(b"\x0c\x10\0\0");
-    let ed = Comes::Message(b"\x0b\x10\0\0\x01\x01\x77");
+    let ea = b"\x0c\x10\0\0";
+    let ed = b"\x0b\x10\0\0\x01\x01\x77";
+    let answered = Cell::TakeExpeditedAcknowledgement;
     let handed = [Hands::Expedited(0x77), Hands::Nothing];
+    let reset = [Hands::Reset(6), Hands::Nothing];
     let rows = [
         entry(
             Cell::PassExpedited,
@@ -313,32 +312,22 @@ fn expedited_data_are_answered(rt: HostRuntime) -> Result<(), Fail> {
             Gives::Sent(&[]),
             none,
         ),
-        entry(
-            Cell::TakeExpeditedAcknowledgement,
-            ea,
-            Gives::Sent(&[b"\x0b\x55\0\0\x01\x01\x98"]),
-            left,
-        ),
-        entry(
-            Cell::TakeExpeditedAcknowledgement,
-            ea,
-            Gives::Sent(&[]),
-            none,
-        ),
-        entry(Cell::TakeExpeditedAcknowledgement, ea, Gives::Lost, none),
-        entry(Cell::TakeExpedited, ed, Gives::Sent(&[]), handed),
+        heard(answered, ea, &[b"\x0b\x55\0\0\x01\x01\x98"], left),
+        heard(answered, ea, &[], none),
+        entry(answered, Comes::Message(ea), Gives::Lost, none),
+        heard(Cell::TakeExpedited, ed, &[], handed),
         entry(
             Cell::Left,
             Comes::Left(0, true),
             Gives::Sent(&[b"\x0c\x55\0\0"]),
             none,
         ),
-        entry(Cell::TakeExpedited, ed, Gives::Sent(&[]), handed),
-        entry(
+        heard(Cell::TakeExpedited, ed, &[], handed),
+        heard(
             Cell::TakeExpedited,
             ed,
-            Gives::Sent(&[b"\x0d\x55\0\0\x10\0\0\x06"]),
-            [Hands::Reset(6), Hands::Nothing],
+            &[b"\x0d\x55\0\0\x10\0\0\x06"],
+            reset,
         ),
     ];
     plays(&rt, rt.alloc(), &rows)
@@ -351,10 +340,10 @@ fn units_come_in(rt: HostRuntime) -> Result<(), Fail> {
     let one = [Hands::Nothing, Hands::Left(1, false)];
     let handed = [Hands::Unit(false, 0xaa), Hands::Nothing];
     let rows = [
-        entry(
+        heard(
             Cell::TakeNumberedData,
-            Comes::Message(b"\x07\x10\0\0\x00\x00\x01\x01\xaa"),
-            Gives::Sent(&[]),
+            b"\x07\x10\0\0\x00\x00\x01\x01\xaa",
+            &[],
             handed,
         ),
         entry(
@@ -363,29 +352,24 @@ fn units_come_in(rt: HostRuntime) -> Result<(), Fail> {
             Gives::Sent(&[b"\x08\x55\0\0\x02\x02"]),
             none,
         ),
-        entry(
-            Cell::PassUnit,
-            Comes::Unit(1),
-            Gives::Sent(&[b"\x07\x55\0\0\x00\x02\x01\x01\x01"]),
-            one,
-        ),
+        passed(1, &[b"\x07\x55\0\0\x00\x02\x01\x01\x01"], one),
         entry(
             Cell::SendTest,
             Comes::Timer,
             Gives::Sent(&[b"\x10\x55\0\0\x10\0\0\x03\x02\x02\x02"]),
             none,
         ),
-        entry(
+        heard(
             Cell::ResetByPeer,
-            Comes::Message(b"\x0d\x10\0\0\x55\0\0\x00"),
-            Gives::Sent(&[b"\x0e\x55\0\0\x10\0\0"]),
+            b"\x0d\x10\0\0\x55\0\0\x00",
+            &[b"\x0e\x55\0\0\x10\0\0"],
             [Hands::Reset(0), Hands::Nothing],
         ),
         entry(Cell::ClearCounts, Comes::Reset(0), Gives::Sent(&[]), none),
-        entry(
+        heard(
             Cell::TakeNumberedData,
-            Comes::Message(b"\x07\x10\0\0\x00\x0a\x01\x01\xaa"),
-            Gives::Sent(&[b"\x0d\x55\0\0\x10\0\0\x03"]),
+            b"\x07\x10\0\0\x00\x0a\x01\x01\xaa",
+            &[b"\x0d\x55\0\0\x10\0\0\x03"],
             [Hands::Reset(3), Hands::Nothing],
         ),
     ];
