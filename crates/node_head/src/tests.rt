@@ -5,7 +5,7 @@ use gtt_table::{Entity, Row};
 use plant_core::{Replicate, Ticks};
 use relay_base::{Pc, Ssn};
 use sccp_address::Selector;
-use std::alloc::Global;
+use std::alloc::{AllocError, Global};
 use std::process::Abort;
 use std::str::from_utf8;
 use std::test::Fail;
@@ -224,13 +224,11 @@ fn reads_the_defaults(rt: HostRuntime) -> Result<(), Fail> {
 #[test]
 fn reads_the_ends_of_ranges(rt: HostRuntime) -> Result<(), Fail> {
     let text =
-        b"point = 0\nusers = [254, 2]\nconn_lanes = 16\ndata_lanes = 16\nlinks = 8\ncredit = 127\nconcerned = [16383, 1]\n[timers]\nias = 60\nrepeat = 5\nconnect = 65535\nstatus = 700\ncoord = 1\n%%";
+        b"point = 0\nusers = [254, 2]\nconn_lanes = 16\ndata_lanes = 16\nlinks = 8\ncredit = 127\nconcerned = [16383, 1]\n%%";
     let head = read_head(rt.alloc(), text.as_slice())?;
     assert_eq!(rt; head.point.number(), 0);
-    assert_eq!(rt;
-        head.users.as_slice(),
-        [Ssn::from(254), Ssn::from(2)].as_slice()
-    );
+    let users = [Ssn::from(254), Ssn::from(2)];
+    assert_eq!(rt; head.users.as_slice(), users.as_slice());
     assert_eq!(rt;
         [head.conn_lanes, head.data_lanes, head.links, head.credit],
         [16, 16, 8, 127]
@@ -240,23 +238,31 @@ fn reads_the_ends_of_ranges(rt: HostRuntime) -> Result<(), Fail> {
         Pc::new(1).ok_or("a point")?,
     ];
     assert_eq!(rt; head.concerned.as_slice(), concerned.as_slice());
-    let timers = head.timers;
-    assert_eq!(rt;
-        [timers.ias, timers.repeat, timers.connect, timers.coord],
-        [60, 5, 65_535, 1]
-    );
-    assert_eq!(rt; [timers.status, timers.status_max], [700, 700]);
-    let text = b"point = 1\ncredit = 1\n[timers]\nstatus = 65535\nstatus_max = 65535\n%%";
-    let head = read_head(rt.alloc(), text.as_slice())?;
-    assert_eq!(rt;
-        [
-            u32::from(head.credit),
-            head.timers.status,
-            head.timers.status_max
-        ],
-        [1, 65_535, 65_535]
-    );
     Ok(())
+}
+
+/// Behind each arrow stand the credit and the timers `ias`, `repeat`, `connect`, `coord`, `status` and `status_max`.
+#[test]
+fn reads_the_ends_of_times(rt: HostRuntime) -> Result<(), Fail> {
+    let rows =
+        "credit = 127; [timers]; ias = 60; repeat = 5; connect = 65535; status = 700; coord = 1 => 127 60 5 65535 1 700 700
+credit = 1; [timers]; status = 65535; status_max = 65535 => 1 420 15 90 90 65535 65535";
+    for row in rows.lines() {
+        let (lines, wanted) = row.split_once(" => ").ok_or("no arrow")?;
+        let lines = lines.replace(rt.alloc(), "; ", "\n")?;
+        let text = format!(in rt.alloc(); "point = 1\n{lines}\n%%")?;
+        let head = read_head(rt.alloc(), text.as_bytes())?;
+        let found = numbers_text(rt.alloc(), head.credit, head.timers)?;
+        assert_eq!(rt; found.as_str(), wanted, "{row}");
+    }
+    Ok(())
+}
+
+fn numbers_text(alloc: Global, credit: u8, timers: Ticks) -> Result<String, AllocError> {
+    format!(in alloc;
+        "{credit} {} {} {} {} {} {}",
+        timers.ias, timers.repeat, timers.connect, timers.coord, timers.status, timers.status_max
+    )
 }
 
 #[test]
@@ -323,6 +329,11 @@ fn reads_entities(rt: HostRuntime) -> Result<(), Fail> {
         let found = format!(in rt.alloc(); "{point} {ssn:?} {}", entity.on_ssn)?;
         assert_eq!(rt; found.as_str(), wanted, "{row}");
     }
+    Ok(())
+}
+
+#[test]
+fn reads_digits(rt: HostRuntime) -> Result<(), Fail> {
     let digits = digits_of(b"0123456789abcdefABCDEF09").ok_or("no digits")?;
     assert_eq!(rt;
         digits.as_slice(),
@@ -337,14 +348,9 @@ fn reads_entities(rt: HostRuntime) -> Result<(), Fail> {
 
 #[test]
 fn refuses_more_than_4096_rows(rt: HostRuntime) -> Result<(), Fail> {
-    let alloc = rt.alloc();
-    let rows = "{}, ".repeat(alloc, 4096)?;
-    let text = format!(in alloc; "point = 100\nrow = [{rows}]\n%%\n")?;
-    assert_eq!(rt;
-        fault_of(alloc, text.as_str())?.as_str(),
-        "Missing row.1.gti"
-    );
-    let text = format!(in alloc; "point = 100\nrow = [{rows}{{}}]\n%%\n")?;
-    assert_eq!(rt; fault_of(alloc, text.as_str())?.as_str(), "Range row");
-    Ok(())
+    let many = "{}, ".repeat(rt.alloc(), 4096)?;
+    let rows = format!(in rt.alloc();
+        "row = [{many}] => Missing row.1.gti\nrow = [{many}{{}}] => Range row"
+    )?;
+    assert_faults(&rt, rt.alloc(), "point = 100\n", rows.as_str(), "\n%%\n")
 }
