@@ -1,15 +1,9 @@
 //! The node: reads a capture, runs it, and prints its journals.
 #![tactic(auto)]
 
-mod relay;
-#[cfg(test)]
-mod tests;
-#[cfg(test)]
-mod texts;
-
 use capture_form::Book;
-use relay::relay;
 use relay_base::{NoPace, StdSink, StdSource};
+use relay_call::relay;
 use std::alloc::Global;
 use std::process::ExitCode;
 use std::rt::Env;

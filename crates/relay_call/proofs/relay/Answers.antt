@@ -1,7 +1,7 @@
 use Rattle.std.proofs.Common.{◌⊎◌, ◌≡◌, sym, ap, subst, inl, inr, refl, Err, IfSome}
-use Rattle.sccp_cli.specs.Outcome.{IsDue}
-use Rattle.sccp_cli.proofs.OutcomeLemmas.{stop-due, stated-due, made-status}
-use Rattle.sccp_cli.proofs.relay.relay.Goals as goal
+use Rattle.relay_call.specs.Outcome.{IsDue}
+use Rattle.relay_call.proofs.OutcomeLemmas.{stop-due, stated-due, made-status}
+use Rattle.relay_call.proofs.relay.Goals as goal
 
 pub returns-in-Err-clause-complete : goal.returns-in-Err-clause-complete
 returns-in-Err-clause-complete g c = λ run read written.

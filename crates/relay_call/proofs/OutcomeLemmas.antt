@@ -11,11 +11,11 @@ use Rattle.journal_text.specs.declared.book.Book.{Book}
 use Rattle.capture_form.specs.Capture.{capture_of}
 use Rattle.capture_form.specs.declared.fault.CaptureFault.TheVariants as refused
 use Rattle.capture_form.specs.declared.fault.Limit.TheVariants as limit
-use Rattle.sccp_cli.specs.declared.relay.Stop.{Stop}
-use Rattle.sccp_cli.specs.declared.relay.Stop.TheVariants as stop
+use Rattle.relay_call.specs.declared.stop.Stop.{Stop}
+use Rattle.relay_call.specs.declared.stop.Stop.TheVariants as stop
 use Rattle.command_words.specs.declared.command.Command.{Command}
 use Rattle.command_words.specs.declared.command.Command.TheVariants.{Run, Generate}
-use Rattle.sccp_cli.specs.Outcome.{Bytes, Says, Stopped, Done, IsDone, IsDue, status_of, due_status}
+use Rattle.relay_call.specs.Outcome.{Bytes, Says, Stopped, Done, IsDone, IsDue, status_of, due_status}
 
 -- what writing a whole text told a sink
 pub Says-written : {T : Type 0} (r : Result T Failed) (held now : Bytes) (before after : ℕ) (text : List ℕ)

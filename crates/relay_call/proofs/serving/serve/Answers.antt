@@ -1,7 +1,7 @@
 use Rattle.std.proofs.Common.{◌∙◌, map, sym, ap, Some}
 use Rattle.std.specs.Prelude.{string_bytes}
-use Rattle.sccp_cli.proofs.CommandLemmas.{lines-most}
-use Rattle.sccp_cli.proofs.relay.serve.Goals as goal
+use Rattle.relay_call.proofs.CommandLemmas.{lines-most}
+use Rattle.relay_call.proofs.serving.serve.Goals as goal
 
 pub generate-requires-clause-lines : goal.generate-requires-clause-lines
 generate-requires-clause-lines g c κs within =

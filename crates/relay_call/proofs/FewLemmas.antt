@@ -20,7 +20,7 @@ use Rattle.capture_form.specs.declared.reading.Reading.{Reading}
 use Rattle.capture_form.specs.declared.capture.Capture.{Capture}
 use Rattle.capture_form.specs.Capture.{Reads, at_line, at_head, is_skipped, is_barrier, is_tick, phase_ended, event_added, barrier_taken, tick_counted, line_counted, event_put, event_taken, words_taken, line_taken, lines_taken, reading_from, phases_of, capture_from, capture_within, capture_of}
 use Rattle.node_engine.specs.Own.{Stamped, all_events}
-use Rattle.sccp_cli.proofs.Given.{IfGiven, bound, bound_if, either, by_test}
+use Rattle.relay_call.proofs.Given.{IfGiven, bound, bound_if, either, by_test}
 
 -- ---- all events
 

@@ -19,8 +19,8 @@ use Rattle.command_words.specs.declared.command.Command.{Command}
 use Rattle.command_words.specs.declared.command.Command.TheVariants.{Run, Generate}
 use Rattle.capture_generator.specs.Generator.{generated_capture}
 use Rattle.capture_generator.specs.Counts.{counts_of, counts_text}
-use Rattle.sccp_cli.specs.declared.relay.Stop.{Stop}
-use Rattle.sccp_cli.specs.declared.relay.Stop.TheVariants as stop
+use Rattle.relay_call.specs.declared.stop.Stop.{Stop}
+use Rattle.relay_call.specs.declared.stop.Stop.TheVariants as stop
 use Rattle.node_engine.specs.Right.{IsRight}
 
 abbrev pub Bytes : Type 0

@@ -1,5 +1,5 @@
 //! Connections, from their opening to their release, and units beside them.
-use super::{SOUND, call};
+use crate::running::assert_run;
 use std::alloc::{AllocError, Global};
 use std::process::Abort;
 use std::sync::Wait;
@@ -165,12 +165,8 @@ fn compare<R: Threads + Wait + Sync + Abort>(
     for line in lines {
         text.push_str(line)?;
     }
-    let ran = call(rt, alloc, &["run"], text.as_bytes(), [SOUND; 3])?;
     let print = print_of(alloc, journals)?;
-    assert_eq!(rt; ran.status, 0, "{text}");
-    assert_eq!(rt; ran.out.as_slice(), print.as_bytes(), "{text}");
-    assert_eq!(rt; ran.notes.len(), 0);
-    Ok(())
+    assert_run(rt, alloc, &["run"], text.as_str(), (0, print.as_str(), ""))
 }
 
 /// What is printed at a line, in a list of such lines.

@@ -1,0 +1,104 @@
+//! The top call: from words, a source and a sink to a status.
+#![tactic(auto)]
+
+ghost use Rattle.std.specs.Prelude.{◌≡◌, ◌≢◌, ◌≤◌, ◌⊎◌, ℕ, IfSome, Some, None, map, string_bytes};
+ghost use Rattle.relay_base.specs.Causes.{Rose};
+ghost use Rattle.journal_text.specs.Book.{IsEmpty};
+ghost use Rattle.command_words.specs.Commands.{command_in};
+ghost use Rattle.command_words.specs.declared.command.Command.TheVariants.{Run, Generate};
+ghost use Rattle.relay_call.specs.Outcome.{ReadAs, Untouched, IsDone, IsDonePartly, PassesLimit, IsHeadFault, IsLineFault, Says, plain_note, IsDue};
+
+mod serving;
+mod stop;
+
+use capture_form::Book;
+use relay_base::{Pace, Sink, Source, write_all};
+use serving::serve;
+use std::alloc::Global;
+use std::sync::Wait;
+use std::thread::Threads;
+use stop::{note_of, status_of};
+
+/// Writes a text to `notes`, whose fault is passed over.
+fn say<N: Sink>(notes: &mut N, text: &[u8])
+    ensures { Says (N.held notes.old) (N.held notes.new) (N.faults notes.old) (N.faults notes.new) text.now }
+{
+    let _ = write_all(notes, text);
+}
+
+/// Does what the words ask, and answers the status. `notes` gets the line that tells why a run stopped.
+///
+/// The word `run` reads a capture from `source`, runs it, fills `book` and writes its print to `out`. The words `gen`, a number and a count
+/// of lines make a capture, leave `source` as it is, and write one line of counts.
+///
+/// | Status | Comes |
+/// |---|---|
+/// | 0 | the input was read to its end, and all output was written |
+/// | 1 | exactly where the words are no stated command |
+/// | 2 | exactly where the first fault of the input is of its head |
+/// | 3 | exactly where the first fault is of a line |
+/// | 4 | exactly where a limit is passed before any other fault |
+/// | 5 | only where the source failed in this call |
+/// | 6 | only where `out` failed in this call |
+/// | 7 | memory ran out |
+pub fn relay<R: Threads + Wait + Sync, S: Source, K: Sink, N: Sink, P: Pace>(
+    rt: &R,
+    alloc: Global,
+    words: &[String],
+    source: &mut S,
+    out: &mut K,
+    notes: &mut N,
+    pace: &P,
+    book: &mut Book,
+) -> u8
+    requires { IsEmpty book.old }
+
+    // `run`: the input was read to its end, the book is right for it, and its print was written; `gen`: the book is right for the capture
+    // that the words make, and the line of its counts was written.
+    ensures done { result ≡ 0 → IsDone (command_in (map string_bytes words.now)) (S.left source.old) (S.left source.new) (K.held out.old) (K.held out.new) book.new }
+
+    // Words that are no command.
+    ensures usage { result ≡ 1 → command_in (map string_bytes words.now) ≡ None }
+    ensures unstated { command_in (map string_bytes words.now) ≡ None → (result ≡ 1) ⊎ (result ≡ 7) }
+
+    // `gen` reads nothing, and has no fault of an input.
+    ensures made { (number lines : ℕ) → command_in (map string_bytes words.now) ≡ Some (Generate number lines)
+        → (S.left source.new ≡ S.left source.old) × ((result ≡ 0) ⊎ (result ≡ 6) ⊎ (result ≡ 7)) }
+
+    // The first fault of the input, and what `notes` is told of it.
+    ensures head { let says = Says (N.held notes.old) (N.held notes.new) (N.faults notes.old) (N.faults notes.new) in
+        result ≡ 2 → ReadAs (S.left source.old) (S.left source.new) (IsHeadFault says) }
+    ensures line { let says = Says (N.held notes.old) (N.held notes.new) (N.faults notes.old) (N.faults notes.new) in
+        result ≡ 3 → ReadAs (S.left source.old) (S.left source.new) (IsLineFault says) }
+    ensures too_long { let says = Says (N.held notes.old) (N.held notes.new) (N.faults notes.old) (N.faults notes.new) in
+        result ≡ 4 → PassesLimit (S.left source.old) (S.left source.new) says }
+
+    // What `notes` is told otherwise.
+    ensures said { let says = Says (N.held notes.old) (N.held notes.new) (N.faults notes.old) (N.faults notes.new) in
+        IfSome (plain_note result) says }
+
+    // A device failed in this call.
+    ensures read_fault { result ≡ 5 → Rose (S.faults source.old) (S.faults source.new) }
+    ensures write_fault { result ≡ 6 → Rose (K.faults out.old) (K.faults out.new) }
+    ensures source_kept { result ≢ 5 → S.faults source.new ≡ S.faults source.old }
+    ensures out_kept { result ≢ 6 → K.faults out.new ≡ K.faults out.old }
+
+    // What stands after a refusal, a write fault, and want of memory.
+    ensures refused { 1 ≤ result → result ≤ 5 → Untouched (K.held out.old) (K.held out.new) book.new }
+    ensures written { result ≡ 6 → IsDonePartly (command_in (map string_bytes words.now)) (S.left source.old) (S.left source.new) (K.held out.old) (K.held out.new) book.new }
+    ensures memory { result ≡ 7 → Untouched (K.held out.old) (K.held out.new) book.new ⊎ IsDonePartly (command_in (map string_bytes words.now)) (S.left source.old) (S.left source.new) (K.held out.old) (K.held out.new) book.new }
+    ensures known { result ≤ 7 }
+
+    // Where no device fails, the status of `run` is that of the bytes, or memory ran out.
+    ensures complete { command_in (map string_bytes words.now) ≡ Some Run
+        → (Rose (S.faults source.old) (S.faults source.new) → ⊥) → (Rose (K.faults out.old) (K.faults out.new) → ⊥)
+        → IfSome (S.left source.old) (IsDue result) }
+{
+    match serve(rt, alloc, words, source, out, pace, book) {
+        Ok(()) => 0,
+        Err(stop) => {
+            say(notes, note_of(&stop));
+            status_of(&stop)
+        }
+    }
+}

@@ -1,0 +1,13 @@
+//! Whole captures and their prints, refusals with their notes, and devices that fail, over memory.
+#![tactic(auto)]
+
+#[cfg(test)]
+mod captures;
+#[cfg(test)]
+mod connections;
+#[cfg(test)]
+mod rows;
+#[cfg(test)]
+mod running;
+#[cfg(test)]
+mod texts;
