@@ -11,8 +11,6 @@ mod reading;
 mod refused;
 mod requests;
 mod steps;
-#[cfg(test)]
-mod tests;
 mod text;
 mod words;
 

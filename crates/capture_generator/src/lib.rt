@@ -4,8 +4,6 @@
 mod blocks;
 mod events;
 mod tally;
-#[cfg(test)]
-mod tests;
 mod whole;
 
 pub use tally::counts_line;

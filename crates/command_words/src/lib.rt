@@ -5,8 +5,6 @@ mod command;
 mod number;
 mod parser;
 mod reading;
-#[cfg(test)]
-mod tests;
 
 pub use command::Command;
 pub use reading::command_of;

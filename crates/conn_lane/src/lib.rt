@@ -6,8 +6,6 @@ mod kept;
 mod lane;
 mod laws;
 mod openings;
-#[cfg(test)]
-mod tests;
 
 pub use lane::ConnLane;
 pub use laws::keeps_all;

@@ -9,8 +9,6 @@ mod leaving;
 mod outgoing;
 mod returning;
 mod segment;
-#[cfg(test)]
-mod tests;
 mod unit;
 mod unitdata;
 mod user;

@@ -4,7 +4,5 @@
 mod effect;
 mod gathering;
 mod lane;
-#[cfg(test)]
-mod tests;
 
 pub use lane::DataLane;

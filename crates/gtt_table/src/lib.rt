@@ -3,8 +3,6 @@
 
 mod row;
 mod table;
-#[cfg(test)]
-mod tests;
 
 pub use row::{Entity, Row};
 pub use table::{AddFault, Look, NoSuchRow, Table};

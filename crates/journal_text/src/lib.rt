@@ -4,8 +4,6 @@
 mod book;
 mod entries;
 mod tell;
-#[cfg(test)]
-mod tests;
 mod writing;
 
 pub use book::{Book, print_book};

@@ -5,8 +5,6 @@ mod gate;
 mod lane;
 mod pass;
 mod table;
-#[cfg(test)]
-mod tests;
 
 pub use gate::Gate;
 pub use lane::LaneState;

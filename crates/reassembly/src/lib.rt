@@ -6,8 +6,6 @@ mod laws;
 mod piece;
 mod process;
 mod processes;
-#[cfg(test)]
-mod tests;
 
 pub use bench::Bench;
 pub use laws::{hears_its_key_alone, stays_within_bounds};

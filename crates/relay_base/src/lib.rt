@@ -8,8 +8,6 @@ mod numbers;
 mod octets;
 mod outside;
 mod stream;
-#[cfg(test)]
-mod tests;
 mod words;
 
 pub use digits::Digits;

@@ -2,7 +2,5 @@
 #![tactic(auto)]
 
 mod control;
-#[cfg(test)]
-mod tests;
 
 pub use control::route;

@@ -9,8 +9,6 @@ mod lane;
 mod message;
 mod publish;
 mod status_tests;
-#[cfg(test)]
-mod tests;
 mod timed;
 
 pub use head::ControlHead;

@@ -6,8 +6,6 @@ mod hearing;
 mod line;
 mod sending;
 mod taking;
-#[cfg(test)]
-mod tests;
 
 pub use line::Line;
 pub use sending::{copied, copied_octets, sent_on};

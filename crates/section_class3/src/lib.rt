@@ -4,8 +4,6 @@
 mod hearing;
 mod sending;
 mod taking;
-#[cfg(test)]
-mod tests;
 mod turning;
 mod windows;
 

@@ -13,8 +13,6 @@ mod owner;
 mod pair;
 mod side;
 mod sizes;
-#[cfg(test)]
-mod tests;
 mod ticking;
 mod timers;
 mod unheard;

@@ -4,8 +4,6 @@
 
 mod counts;
 mod flow;
-#[cfg(test)]
-mod tests;
 
 pub use counts::{Counts, UnitList};
 pub use flow::Flow;

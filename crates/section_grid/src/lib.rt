@@ -4,8 +4,6 @@
 
 mod grid;
 mod section_table;
-#[cfg(test)]
-mod tests;
 mod user_table;
 
 pub use grid::Grid;

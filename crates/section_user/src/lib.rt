@@ -5,8 +5,6 @@ mod asking;
 mod joining;
 mod side;
 mod taking;
-#[cfg(test)]
-mod tests;
 mod units;
 
 pub use side::UserSide;

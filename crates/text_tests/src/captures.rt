@@ -1,5 +1,5 @@
 //! Captures with each kind of line fault, the limits, the phases, and the places of events.
-use crate::{
+use capture_form::{
     Capture, CaptureFault, LanePlace, LineFault, LineKind, Phase, PhaseList, StampedControlList,
     place, read_capture,
 };

@@ -1,7 +1,7 @@
 //! Worked examples of a user's end.
-use crate::UserSide;
 use relay_base::{Event, Memory, Octets, Output, PlainList, Ref24, Request, Ssn, Tell};
 use section_model::{Acted, Cell, Hand, HandList, Input, UserState};
+use section_user::UserSide;
 use std::alloc::Global;
 use std::test::Fail;
 

@@ -1,7 +1,7 @@
 //! Heads with each kind of fault, and what heads state.
-use crate::{HeadRefused, digits_of, entity_of, read_head, take_head};
 use bstr::ByteSlice;
 use gtt_table::{Entity, Row};
+use node_head::{HeadRefused, digits_of, entity_of, read_head, take_head};
 use plant_core::{Replicate, Ticks};
 use relay_base::{Pc, Ssn};
 use sccp_address::Selector;

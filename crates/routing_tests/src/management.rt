@@ -1,7 +1,6 @@
 //! Worked rows of management.
 ghost use Rattle.std.specs.Prelude.{◌≡◌, [], ◌∷◌, ◌++◌, OnOk, OnErr};
 
-use crate::{ControlHead, ControlLane, Publish};
 use gtt_table::{Entity, Row};
 use plant_core::{Change, ControlEvent, Plant, Replicate, ReplicateList, Ticks};
 use relay_base::{
@@ -9,6 +8,7 @@ use relay_base::{
     Ssn, SsnList, Stamp, Tell,
 };
 use sccp_address::Selector;
+use scmg::{ControlHead, ControlLane, Publish};
 use std::alloc::Global;
 use std::process::Abort;
 

@@ -1,5 +1,5 @@
 //! Worked rows of reassembly, and the calls with ample memory.
-use crate::{Bench, Now, Piece};
+use reassembly::{Bench, Now, Piece};
 use relay_base::{Memory, Octets, Pc, Sls, Ssn};
 use std::alloc::Global;
 use std::test::Fail;

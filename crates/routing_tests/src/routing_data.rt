@@ -1,9 +1,9 @@
 //! A plant through its changes, and what leaves by its answers.
-use crate::{
+use gtt_table::{Entity, Look, Row};
+use plant_core::{
     Answer, Ask, Change, Origin, Plant, Rewrite, RouteCause, Verdict, refusal_cause, return_cause,
     rewritten,
 };
-use gtt_table::{Entity, Look, Row};
 use relay_base::{Digit, Digits, Memory, Pc, Ssn};
 use sccp_address::{Selector, parse};
 use std::alloc::Global;

@@ -1,8 +1,8 @@
 //! Asks for a title, and what routing control answers as the routing data changes.
-use crate::route;
 use gtt_table::{Entity, Row};
 use plant_core::{Answer, Change, Origin, Plant, Rewrite, RouteCause};
 use relay_base::{Digit, Digits, Memory, Pc, Ssn};
+use routing_control::route;
 use sccp_address::{Selector, parse};
 use std::alloc::Global;
 use std::process::Abort;

@@ -1,7 +1,9 @@
 //! Worked examples of the connectionless service, octet for octet.
 ghost use Rattle.std.specs.Prelude.{◌<◌};
 
-use crate::{Next, Segment, message_ask, message_in, return_outs, unit_outs, user_ask, user_outs};
+use connectionless::{
+    Next, Segment, message_ask, message_in, return_outs, unit_outs, user_ask, user_outs,
+};
 use plant_core::{Answer, Rewrite, RouteCause};
 use q713_codec::View;
 use reassembly::Piece;

@@ -1,5 +1,5 @@
 //! Words that state a command, and words that state none.
-use crate::{Command, command_of};
+use command_words::{Command, command_of};
 use relay_base::Memory;
 use std::alloc::{AllocError, Global};
 use std::test::Fail;

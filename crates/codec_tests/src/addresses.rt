@@ -1,6 +1,6 @@
 //! Addresses of worked messages, read and spelt again.
-use crate::{Address, AddressFault, Selector, Title, parse, selector, spell};
 use relay_base::{Pc, Ssn};
+use sccp_address::{Address, AddressFault, Selector, Title, parse, selector, spell};
 use std::test::Fail;
 
 #[test]

@@ -1,7 +1,7 @@
 //! Whole streams over devices that give little at a time, and that fail.
 ghost use Rattle.std.specs.Prelude.{◌≡◌, ◌<◌, ◌≤◌};
 
-use crate::{
+use relay_base::{
     BoxedOctets, Digit, Digits, Failed, MemSink, MemSource, Octets, ReadAllFault, Sink, Source,
     StdSink, StdSource, read_all, write_all,
 };

@@ -1,6 +1,6 @@
 //! The flow control of a section: what comes in, what leaves, and the numbers past 128.
-use crate::Flow;
 use relay_base::{Memory, Octets};
+use section_flow::Flow;
 use section_model::Unit;
 use std::alloc::Global;
 use std::test::Fail;

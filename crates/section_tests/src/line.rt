@@ -2,8 +2,8 @@
 ghost use Rattle.std.specs.Prelude.{IfOk};
 ghost use Rattle.section_model.specs.Lengths.{HandWithin, InputWithin, KeptWithin};
 
-use crate::Line;
 use relay_base::{Event, Lost, Memory, Octets, Output, Outs, Pc, Ref24, Sls};
+use section_class2::Line;
 use section_model::{Cell, Hand, HandList, Input, Kept, SectionState, WireHead};
 use std::alloc::Global;
 use std::process::Abort;

@@ -2,8 +2,8 @@
 ghost use Rattle.std.specs.Prelude.{◌≤◌, IfOk};
 ghost use Rattle.section_model.specs.Lengths.{HandWithin, InputWithin};
 
-use crate::Windows;
 use relay_base::{Event, Lost, Memory, Octets, Output, Outs, Pc, Ref24, Sls};
+use section_class3::Windows;
 use section_model::{Acted, Cell, Hand, HandList, Input, SectionState, WireHead};
 use std::alloc::Global;
 use std::marker::Model;

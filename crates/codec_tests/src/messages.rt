@@ -1,5 +1,5 @@
 //! Messages of the worked examples, read, owned and written again, the faults of changed messages, and the bounds of a pointer.
-use crate::{Message, length, own, read, write};
+use q713_codec::{Message, length, own, read, write};
 use relay_base::{Octets, ReadFault};
 use std::alloc::Global;
 use std::process::Abort;

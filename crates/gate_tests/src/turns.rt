@@ -4,7 +4,7 @@ ghost use Rattle.lane_gate.specs.Gates.{AreAllPasses, callers_of};
 ghost use Rattle.lane_gate.specs.Passes.{IsSamePass};
 ghost use Rattle.lane_gate.specs.Trials.{IsReady, IsDealt, IsServed, EachAt};
 
-use crate::{Gate, LaneState, Pass, PassList, Refused};
+use lane_gate::{Gate, LaneState, Pass, PassList, Refused};
 use relay_base::{Memory, Stamp};
 use std::alloc::Global;
 use std::sync::atomic::{AtomicBool, Ordering};

@@ -1,5 +1,5 @@
 //! Cells of the two tables by their numbers.
-use crate::{Cell, user_grid, wire_grid};
+use section_grid::{Cell, user_grid, wire_grid};
 
 #[test]
 fn cells_stand_at_their_numbers(rt: HostRuntime) {

@@ -1,8 +1,8 @@
 //! Generated captures, against texts that are written here line by line, and lines of counts.
 ghost use Rattle.std.specs.Prelude.{◌<◌};
 
-use crate::{counts_line, generated};
 use capture_form::read_capture;
+use capture_generator::{counts_line, generated};
 use journal_text::Book;
 use plant_core::{ControlEntry, ControlEvent, ControlList, Entry, EntryList, JournalList};
 use relay_base::{Event, Lost, Octets, Output, Outs, Pc, Sls, Ssn, Stamp, Tell};

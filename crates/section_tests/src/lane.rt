@@ -1,7 +1,7 @@
 //! Worked rows of a connection lane: a connection of class 2 for a subsystem of this node, a tick, and messages to references that nobody has.
 ghost use Rattle.std.specs.Prelude.{◌≡◌};
 
-use crate::ConnLane;
+use conn_lane::ConnLane;
 use plant_core::{LaneHead, Plant, Terms, Ticks};
 use relay_base::{
     BoxedOctets, Event, Lost, Memory, Octets, Output, Outs, Pc, Ref24, Request, Sls, Ssn, Stamp,

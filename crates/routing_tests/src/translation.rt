@@ -1,5 +1,5 @@
 //! Rows under two prefixes, one of which begins the other.
-use crate::{AddFault, Entity, Look, NoSuchRow, Row, Table};
+use gtt_table::{AddFault, Entity, Look, NoSuchRow, Row, Table};
 use relay_base::{Digit, Digits, Pc, Ssn};
 use sccp_address::Selector;
 use std::process::Abort;

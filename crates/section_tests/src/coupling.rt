@@ -1,11 +1,11 @@
 //! Connections of both classes for a subsystem of this node, and a confirmation that no connection hears.
 ghost use Rattle.std.specs.Prelude.{◌≡◌};
 
-use crate::{Begun, Duo, Heard, ask_of, stray};
 use plant_core::{Answer, Terms, Ticks};
 use relay_base::{
     BoxedOctets, Event, Memory, Octets, Output, Outs, Pc, Ref24, Request, Sls, Ssn, Tell,
 };
+use section_coupling::{Begun, Duo, Heard, ask_of, stray};
 use std::alloc::Global;
 use std::test::Fail;
 

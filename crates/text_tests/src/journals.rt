@@ -1,7 +1,7 @@
 //! The print of journals, against texts that follow from its rules alone.
 ghost use Rattle.std.specs.Prelude.{◌<◌};
 
-use crate::{Book, WriteFault, print_book, write_book};
+use journal_text::{Book, WriteFault, print_book, write_book};
 use plant_core::{
     Answer, Asked, Change, ControlEntry, ControlEvent, ControlList, Entry, EntryList, Rewrite,
     RouteCause,

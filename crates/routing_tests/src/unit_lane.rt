@@ -1,5 +1,5 @@
 //! Worked rows of a data lane, with ticks, and the references of what it cuts.
-use crate::DataLane;
+use data_lane::DataLane;
 use plant_core::{LaneHead, Plant, Terms, Ticks};
 use relay_base::{BoxedOctets, Event, Memory, Octets, Output, Outs, Pc, Request, Sls, Ssn, Stamp};
 use std::alloc::Global;

@@ -1,0 +1,9 @@
+//! Words, messages and addresses: outside vectors, and each public function once.
+#![tactic(auto)]
+
+#[cfg(test)]
+mod addresses;
+#[cfg(test)]
+mod messages;
+#[cfg(test)]
+mod streams;

@@ -1,0 +1,5 @@
+//! Callers in threads that take turns at a lane.
+#![tactic(auto)]
+
+#[cfg(test)]
+mod turns;

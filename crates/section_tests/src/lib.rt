@@ -1,0 +1,17 @@
+//! Connections and their lane: worked rows, and each public function once.
+#![tactic(auto)]
+
+#[cfg(test)]
+mod counts;
+#[cfg(test)]
+mod coupling;
+#[cfg(test)]
+mod grids;
+#[cfg(test)]
+mod lane;
+#[cfg(test)]
+mod line;
+#[cfg(test)]
+mod user_side;
+#[cfg(test)]
+mod windows;

@@ -1,0 +1,13 @@
+//! Heads, captures, journals, words of the command line and made captures: worked rows, and each public function once.
+#![tactic(auto)]
+
+#[cfg(test)]
+mod captures;
+#[cfg(test)]
+mod commands;
+#[cfg(test)]
+mod heads;
+#[cfg(test)]
+mod journals;
+#[cfg(test)]
+mod made;
