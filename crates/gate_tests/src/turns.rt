@@ -2,7 +2,7 @@
 ghost use Rattle.std.specs.Prelude.{◌≡◌, ℕ, ◌==◌, [], count_by};
 ghost use Rattle.lane_gate.specs.Gates.{AreAllPasses, callers_of};
 ghost use Rattle.lane_gate.specs.Passes.{IsSamePass};
-ghost use Rattle.lane_gate.specs.Trials.{IsReady, IsDealt, IsServed, EachAt};
+ghost use Rattle.gate_tests.specs.Trials.{IsReady, IsDealt, IsServed, EachAt};
 
 use lane_gate::{Gate, LaneState, Pass, PassList, Refused};
 use relay_base::{Memory, Stamp};
@@ -34,7 +34,7 @@ struct Journal {
 }
 
 impl LaneState for Journal {
-    ghost use Rattle.lane_gate.specs.Trials.{events_of};
+    ghost use Rattle.gate_tests.specs.Trials.{events_of};
 
     type Event = u32;
 

@@ -1,4 +1,3 @@
 pub mod CallerCounts
 pub mod PassLists
-pub mod TrialLemmas
 pub mod TurnKeeps

@@ -2,5 +2,4 @@ pub mod Gates
 pub mod Passes
 pub mod Plan
 pub mod Rule
-pub mod Trials
 pub mod Views

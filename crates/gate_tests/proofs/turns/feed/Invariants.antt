@@ -1,6 +1,6 @@
 use Rattle.std.proofs.Common.{◌≡◌}
 use Rattle.lane_gate.specs.Passes.{done_of, IsSamePass}
-use Rattle.lane_gate.proofs.tests.feed.Given as goal
+use Rattle.gate_tests.proofs.turns.feed.Given as goal
 
 abbrev pub invariant-loop-line : goal.invariant-loop-line
 invariant-loop-line g l = record {

@@ -8,7 +8,7 @@ use Rattle.lane_gate.specs.declared.gate.Gate.{Gate}
 use Rattle.lane_gate.specs.declared.pass.Pass.{Pass}
 use Rattle.lane_gate.specs.Gates.{callers_of, IsPassOf, AreAllPasses, AreNumbered}
 use Rattle.lane_gate.specs.Passes.{done_of}
-use Rattle.lane_gate.specs.Trials.{events_of, IsReady, IsDealt, IsServed, EachAt}
+use Rattle.gate_tests.specs.Trials.{events_of, IsReady, IsDealt, IsServed, EachAt}
 use Rattle.lane_gate.proofs.PassLists.{each_there}
 
 -- the event at a line below 500

@@ -1,5 +1,5 @@
-use Rattle.lane_gate.proofs.TrialLemmas.{last_two}
-use Rattle.lane_gate.proofs.tests.says_who_has_the_turn.Goals as goal
+use Rattle.gate_tests.proofs.TrialLemmas.{last_two}
+use Rattle.gate_tests.proofs.turns.says_who_has_the_turn.Goals as goal
 
 pub join-early-requires-after_bounds : goal.join-early-requires-after_bounds
 join-early-requires-after_bounds g c κs within =

@@ -2,8 +2,8 @@ use Rattle.std.proofs.Common.{◌≡◌, ◌++◌, List, length, take, drop, sym
 use Rattle.std.proofs.Math.Seq.{take-append_seam}
 use Rattle.lane_gate.specs.declared.pass.Pass.{Pass}
 use Rattle.lane_gate.specs.Gates.{AreAllPasses, callers_of}
-use Rattle.lane_gate.proofs.TrialLemmas.{all_back}
-use Rattle.lane_gate.proofs.tests.taken_from_nine.Goals as goal
+use Rattle.gate_tests.proofs.TrialLemmas.{all_back}
+use Rattle.gate_tests.proofs.turns.taken_from_nine.Goals as goal
 
 pub close-entries-requires : goal.close-entries-requires
 close-entries-requires g c = let gate = c.in_ok-gate.gate in let made = c.in_ok-gate.ensures in let new = c.feed_all.new.passes in let left : List Pass = drop (length new) c.into_vec-passes.result.items in
