@@ -2,6 +2,8 @@
 #![tactic(auto)]
 
 #[cfg(test)]
+mod common;
+#[cfg(test)]
 mod management;
 #[cfg(test)]
 mod routing;

@@ -1,13 +1,11 @@
 //! Worked rows of management.
 ghost use Rattle.std.specs.Prelude.{◌≡◌, [], ◌∷◌, ◌++◌, OnOk, OnErr};
 
-use gtt_table::{Entity, Row};
-use plant_core::{Change, ControlEvent, Plant, Replicate, ReplicateList, Ticks};
+use crate::common::{octets, point, row, selection, ticks};
+use plant_core::{Change, ControlEvent, Plant, Replicate, ReplicateList};
 use relay_base::{
-    Digit, Digits, Event, Lost, Memory, Octets, Output, Outs, Pc, PcList, Reason, Request, Sls,
-    Ssn, SsnList, Stamp, Tell,
+    Event, Lost, Memory, Output, Outs, PcList, Reason, Request, Ssn, SsnList, Stamp, Tell,
 };
-use sccp_address::Selector;
 use scmg::{ControlHead, ControlLane, Publish};
 use std::alloc::Global;
 use std::process::Abort;
@@ -40,19 +38,10 @@ impl Publish for Published {
     }
 }
 
-fn point(rt: &impl Abort, number: u32) -> Pc {
-    Pc::new(number).expect(rt, "a point code")
-}
-
 /// Points 100 and 300, as in a message.
 const OWN: [u8; 2] = [0x64, 0x00];
 
 const FAR: [u8; 2] = [0x2C, 0x01];
-
-/// A message of management whose data end before the multiplicity.
-const SHORT: [u8; 16] = [
-    0x09, 0x00, 0x03, 0x05, 0x07, 0x02, 0x42, 0x01, 0x02, 0x42, 0x01, 0x04, 0x02, 0x08, 0x2C, 0x01,
-];
 
 /// A message of management about a subsystem of a point.
 fn message(format: u8, ssn: u8, of: [u8; 2]) -> [u8; 17] {
@@ -62,41 +51,11 @@ fn message(format: u8, ssn: u8, of: [u8; 2]) -> [u8; 17] {
     ]
 }
 
-fn octets(rt: &impl Abort, alloc: Global, bytes: &[u8]) -> Octets {
-    Octets::from_slice(alloc, bytes).expect(rt, "memory")
-}
-
-/// The row of titles that begin with 4917, to point 400.
-fn row(rt: &impl Abort) -> Row {
-    let mut prefix = Digits::new();
-    for number in [4, 9, 1, 7] {
-        if prefix.len() < 24 {
-            prefix.push(Digit::new(number).expect(rt, "a digit"));
-        }
-    }
-    Row {
-        selector: Selector {
-            gti: 4,
-            tt: 0,
-            np: 1,
-            nai: 4,
-        },
-        prefix,
-        first: Entity {
-            point: point(rt, 400),
-            ssn: Some(Ssn::from(8)),
-            on_ssn: true,
-        },
-        second: None,
-    }
-}
-
-/// An event: a message from point 300 about a subsystem of a point, by its format, or one of four octets, and requests and changes about subsystem 8 and point 300.
+/// An event: a message from point 300 about a subsystem of a point, by its format; a request or a change about subsystem 8 and point 300.
 /// So many ticks are one event after the other, and nothing comes of any but the last.
-#[derive(Clone, Copy, Debug)]
+#[derive(Clone, Copy)]
 enum Line {
     Arrives(u8, u8, [u8; 2]),
-    Short,
     Coord,
     Grant,
     AddRow,
@@ -111,7 +70,7 @@ enum Line {
 fn change_of(rt: &impl Abort, line: Line) -> Option<Change> {
     let user = Ssn::from(8);
     let far = point(rt, 300);
-    let row = row(rt);
+    let row = row(rt, &[4, 9, 1, 7], 400);
     match line {
         Line::AddRow => Some(Change::AddRow(row)),
         Line::DelRow => Some(Change::DelRow(row.selector, row.prefix)),
@@ -126,7 +85,7 @@ fn change_of(rt: &impl Abort, line: Line) -> Option<Change> {
 fn arrives(rt: &impl Abort, alloc: Global, bytes: &[u8]) -> Event {
     Event::Message {
         opc: point(rt, 300),
-        sls: Sls::new(5).expect(rt, "a selection"),
+        sls: selection(rt, 5),
         bytes: octets(rt, alloc, bytes),
     }
 }
@@ -145,7 +104,6 @@ fn event_of(rt: &impl Abort, alloc: Global, line: Line) -> ControlEvent {
     let point = point(rt, 300);
     ControlEvent::Plain(match line {
         Line::Arrives(format, ssn, of) => arrives(rt, alloc, &message(format, ssn, of)),
-        Line::Short => arrives(rt, alloc, &SHORT),
         Line::Coord => asks(Request::Coord),
         Line::Grant => asks(Request::Grant { point }),
         _ => Event::Tick,
@@ -153,7 +111,7 @@ fn event_of(rt: &impl Abort, alloc: Global, line: Line) -> ControlEvent {
 }
 
 /// What comes of an event: a message about a subsystem, to a point; or what subsystem 8 is told, of a subsystem and point 300.
-#[derive(Clone, Copy, Debug)]
+#[derive(Clone, Copy)]
 enum Came {
     Sent(u32, u8, u8, [u8; 2]),
     State(u8, bool),
@@ -185,7 +143,7 @@ fn output_of(rt: &impl Abort, alloc: Global, came: Came) -> Output {
     match came {
         Came::Sent(to, format, ssn, of) => Output::Sent {
             point: point(rt, to),
-            sls: Sls::new(0).expect(rt, "a selection"),
+            sls: selection(rt, 0),
             bytes: octets(rt, alloc, &message(format, ssn, of)),
         },
         Came::Lost(lost) => Output::Lost(lost),
@@ -202,24 +160,6 @@ fn outs_of(rt: &impl Abort, alloc: Global, came: &[Came]) -> Outs {
         outs.push(output_of(rt, alloc, *one)).expect(rt, "memory");
     }
     outs
-}
-
-/// Status tests are sent after 2 ticks, then 4, then at most 5; a coordinated change has 3.
-fn ticks() -> Ticks {
-    Ticks {
-        connect: 90,
-        ias: 420,
-        iar: 900,
-        rel: 15,
-        repeat: 15,
-        int: 60,
-        reset: 15,
-        reassembly: 15,
-        freeze: 60,
-        status: 2,
-        status_max: 5,
-        coord: 3,
-    }
 }
 
 /// Point 100 with subsystem 8, which point 300 has too; point 200 is concerned.
@@ -281,7 +221,7 @@ fn plays(rt: &impl Abort, alloc: Global, rows: &[(Line, Option<u64>, &[Came])]) 
         }
         take(rt, alloc, &mut lane, *line);
         let outs = outs_of(rt, alloc, came);
-        assert!(rt; gave(&lane, *published, &outs), "{line:?}");
+        assert!(rt; gave(&lane, *published, &outs));
     }
 }
 
@@ -332,21 +272,6 @@ fn sends_tests_by_subsystem(rt: HostRuntime) {
     plays(&rt, rt.alloc(), &rows);
 }
 
-/// Subsystem 9 goes out a tick before subsystem 8, and each has its own ticks.
-#[test]
-fn counts_the_ticks_of_each_test(rt: HostRuntime) {
-    let rows: [(Line, Option<u64>, &[Came]); 7] = [
-        (Line::Arrives(2, 9, FAR), Some(1), &[Came::State(9, false)]),
-        (Line::Ticks(1), None, &[]),
-        (Line::Arrives(2, 8, FAR), Some(2), &[Came::State(8, false)]),
-        (Line::Ticks(1), None, &[Came::Sent(300, 3, 9, FAR)]),
-        (Line::Ticks(1), None, &[Came::Sent(300, 3, 8, FAR)]),
-        (Line::Ticks(3), None, &[Came::Sent(300, 3, 9, FAR)]),
-        (Line::Ticks(1), None, &[Came::Sent(300, 3, 8, FAR)]),
-    ];
-    plays(&rt, rt.alloc(), &rows);
-}
-
 #[test]
 fn coordinates_with_a_replicate(rt: HostRuntime) {
     let rows: [(Line, Option<u64>, &[Came]); 12] = [
@@ -370,26 +295,6 @@ fn coordinates_with_a_replicate(rt: HostRuntime) {
         (Line::Arrives(3, 9, OWN), None, &[]),
         (Line::Coord, None, &[Came::Sent(300, 4, 8, OWN)]),
         (Line::Ticks(3), None, &[Came::Denied]),
-    ];
-    plays(&rt, rt.alloc(), &rows);
-}
-
-/// Messages that are too short, of another format, of the own point or of another one where they may not be, of a subsystem without a
-/// replicate, and grants that were not asked.
-#[test]
-fn refuses_messages_of_management(rt: HostRuntime) {
-    let refused: &[Came] = &[Came::Lost(Lost::Manage)];
-    let rows = [
-        (Line::Short, None, refused),
-        (Line::Arrives(0, 8, FAR), None, refused),
-        (Line::Arrives(6, 8, FAR), None, refused),
-        (Line::Arrives(1, 8, OWN), None, refused),
-        (Line::Arrives(2, 8, OWN), None, refused),
-        (Line::Arrives(3, 8, FAR), None, refused),
-        (Line::Arrives(4, 9, FAR), None, refused),
-        (Line::Arrives(4, 8, OWN), None, refused),
-        (Line::Arrives(5, 8, OWN), None, refused),
-        (Line::Arrives(5, 8, FAR), None, refused),
     ];
     plays(&rt, rt.alloc(), &rows);
 }

@@ -1,206 +1,115 @@
-//! A plant through its changes, and what leaves by its answers.
-use gtt_table::{Entity, Look, Row};
+//! Routing data through their changes, and what leaves by their answers.
+use crate::common::{E164, TITLE, digits, entity, point, row};
+use gtt_table::Look;
 use plant_core::{
     Answer, Ask, Change, Origin, Plant, Rewrite, RouteCause, Verdict, refusal_cause, return_cause,
     rewritten,
 };
-use relay_base::{Digit, Digits, Memory, Pc, Ssn};
-use sccp_address::{Selector, parse};
+use relay_base::Ssn;
+use sccp_address::parse;
 use std::alloc::Global;
 use std::process::Abort;
-use std::test::Fail;
 
-fn digits(numbers: &[u8]) -> Digits {
-    let mut digits = Digits::new();
-    for number in numbers {
-        if let Some(digit) = Digit::new(u32::from(*number)) {
-            if digits.len() < 24 {
-                digits.push(digit);
-            }
-        }
-    }
-    digits
-}
-
-fn point(rt: &impl Abort, number: u32) -> Pc {
-    Pc::new(number).expect(rt, "a point code")
-}
-
-fn selector() -> Selector {
-    Selector {
-        gti: 4,
-        tt: 0,
-        np: 1,
-        nai: 4,
-    }
-}
-
-fn row(rt: &impl Abort, prefix: &[u8], number: u32) -> Row {
-    Row {
-        selector: selector(),
-        prefix: digits(prefix),
-        first: Entity {
-            point: point(rt, number),
-            ssn: Some(Ssn::from(8)),
-            on_ssn: true,
-        },
-        second: None,
-    }
+/// Point 100 with subsystem 8.
+fn plant(rt: &impl Abort, alloc: Global) -> Plant {
+    Plant::start(alloc, point(rt, 100), &[Ssn::from(8)]).expect(rt, "memory")
 }
 
 /// Absorbs a change that has this verdict.
-fn absorbs(
-    rt: &impl Abort,
-    plant: &mut Plant,
-    change: &Change,
-    verdict: Verdict,
-) -> Result<(), Memory> {
-    assert_eq!(rt; plant.verdict(change), verdict);
-    let edition = plant.edition();
-    if edition < 1000 {
-        plant.make_room()?;
-        plant.absorb(change)?;
-        assert_eq!(rt; plant.edition(), edition + 1);
-    }
-    Ok(())
+fn absorbs(rt: &impl Abort, plant: &mut Plant, change: &Change, verdict: Verdict) {
+    assert!(rt; plant.verdict(change) == verdict);
+    assert!(rt; plant.edition() < 1000);
+    plant.make_room().expect(rt, "memory");
+    plant.absorb(change).expect(rt, "memory");
+}
+
+/// Asserts that a title leads to a point.
+fn assert_leads(rt: &impl Abort, plant: &Plant, title: &[u8], number: u32) {
+    let found = match plant.look(&E164, &digits(title)) {
+        Look::Row(row) => row.first.point.number(),
+        _ => 0,
+    };
+    assert!(rt; found == number, "{title:?}");
 }
 
 #[test]
-fn absorbs_rows(rt: HostRuntime) -> Result<(), Fail> {
-    let mut plant = Plant::start(rt.alloc(), point(&rt, 100), &[Ssn::from(8)])?;
-    assert_eq!(rt; plant.add(row(&rt, &[4, 9], 300)), Ok(()));
-    assert_eq!(rt; plant.copy()?.edition(), 0);
-    let titles = digits(&[4, 9, 1, 7, 1, 2]);
-    for verdict in [Verdict::Alters, Verdict::Duplicate] {
-        let add = Change::AddRow(row(&rt, &[4, 9, 1, 7], 400));
-        absorbs(&rt, &mut plant, &add, verdict)?;
-    }
-    let long = row(&rt, &[4, 9, 1, 7], 400);
-    assert_eq!(rt; plant.look(&selector(), &titles), Look::Row(&long));
-    for verdict in [Verdict::Alters, Verdict::NoRow] {
-        let delete = Change::DelRow(selector(), digits(&[4, 9, 1, 7]));
-        absorbs(&rt, &mut plant, &delete, verdict)?;
-    }
-    let short = row(&rt, &[4, 9], 300);
-    assert_eq!(rt; plant.look(&selector(), &titles), Look::Row(&short));
-    Ok(())
+fn absorbs_rows(rt: HostRuntime) {
+    let mut plant = plant(&rt, rt.alloc());
+    assert!(rt; plant.add(row(&rt, &[4, 9], 300)).is_ok());
+    let add = Change::AddRow(row(&rt, &[4, 9, 1, 7], 400));
+    absorbs(&rt, &mut plant, &add, Verdict::Alters);
+    absorbs(&rt, &mut plant, &add, Verdict::Duplicate);
+    assert_leads(&rt, &plant, &[4, 9, 1, 7, 1, 2], 400);
+    let delete = Change::DelRow(E164, digits(&[4, 9, 1, 7]));
+    absorbs(&rt, &mut plant, &delete, Verdict::Alters);
+    absorbs(&rt, &mut plant, &delete, Verdict::NoRow);
+    let copy = plant.copy().expect(&rt, "memory");
+    assert_leads(&rt, &copy, &[4, 9, 1, 7, 1, 2], 300);
+    assert!(rt; copy.edition() == 4);
 }
 
 #[test]
-fn absorbs_statuses(rt: HostRuntime) -> Result<(), Fail> {
+fn absorbs_statuses(rt: HostRuntime) {
     let far = point(&rt, 300);
     let ssn = Ssn::from(8);
-    let mut plant = Plant::start(rt.alloc(), point(&rt, 100), &[ssn])?;
+    let mut plant = plant(&rt, rt.alloc());
     for (change, verdict) in [
         (Change::FreePoint(far), Verdict::Same),
         (Change::BarPoint(far), Verdict::Alters),
         (Change::FreePoint(far), Verdict::Alters),
         (Change::BarSub(far, ssn), Verdict::Alters),
-        (Change::BarSub(far, ssn), Verdict::Same),
         (Change::FreeSub(far, ssn), Verdict::Alters),
-        (Change::LocalUp(ssn), Verdict::Same),
         (Change::LocalDown(ssn), Verdict::Alters),
-        (Change::LocalDown(Ssn::from(9)), Verdict::Same),
         (Change::LocalUp(ssn), Verdict::Alters),
     ] {
-        absorbs(&rt, &mut plant, &change, verdict)?;
+        absorbs(&rt, &mut plant, &change, verdict);
     }
-    Ok(())
+    assert!(rt; plant.stands(&entity(&rt, 300)).is_ok());
+    assert!(rt; plant.own().number() == 100 && plant.is_in_service(ssn));
+}
+
+fn assert_answers(rt: &impl Abort, plant: &Plant, octets: &[u8], origin: Origin, wanted: Answer) {
+    let Ok(called) = parse(octets) else {
+        panic!(rt; "no address")
+    };
+    assert!(rt; called.on_ssn);
+    let ask = Ask {
+        called,
+        hop: Some(3),
+        origin,
+    };
+    assert!(rt; plant.answer(&ask) == wanted, "{octets:?}");
 }
 
 #[test]
-fn tells_which_entity_is_available(rt: HostRuntime) -> Result<(), Fail> {
-    let users = [Ssn::from(8), Ssn::from(9)];
-    let mut plant = Plant::start(rt.alloc(), point(&rt, 100), &users)?;
-    absorbs(
-        &rt,
-        &mut plant,
-        &Change::LocalDown(Ssn::from(9)),
-        Verdict::Alters,
-    )?;
-    let pair = Change::BarSub(point(&rt, 300), Ssn::from(8));
-    absorbs(&rt, &mut plant, &pair, Verdict::Alters)?;
-    let rows = [
-        (100, Some(8), true, Ok(())),
-        (100, Some(9), true, Err(RouteCause::SubsystemBarred)),
-        (100, None, true, Err(RouteCause::Unequipped)),
-        (300, Some(8), true, Err(RouteCause::SubsystemBarred)),
-        (300, Some(8), false, Ok(())),
-    ];
-    for (number, ssn, on_ssn, answer) in rows {
-        let entity = Entity {
-            point: point(&rt, number),
-            ssn: ssn.map(Ssn::from),
-            on_ssn,
-        };
-        assert_eq!(rt; plant.stands(&entity), answer, "{entity:?}");
-    }
-    Ok(())
+fn answers_on_the_subsystem(rt: HostRuntime) {
+    let plant = plant(&rt, rt.alloc());
+    let local = Answer::Local(Ssn::from(8));
+    let forward = Answer::Forward {
+        dpc: point(&rt, 200),
+        rewrite: Rewrite::Keep,
+        hop: Some(3),
+    };
+    let refused = Answer::Refused {
+        cause: RouteCause::Unequipped,
+        local: None,
+    };
+    let address = b"\x43\xc8\x00\x08";
+    assert_answers(&rt, &plant, address, Origin::Network, local);
+    assert_answers(&rt, &plant, address, Origin::User, forward);
+    assert_answers(&rt, &plant, b"\x42\x09", Origin::User, refused);
+}
+
+fn assert_leaves(rt: &impl Abort, alloc: Global, called: &[u8], rewrite: &Rewrite, wanted: &[u8]) {
+    let Ok(address) = parse(called) else {
+        panic!(rt; "no address")
+    };
+    let octets = rewritten(alloc, &address, rewrite).expect(rt, "memory");
+    assert!(rt; octets.as_slice() == wanted, "{called:?}");
 }
 
 #[test]
-fn answers_on_the_subsystem(rt: HostRuntime) -> Result<(), Fail> {
-    let plant = Plant::start(rt.alloc(), point(&rt, 100), &[Ssn::from(8)])?;
-    let rows: [(&[u8], Origin, Answer); 3] = [
-        (
-            b"\x43\xc8\x00\x08",
-            Origin::Network,
-            Answer::Local(Ssn::from(8)),
-        ),
-        (
-            b"\x43\xc8\x00\x08",
-            Origin::User,
-            Answer::Forward {
-                dpc: point(&rt, 200),
-                rewrite: Rewrite::Keep,
-                hop: Some(3),
-            },
-        ),
-        (
-            b"\x42\x09",
-            Origin::User,
-            Answer::Refused {
-                cause: RouteCause::Unequipped,
-                local: None,
-            },
-        ),
-    ];
-    for (octets, origin, answer) in rows {
-        let Ok(called) = parse(octets) else {
-            panic!(rt; "an address")
-        };
-        if called.on_ssn {
-            let ask = Ask {
-                called,
-                hop: Some(3),
-                origin,
-            };
-            assert_eq!(rt; plant.answer(&ask), answer, "{octets:?}");
-        } else {
-            panic!(rt; "on the subsystem")
-        }
-    }
-    Ok(())
-}
-
-fn leaves(
-    rt: &impl Abort,
-    alloc: Global,
-    called: &[u8],
-    rewrite: &Rewrite,
-    octets: &[u8],
-) -> Result<(), Fail> {
-    match parse(called) {
-        Ok(address) => {
-            assert_eq!(rt; rewritten(alloc, &address, rewrite)?.as_slice(), octets);
-        }
-        Err(fault) => panic!(rt; "{called:?} is {fault:?}"),
-    }
-    Ok(())
-}
-
-#[test]
-fn rewrites_called_addresses(rt: HostRuntime) -> Result<(), Fail> {
+fn rewrites_called_addresses(rt: HostRuntime) {
     let alloc = rt.alloc();
     let title = b"\x13\x64\x00\x08\x00\x12\x04\x94\x71\x21";
     let named = Rewrite::Set {
@@ -211,21 +120,14 @@ fn rewrites_called_addresses(rt: HostRuntime) -> Result<(), Fail> {
         ssn: None,
         on_ssn: false,
     };
-    leaves(&rt, alloc, title, &Rewrite::Keep, title)?;
-    leaves(
-        &rt,
-        alloc,
-        title,
-        &named,
-        b"\x52\x07\x00\x12\x04\x94\x71\x21",
-    )?;
-    leaves(
-        &rt,
-        alloc,
-        title,
-        &unnamed,
-        b"\x12\x08\x00\x12\x04\x94\x71\x21",
-    )?;
+    let subsystem_7 = b"\x52\x07\x00\x12\x04\x94\x71\x21";
+    assert_leaves(&rt, alloc, title, &Rewrite::Keep, title);
+    assert_leaves(&rt, alloc, title, &named, subsystem_7);
+    assert_leaves(&rt, alloc, title, &unnamed, TITLE);
+}
+
+#[test]
+fn names_the_causes(rt: HostRuntime) {
     let causes = [
         (RouteCause::NoNature, 0x00, 0x12),
         (RouteCause::NoAddress, 0x01, 0x04),
@@ -235,8 +137,6 @@ fn rewrites_called_addresses(rt: HostRuntime) -> Result<(), Fail> {
         (RouteCause::Hop, 0x0c, 0x10),
     ];
     for (cause, returned, refused) in causes {
-        assert_eq!(rt; return_cause(cause), returned);
-        assert_eq!(rt; refusal_cause(cause), refused);
+        assert!(rt; return_cause(cause) == returned && refusal_cause(cause) == refused);
     }
-    Ok(())
 }

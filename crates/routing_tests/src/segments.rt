@@ -1,10 +1,11 @@
 //! Worked rows of reassembly, and the calls with ample memory.
+use crate::common::{octets, point, selection};
 use reassembly::{Bench, Now, Piece};
-use relay_base::{Memory, Octets, Pc, Sls, Ssn};
+use relay_base::Ssn;
 use std::alloc::Global;
-use std::test::Fail;
+use std::process::Abort;
 
-#[derive(Clone, Copy, Debug, PartialEq, Eq)]
+#[derive(Clone, Copy, PartialEq, Eq)]
 enum Word {
     Waiting,
     Whole,
@@ -23,88 +24,92 @@ fn word_of(now: &Now) -> Word {
     }
 }
 
-/// An XUDT segment from point 200 for subsystem 8, which asks for return.
-fn segment(alloc: Global, segmentation: [u8; 4], body: &[u8]) -> Result<Piece, Memory> {
-    Ok(Piece {
-        opc: Pc::new(200).ok_or(Memory)?,
-        sls: Sls::new(5).ok_or(Memory)?,
+/// An XUDT segment of one octet from point 200 for subsystem 8, which asks for return.
+fn segment(rt: &impl Abort, alloc: Global, head: u8, reference: u8, octet: u8) -> Piece {
+    Piece {
+        opc: point(rt, 200),
+        sls: selection(rt, 5),
         class_octet: 0x81,
-        called: Octets::from_slice(alloc, &[0x42, 0x08])?,
-        calling: Octets::from_slice(alloc, &[0x42, 0x06])?,
-        body: Octets::from_slice(alloc, body)?,
-        segmentation,
+        called: octets(rt, alloc, &[0x42, 0x08]),
+        calling: octets(rt, alloc, &[0x42, 0x06]),
+        body: octets(rt, alloc, &[octet]),
+        segmentation: [head, reference, 0, 0],
         importance: None,
         ssn: Ssn::from(8),
-    })
+    }
 }
 
-/// Whether a reassembly failed by the segment, as was shown before, and what came of it.
-fn taken(bench: &mut Bench, piece: Piece) -> Result<(bool, Word), Memory> {
+/// Asserts whether a reassembly fails by the segment, as is shown before, and what comes of it.
+fn assert_takes(rt: &impl Abort, bench: &mut Bench, piece: Piece, fails: bool, word: Word) {
     let ends = bench.ending(&piece).is_some();
-    let taken = bench.take(piece)?;
-    Ok((ends && taken.failed.is_some(), word_of(&taken.now)))
+    let taken = bench.take(piece).expect(rt, "memory");
+    assert!(rt; ends == fails && taken.failed.is_some() == fails);
+    assert!(rt; word_of(&taken.now) == word);
 }
 
 #[test]
-fn takes_segments(rt: HostRuntime) -> Result<(), Fail> {
+fn takes_segments(rt: HostRuntime) {
     let alloc = rt.alloc();
     let mut bench = Bench::new(alloc, 15);
     let rows = [
-        (0xC2, b'a', false, Word::Waiting),
-        (0x41, b'b', false, Word::Waiting),
-        (0x40, b'c', false, Word::Whole),
+        (0xC2, false, Word::Waiting),
+        (0x41, false, Word::Waiting),
+        (0x40, false, Word::Whole),
         // The second one was lost.
-        (0xC2, b'a', false, Word::Waiting),
-        (0x40, b'c', true, Word::Broken),
-        (0x40, b'c', false, Word::Orphan),
+        (0xC2, false, Word::Waiting),
+        (0x40, true, Word::Broken),
+        (0x40, false, Word::Orphan),
         // The first one comes again, and then a message of one segment.
-        (0xC2, b'a', false, Word::Waiting),
-        (0xC2, b'a', true, Word::Waiting),
-        (0xC0, b'd', true, Word::Whole),
+        (0xC2, false, Word::Waiting),
+        (0xC2, true, Word::Waiting),
+        (0xC0, true, Word::Whole),
     ];
-    for (head, octet, ends, word) in rows {
-        let piece = segment(alloc, [head, 1, 0, 0], &[octet])?;
-        assert_eq!(rt; taken(&mut bench, piece)?, (ends, word));
+    for (head, fails, word) in rows {
+        let piece = segment(&rt, alloc, head, 1, b'a');
+        assert_takes(&rt, &mut bench, piece, fails, word);
     }
-    Ok(())
 }
 
 #[test]
-fn tells_the_whole(rt: HostRuntime) -> Result<(), Fail> {
+fn tells_the_whole(rt: HostRuntime) {
     let alloc = rt.alloc();
     let mut bench = Bench::new(alloc, 15);
-    let _ = bench.take(segment(alloc, [0xC2, 1, 0, 0], b"a")?)?;
-    let _ = bench.take(segment(alloc, [0x41, 1, 0, 0], b"b")?)?;
-    let last = bench.take(segment(alloc, [0x40, 1, 0, 0], b"c")?)?;
-    let whole = segment(alloc, [0xC2, 1, 0, 0], b"abc")?;
-    assert!(rt; last.now == Now::Whole(whole));
-    Ok(())
+    for (head, octet) in [(0xC2, b'a'), (0x41, b'b')] {
+        let piece = segment(&rt, alloc, head, 1, octet);
+        assert_takes(&rt, &mut bench, piece, false, Word::Waiting);
+    }
+    let last = segment(&rt, alloc, 0x40, 1, b'c');
+    let Now::Whole(whole) = bench.take(last).expect(&rt, "memory").now else {
+        panic!(rt; "not whole")
+    };
+    assert!(rt; whole.body.as_slice() == b"abc".as_slice());
+    assert!(rt; whole.segmentation == [0xC2, 1, 0, 0]);
 }
 
 #[test]
-fn holds_256(rt: HostRuntime) -> Result<(), Fail> {
+fn holds_256(rt: HostRuntime) {
     let alloc = rt.alloc();
     let mut bench = Bench::new(alloc, 15);
     for reference in 0..=255 {
-        let piece = segment(alloc, [0xC2, reference, 0, 0], b"a")?;
-        assert_eq!(rt; taken(&mut bench, piece)?, (false, Word::Waiting));
+        let piece = segment(&rt, alloc, 0xC2, reference, b'a');
+        assert_takes(&rt, &mut bench, piece, false, Word::Waiting);
     }
-    let another = segment(alloc, [0xC2, 0, 1, 0], b"a")?;
-    assert_eq!(rt; taken(&mut bench, another)?, (false, Word::NoRoom));
-    let again = segment(alloc, [0xC1, 7, 0, 0], b"a")?;
-    assert_eq!(rt; taken(&mut bench, again)?, (true, Word::Waiting));
-    Ok(())
+    let mut another = segment(&rt, alloc, 0xC2, 0, b'a');
+    another.segmentation = [0xC2, 0, 1, 0];
+    assert_takes(&rt, &mut bench, another, false, Word::NoRoom);
+    let again = segment(&rt, alloc, 0xC1, 7, b'a');
+    assert_takes(&rt, &mut bench, again, true, Word::Waiting);
 }
 
 #[test]
-fn fails_at_the_last_tick(rt: HostRuntime) -> Result<(), Fail> {
+fn fails_at_the_last_tick(rt: HostRuntime) {
     let alloc = rt.alloc();
     let mut bench = Bench::new(alloc, 15);
-    let _ = bench.take(segment(alloc, [0xC2, 1, 0, 0], b"a")?)?;
+    let piece = segment(&rt, alloc, 0xC2, 1, b'a');
+    assert_takes(&rt, &mut bench, piece, false, Word::Waiting);
     for tick in 1..=16 {
-        let due = bench.due(0).is_some();
-        let failed = bench.tick()?;
-        assert_eq!(rt; (due, failed.len()), (tick == 15, usize::from(tick == 15)));
+        let is_due = bench.due(0).is_some();
+        let failed = bench.tick().expect(&rt, "memory");
+        assert!(rt; is_due == (tick == 15) && failed.is_empty() != is_due);
     }
-    Ok(())
 }

@@ -1,9 +1,10 @@
 //! Worked rows of a data lane, with ticks, and the references of what it cuts.
+use crate::common::{octets, point, selection, ticks};
 use data_lane::DataLane;
-use plant_core::{LaneHead, Plant, Terms, Ticks};
-use relay_base::{BoxedOctets, Event, Memory, Octets, Output, Outs, Pc, Request, Sls, Ssn, Stamp};
+use plant_core::{LaneHead, Plant, Terms};
+use relay_base::{BoxedOctets, Event, Octets, Output, Outs, Request, Ssn, Stamp};
 use std::alloc::Global;
-use std::test::Fail;
+use std::process::Abort;
 
 /// A first segment with two more behind it, from subsystem 6 for subsystem 8, which asks for return.
 const SEGMENT: [u8; 22] = [
@@ -18,194 +19,143 @@ const RETURN: [u8; 22] = [
 ];
 
 /// The octets with a segmentation local reference in them.
-fn with_reference(alloc: Global, mut octets: [u8; 22], reference: u16) -> Result<Octets, Memory> {
-    octets[18] = (reference % 256) as u8;
-    octets[19] = (reference / 256) as u8;
-    Octets::from_slice(alloc, octets.as_slice())
+fn with_reference(rt: &impl Abort, alloc: Global, mut segment: [u8; 22], reference: u16) -> Octets {
+    segment[18] = (reference % 256) as u8;
+    segment[19] = (reference / 256) as u8;
+    octets(rt, alloc, segment.as_slice())
 }
 
-fn segment(alloc: Global, reference: u16) -> Result<Event, Memory> {
-    Ok(Event::Message {
-        opc: Pc::new(200).ok_or(Memory)?,
-        sls: Sls::new(5).ok_or(Memory)?,
-        bytes: with_reference(alloc, SEGMENT, reference)?,
-    })
+fn segment(rt: &impl Abort, alloc: Global, reference: u16) -> Event {
+    Event::Message {
+        opc: point(rt, 200),
+        sls: selection(rt, 5),
+        bytes: with_reference(rt, alloc, SEGMENT, reference),
+    }
 }
 
-fn returned(alloc: Global, cause: u8, reference: u16) -> Result<Output, Memory> {
-    let mut octets = RETURN;
-    octets[1] = cause;
-    Ok(Output::Sent {
-        point: Pc::new(200).ok_or(Memory)?,
-        sls: Sls::new(5).ok_or(Memory)?,
-        bytes: with_reference(alloc, octets, reference)?,
-    })
+fn returned(rt: &impl Abort, alloc: Global, cause: u8, reference: u16) -> Output {
+    let mut segment = RETURN;
+    segment[1] = cause;
+    Output::Sent {
+        point: point(rt, 200),
+        sls: selection(rt, 5),
+        bytes: with_reference(rt, alloc, segment, reference),
+    }
 }
 
-/// Point 100, where a reassembly has 15 ticks.
-fn lane_head() -> Result<LaneHead, Memory> {
-    let ticks = Ticks {
-        connect: 90,
-        ias: 420,
-        iar: 900,
-        rel: 15,
-        repeat: 15,
-        int: 60,
-        reset: 15,
-        reassembly: 15,
-        freeze: 60,
-        status: 30,
-        status_max: 600,
-        coord: 90,
+/// The returns of the segments of these references with a cause.
+fn returns(rt: &impl Abort, alloc: Global, cause: u8, first: u16, end: u16) -> Outs {
+    let mut outs = Outs::new(alloc);
+    for reference in first..end {
+        let output = returned(rt, alloc, cause, reference);
+        outs.push(output).expect(rt, "memory");
+    }
+    outs
+}
+
+/// A user's unit of so many octets for subsystem 8 of point 300.
+fn unit(rt: &impl Abort, alloc: Global, size: usize) -> Event {
+    let body = Vec::from_elem(alloc, 0x61, size).expect(rt, "memory");
+    let called = BoxedOctets::from_slice(alloc, b"\x43\x2c\x01\x08").expect(rt, "memory");
+    let request = Request::Unit {
+        sls: selection(rt, 5),
+        class: 0,
+        ret: false,
+        called,
+        calling: None,
+        body: BoxedOctets::new(alloc, Octets::from(body)).expect(rt, "memory"),
     };
+    Event::Asked {
+        ssn: Ssn::from(8),
+        request,
+    }
+}
+
+/// Point 100 with subsystem 8.
+fn plant(rt: &impl Abort, alloc: Global) -> Plant {
+    Plant::start(alloc, point(rt, 100), &[Ssn::from(8)]).expect(rt, "memory")
+}
+
+/// A lane of point 100, where a reassembly has 15 ticks.
+fn lane(rt: &impl Abort, alloc: Global, number: u8) -> DataLane {
     let terms = Terms {
-        own: Pc::new(100).ok_or(Memory)?,
+        own: point(rt, 100),
         credit: 7,
-        ticks,
+        ticks: ticks(),
     };
-    Ok(LaneHead {
+    let head = LaneHead {
         terms,
         reassembly: 15,
-    })
+    };
+    DataLane::new(alloc, &head, number).expect(rt, "memory")
 }
 
-fn plant(alloc: Global) -> Result<Plant, Memory> {
-    Plant::start(alloc, Pc::new(100).ok_or(Memory)?, &[Ssn::from(8)])
+fn step(rt: &impl Abort, lane: &mut DataLane, plant: &Plant, event: &Event) {
+    let stamp = Stamp {
+        phase: 1,
+        link: 1,
+        line: 4,
+    };
+    lane.step(plant, stamp, event).expect(rt, "memory");
+}
+
+/// Asserts the outputs of the last entry.
+fn assert_gave(rt: &impl Abort, lane: &DataLane, wanted: &Outs) {
+    match lane.journal().as_slice().last() {
+        Some(entry) => assert!(rt; entry.outs == *wanted),
+        None => panic!(rt; "no entry"),
+    }
+}
+
+/// A lane that has taken 256 first segments of different references, of which nothing comes.
+fn filled(rt: &impl Abort, alloc: Global, plant: &Plant) -> DataLane {
+    let none = Outs::new(alloc);
+    let mut lane = lane(rt, alloc, 0);
+    for reference in 0..256 {
+        step(rt, &mut lane, plant, &segment(rt, alloc, reference));
+        assert_gave(rt, &lane, &none);
+    }
+    lane
+}
+
+/// One more is returned for want of room; all others at the last tick, in the order in which they came.
+#[test]
+fn fails_in_the_order_of_beginning(rt: HostRuntime) {
+    let alloc = rt.alloc();
+    let plant = plant(&rt, alloc);
+    let mut lane = filled(&rt, alloc, &plant);
+    step(&rt, &mut lane, &plant, &segment(&rt, alloc, 256));
+    assert_gave(&rt, &lane, &returns(&rt, alloc, 0x09, 256, 257));
+    for tick in 1..=15 {
+        step(&rt, &mut lane, &plant, &Event::Tick);
+        let end = if tick == 15 { 256 } else { 0 };
+        assert_gave(&rt, &lane, &returns(&rt, alloc, 0x0E, 0, end));
+    }
 }
 
 /// The octets with 55 octets of data in the last segment of a unit of 300 octets.
 const LAST_SEGMENT: usize = 78;
 
-/// A user's unit of so many octets for subsystem 8 of point 300.
-fn unit(alloc: Global, size: usize) -> Result<Event, Memory> {
-    let body = Vec::from_elem(alloc, 0x61, size)?;
-    let called = BoxedOctets::from_slice(alloc, b"\x43\x2c\x01\x08")?;
-    let request = Request::Unit {
-        sls: Sls::new(5).ok_or(Memory)?,
-        class: 0,
-        ret: false,
-        called,
-        calling: None,
-        body: BoxedOctets::new(alloc, Octets::from(body))?,
+/// The lowest octet of the reference of the last segment, where a unit of 300 octets was cut.
+fn last_reference(lane: &DataLane) -> Option<u8> {
+    let entry = lane.journal().as_slice().last()?;
+    let Some(Output::Sent { bytes, .. }) = entry.outs.as_slice().last() else {
+        return None;
     };
-    Ok(Event::Asked {
-        ssn: Ssn::from(8),
-        request,
-    })
-}
-
-/// A lane, and the routing data that it asks.
-#[derive(Drop)]
-struct Scene {
-    alloc: Global,
-    plant: Plant,
-    lane: DataLane,
-}
-
-impl Scene {
-    fn new(alloc: Global, number: u8) -> Result<Scene, Memory> {
-        let plant = plant(alloc)?;
-        let head = lane_head()?;
-        let lane = DataLane::new(alloc, &head, number)?;
-        Ok(Scene { alloc, plant, lane })
-    }
-
-    fn step(&mut self, event: &Event) -> Result<(), Memory> {
-        let stamp = Stamp {
-            phase: 1,
-            link: 1,
-            line: 4,
-        };
-        self.lane.step(&self.plant, stamp, event)
-    }
-
-    /// Whether the last entry has no outputs.
-    fn is_quiet(&self) -> bool {
-        match self.lane.journal().as_slice().last() {
-            Some(entry) => entry.outs.is_empty(),
-            None => true,
-        }
-    }
-
-    /// Whether the last entry returns the segments of these references with a cause, in this order.
-    fn returns(&self, cause: u8, first: u16, end: u16) -> Result<bool, Memory> {
-        let mut outs = Outs::new(self.alloc);
-        for reference in first..end {
-            outs.push(returned(self.alloc, cause, reference)?)?;
-        }
-        Ok(match self.lane.journal().as_slice().last() {
-            Some(entry) => entry.outs == outs,
-            None => false,
-        })
-    }
-
-    /// Takes 256 first segments of different references; whether nothing came of them.
-    fn fill(&mut self) -> Result<bool, Memory> {
-        let mut is_quiet = true;
-        for reference in 0..256 {
-            let event = segment(self.alloc, reference)?;
-            self.step(&event)?;
-            is_quiet = is_quiet && self.is_quiet();
-        }
-        Ok(is_quiet)
-    }
-
-    /// Takes one more; whether it was returned for want of room.
-    fn refuses_one(&mut self) -> Result<bool, Memory> {
-        let event = segment(self.alloc, 256)?;
-        self.step(&event)?;
-        self.returns(0x09, 256, 257)
-    }
-
-    /// Lets 14 ticks go by; whether nothing came of them.
-    fn waits(&mut self) -> Result<bool, Memory> {
-        let mut is_quiet = true;
-        for _ in 0..14 {
-            self.step(&Event::Tick)?;
-            is_quiet = is_quiet && self.is_quiet();
-        }
-        Ok(is_quiet)
-    }
-
-    /// Lets one tick go by; whether all were returned as failed, in the order in which they came.
-    fn fails(&mut self) -> Result<bool, Memory> {
-        self.step(&Event::Tick)?;
-        self.returns(0x0E, 0, 256)
-    }
-
-    /// The lowest octet of the reference of the last segment, where a unit of 300 octets was cut.
-    fn last_reference(&self) -> Option<u8> {
-        let entry = self.lane.journal().as_slice().last()?;
-        let Some(Output::Sent { bytes, .. }) = entry.outs.as_slice().last() else {
-            return None;
-        };
-        if bytes.len() == LAST_SEGMENT {
-            Some(bytes.as_slice()[74])
-        } else {
-            None
-        }
+    if bytes.len() == LAST_SEGMENT {
+        Some(bytes.as_slice()[74])
+    } else {
+        None
     }
 }
 
 #[test]
-fn fails_in_the_order_of_beginning(rt: HostRuntime) -> Result<(), Fail> {
-    let mut scene = Scene::new(rt.alloc(), 0)?;
-    let fills = scene.fill()?;
-    let refuses = scene.refuses_one()?;
-    let waits = scene.waits()?;
-    let fails = scene.fails()?;
-    assert_eq!(rt; [fills, refuses, waits, fails], [true; 4]);
-    Ok(())
-}
-
-#[test]
-fn counts_what_it_cuts(rt: HostRuntime) -> Result<(), Fail> {
+fn counts_what_it_cuts(rt: HostRuntime) {
     let alloc = rt.alloc();
-    let mut scene = Scene::new(alloc, 3)?;
+    let plant = plant(&rt, alloc);
+    let mut lane = lane(&rt, alloc, 3);
     for (size, reference) in [(300, Some(3)), (200, None), (300, Some(19))] {
-        let event = unit(alloc, size)?;
-        scene.step(&event)?;
-        assert_eq!(rt; scene.last_reference(), reference);
+        step(&rt, &mut lane, &plant, &unit(&rt, alloc, size));
+        assert!(rt; last_reference(&lane) == reference);
     }
-    Ok(())
 }

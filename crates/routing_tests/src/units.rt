@@ -1,34 +1,19 @@
 //! Worked examples of the connectionless service, octet for octet.
-ghost use Rattle.std.specs.Prelude.{◌<◌};
-
+use crate::common::{TITLE, octets, point, selection};
 use connectionless::{
     Next, Segment, message_ask, message_in, return_outs, unit_outs, user_ask, user_outs,
 };
 use plant_core::{Answer, Rewrite, RouteCause};
 use q713_codec::View;
 use reassembly::Piece;
-use relay_base::{
-    BoxedOctets, Lost, Memory, Octets, Output, Outs, Pc, ReadFault, Request, Sls, Ssn, Tell,
-};
+use relay_base::{BoxedOctets, Lost, Octets, Output, Outs, ReadFault, Request, Ssn, Tell};
 use std::alloc::Global;
-use std::test::Fail;
-
-fn point(number: u32) -> Pc
-    requires { number < 16384 }
-{
-    Pc::new(number).unwrap()
-}
-
-fn selection() -> Sls {
-    Sls::new(5).unwrap()
-}
+use std::process::Abort;
 
 /// To subsystem 8 of a point.
-fn to(number: u32, hop: Option<u8>) -> Answer
-    requires { number < 16384 }
-{
+fn to(rt: &impl Abort, number: u32, hop: Option<u8>) -> Answer {
     Answer::Forward {
-        dpc: point(number),
+        dpc: point(rt, number),
         rewrite: Rewrite::Set {
             ssn: Some(Ssn::from(8)),
             on_ssn: true,
@@ -41,38 +26,45 @@ fn refused(cause: RouteCause) -> Answer {
     Answer::Refused { cause, local: None }
 }
 
-fn put_sent(alloc: Global, outs: &mut Outs, number: u32, bytes: &[u8]) -> Result<(), Memory>
-    requires { number < 16384 }
-{
-    outs.push(Output::Sent {
-        point: point(number),
-        sls: selection(),
-        bytes: Octets::from_slice(alloc, bytes)?,
-    })
+fn boxed(rt: &impl Abort, alloc: Global, bytes: &[u8]) -> BoxedOctets {
+    BoxedOctets::from_slice(alloc, bytes).expect(rt, "memory")
+}
+
+fn put(rt: &impl Abort, outs: &mut Outs, output: Output) {
+    outs.push(output).expect(rt, "memory");
+}
+
+fn put_sent(rt: &impl Abort, alloc: Global, outs: &mut Outs, number: u32, bytes: &[u8]) {
+    let message = Output::Sent {
+        point: point(rt, number),
+        sls: selection(rt, 5),
+        bytes: octets(rt, alloc, bytes),
+    };
+    put(rt, outs, message);
 }
 
 /// A message that was sent, alone.
-fn sent(alloc: Global, number: u32, bytes: &[u8]) -> Result<Outs, Memory>
-    requires { number < 16384 }
-{
+fn sent(rt: &impl Abort, alloc: Global, number: u32, bytes: &[u8]) -> Outs {
     let mut outs = Outs::new(alloc);
-    put_sent(alloc, &mut outs, number, bytes)?;
-    Ok(outs)
+    put_sent(rt, alloc, &mut outs, number, bytes);
+    outs
 }
 
 /// A loss, alone.
-fn lost(alloc: Global, lost: Lost) -> Result<Outs, Memory> {
+fn lost(rt: &impl Abort, alloc: Global, lost: Lost) -> Outs {
     let mut outs = Outs::new(alloc);
-    outs.push(Output::Lost(lost))?;
-    Ok(outs)
+    put(rt, &mut outs, Output::Lost(lost));
+    outs
 }
 
-/// What user 8 is told, alone: a unit of class 0, or a notice with a cause.
-fn told(alloc: Global, notice: Option<u8>, called: &[u8], calling: &[u8]) -> Result<Outs, Memory> {
-    let called = BoxedOctets::from_slice(alloc, called)?;
-    let calling = BoxedOctets::from_slice(alloc, calling)?;
-    let body = BoxedOctets::from_slice(alloc, b"\xaa")?;
-    let tell = match notice {
+/// A unit of class 0, or a notice with a cause.
+fn tell_of(
+    notice: Option<u8>,
+    called: BoxedOctets,
+    calling: BoxedOctets,
+    body: BoxedOctets,
+) -> Tell {
+    match notice {
         None => Tell::Unit {
             class: 0,
             called,
@@ -85,43 +77,63 @@ fn told(alloc: Global, notice: Option<u8>, called: &[u8], calling: &[u8]) -> Res
             calling,
             body,
         },
-    };
+    }
+}
+
+/// What user 8 is told, alone.
+fn told(rt: &impl Abort, alloc: Global, notice: Option<u8>, called: &[u8], calling: &[u8]) -> Outs {
+    let called = boxed(rt, alloc, called);
+    let calling = boxed(rt, alloc, calling);
+    let tell = tell_of(notice, called, calling, boxed(rt, alloc, b"\xaa"));
     let ssn = Ssn::from(8);
     let mut outs = Outs::new(alloc);
-    outs.push(Output::Told { ssn, tell })?;
-    Ok(outs)
+    put(rt, &mut outs, Output::Told { ssn, tell });
+    outs
 }
 
 /// What comes, at point 100, of a message from point 200 by an answer.
-fn arrived(alloc: Global, view: &View<'_>, answer: &Answer) -> Result<(Outs, Next), Memory> {
+fn arrived(rt: &impl Abort, alloc: Global, view: &View<'_>, answer: &Answer) -> (Outs, Next) {
     let mut outs = Outs::new(alloc);
     match message_ask(view) {
         Ok(Some(_)) => {
-            let (own, opc, sls) = (point(100), point(200), selection());
-            let next = unit_outs(alloc, own, opc, sls, view, answer, &mut outs)?;
-            Ok((outs, next))
+            let (own, opc, sls) = (point(rt, 100), point(rt, 200), selection(rt, 5));
+            let next = unit_outs(alloc, own, opc, sls, view, answer, &mut outs);
+            (outs, next.expect(rt, "memory"))
         }
-        Ok(None) => Ok((outs, Next::Done)),
-        Err(cause) => Ok((lost(alloc, cause)?, Next::Done)),
+        Ok(None) => (outs, Next::Done),
+        Err(cause) => (lost(rt, alloc, cause), Next::Done),
     }
 }
 
-fn arrived_octets(alloc: Global, bytes: &[u8], answer: &Answer) -> Result<(Outs, Next), Memory> {
+fn arrived_octets(rt: &impl Abort, alloc: Global, bytes: &[u8], answer: &Answer) -> (Outs, Next) {
     match message_in(bytes) {
-        Ok(view) => arrived(alloc, &view, answer),
-        Err(cause) => Ok((lost(alloc, cause)?, Next::Done)),
+        Ok(view) => arrived(rt, alloc, &view, answer),
+        Err(cause) => (lost(rt, alloc, cause), Next::Done),
     }
 }
 
-/// The outputs alone, of a message that leaves nothing to do.
-fn outs_of(alloc: Global, bytes: &[u8], answer: &Answer) -> Result<Option<Outs>, Memory> {
-    let (outs, next) = arrived_octets(alloc, bytes, answer)?;
-    Ok(if next == Next::Done { Some(outs) } else { None })
+/// Asserts the outputs of a message that leaves nothing to do.
+fn assert_brings(rt: &impl Abort, alloc: Global, bytes: &[u8], answer: &Answer, wanted: &Outs) {
+    let (outs, next) = arrived_octets(rt, alloc, bytes, answer);
+    assert!(rt; matches!(next, Next::Done), "{bytes:?}");
+    assert!(rt; outs == *wanted, "{bytes:?}");
+}
+
+/// Asserts that a message sends this one alone.
+fn assert_sends(
+    rt: &impl Abort,
+    alloc: Global,
+    bytes: &[u8],
+    answer: &Answer,
+    number: u32,
+    leaving: &[u8],
+) {
+    assert_brings(rt, alloc, bytes, answer, &sent(rt, alloc, number, leaving));
 }
 
 /// Units and service messages that go on with another address.
 #[test]
-fn messages_go_on(rt: HostRuntime) -> Result<(), Fail> {
+fn messages_go_on(rt: HostRuntime) {
     let rows: [(&[u8], Option<u8>, &[u8]); 4] = [
         (
             b"\x09\x00\x03\x0b\x0d\x08\x12\x08\x00\x12\x04\x94\x71\x21\x02\x42\x06\x01\xaa",
@@ -145,86 +157,74 @@ fn messages_go_on(rt: HostRuntime) -> Result<(), Fail> {
         ),
     ];
     for (bytes, hop, leaving) in rows {
-        let outs = outs_of(rt.alloc(), bytes, &to(400, hop))?;
-        assert_eq!(rt; outs, Some(sent(rt.alloc(), 400, leaving)?), "of {bytes:?}");
+        assert_sends(&rt, rt.alloc(), bytes, &to(&rt, 400, hop), 400, leaving);
     }
-    Ok(())
 }
 
 /// Units that are returned: to their origin, or to another point that their calling address names.
 #[test]
-fn units_are_returned(rt: HostRuntime) -> Result<(), Fail> {
-    let rows: [(&[u8], RouteCause, bool, &[u8]); 5] = [
+fn units_are_returned(rt: HostRuntime) {
+    let rows: [(&[u8], RouteCause, u32, &[u8]); 5] = [
         (
             b"\x09\x80\x03\x05\x07\x02\x42\x09\x02\x42\x06\x01\xaa",
             RouteCause::Unequipped,
-            false,
+            200,
             b"\x0a\x04\x03\x05\x07\x02\x42\x06\x02\x42\x09\x01\xaa",
         ),
         (
             b"\x09\x80\x03\x0b\x0d\x08\x12\x08\x00\x12\x04\x94\x71\x21\x02\x42\x06\x01\xaa",
             RouteCause::SubsystemBarred,
-            false,
+            200,
             b"\x0a\x03\x03\x05\x0d\x02\x42\x06\x08\x12\x08\x00\x12\x04\x94\x71\x21\x01\xaa",
         ),
         (
             b"\x11\x80\x01\x04\x0c\x0e\x00\x08\x12\x08\x00\x12\x04\x94\x71\x21\x02\x42\x06\x01\xaa",
             RouteCause::Hop,
-            false,
+            200,
             b"\x12\x0c\x0f\x04\x06\x0e\x00\x02\x42\x06\x08\x12\x08\x00\x12\x04\x94\x71\x21\x01\xaa",
         ),
         (
             b"\x09\x80\x03\x05\x09\x02\x42\x09\x04\x43\xc9\x00\x06\x01\xaa",
             RouteCause::Unequipped,
-            true,
+            201,
             b"\x0a\x04\x03\x07\x09\x04\x43\xc9\x00\x06\x02\x42\x09\x01\xaa",
         ),
         (
             b"\x09\x80\x03\x05\x09\x02\x42\x09\x04\x43\x64\x00\x06\x01\xaa",
             RouteCause::Unequipped,
-            false,
+            200,
             b"\x0a\x04\x03\x07\x09\x04\x43\x64\x00\x06\x02\x42\x09\x01\xaa",
         ),
     ];
-    for (bytes, cause, is_named, leaving) in rows {
-        let outs = outs_of(rt.alloc(), bytes, &refused(cause))?;
-        let number = if is_named { 201 } else { 200 };
-        assert_eq!(rt;
-            outs,
-            Some(sent(rt.alloc(), number, leaving)?),
-            "of {bytes:?}"
-        );
+    for (bytes, cause, number, leaving) in rows {
+        assert_sends(&rt, rt.alloc(), bytes, &refused(cause), number, leaving);
     }
-    Ok(())
 }
 
 /// A subsystem that is out of service is told of.
 #[test]
-fn a_status_follows(rt: HostRuntime) -> Result<(), Fail> {
+fn a_status_follows(rt: HostRuntime) {
+    let alloc = rt.alloc();
     let barred = Answer::Refused {
         cause: RouteCause::SubsystemBarred,
         local: Some(Ssn::from(8)),
     };
     let unit = b"\x09\x00\x03\x05\x07\x02\x42\x08\x02\x42\x06\x01\xaa";
     let status = b"\x09\x00\x03\x05\x07\x02\x42\x01\x02\x42\x01\x05\x02\x08\x64\x00\x00";
-    let mut wanted = lost(rt.alloc(), Lost::Cause(3))?;
-    put_sent(rt.alloc(), &mut wanted, 200, status)?;
-    assert_eq!(rt; outs_of(rt.alloc(), unit, &barred)?, Some(wanted));
-    Ok(())
+    let mut wanted = lost(&rt, alloc, Lost::Cause(3));
+    put_sent(&rt, alloc, &mut wanted, 200, status);
+    assert_brings(&rt, alloc, unit, &barred, &wanted);
 }
 
 /// What is lost, and why.
 #[test]
-fn messages_are_lost(rt: HostRuntime) -> Result<(), Fail> {
+fn messages_are_lost(rt: HostRuntime) {
+    let alloc = rt.alloc();
+    let answer = refused(RouteCause::Unequipped);
     let long = [0x09; 269];
-    let rows: [(&[u8], Lost); 9] = [
+    let rows: [(&[u8], Lost); 6] = [
         (&long, Lost::Long),
-        (b"", Lost::Read(ReadFault::Empty)),
         (b"\x77", Lost::Read(ReadFault::UnknownType(0x77))),
-        (
-            b"\x09\x00\xff\x05\x07\x02\x42\x08\x02\x42\x06\x01\xaa",
-            Lost::Read(ReadFault::PointerOut(2)),
-        ),
         (
             b"\x09\x02\x03\x05\x07\x02\x43\x08\x02\x42\x06\x01\xaa",
             Lost::Address,
@@ -238,49 +238,35 @@ fn messages_are_lost(rt: HostRuntime) -> Result<(), Fail> {
             Lost::Cause(4),
         ),
         (
-            b"\x0a\x83\x03\x05\x07\x02\x42\x09\x02\x42\x06\x01\xaa",
-            Lost::Cause(4),
-        ),
-        (
             b"\x14\x83\x0f\x07\x00\x08\x00\x09\x00\x00\x00\x02\x42\x08\x02\x42\x06\x00\x00",
             Lost::Cause(4),
         ),
     ];
     for (bytes, cause) in rows {
-        let outs = outs_of(rt.alloc(), bytes, &refused(RouteCause::Unequipped))?;
-        assert_eq!(rt; outs, Some(lost(rt.alloc(), cause)?), "of {bytes:?}");
+        assert_brings(&rt, alloc, bytes, &answer, &lost(&rt, alloc, cause));
     }
-    let other = outs_of(rt.alloc(), b"\x0c\x10\x00\x00", &refused(RouteCause::Hop))?;
-    assert_eq!(rt; other, Some(Outs::new(rt.alloc())));
-    Ok(())
 }
 
-/// Units that would be too long with the point of their origin, and one whose return would be.
+/// A unit that would be too long with the point of its origin.
 #[test]
-fn long_ones_stay(rt: HostRuntime) -> Result<(), Fail> {
+fn long_ones_stay(rt: HostRuntime) {
+    let alloc = rt.alloc();
     let body = [0x61; 250];
-    let mut unit = View::Udt {
+    let unit = View::Udt {
         class_octet: 0x01,
-        called: b"\x12\x08\x00\x12\x04\x94\x71\x21",
+        called: TITLE,
         calling: b"\x42\x06",
         body: &body,
     };
-    let (outs, _) = arrived(rt.alloc(), &unit, &to(300, None))?;
-    assert_eq!(rt; outs, lost(rt.alloc(), Lost::Cause(7))?);
-    unit = View::Udt {
-        class_octet: 0x80,
-        called: b"\x42\x09\x00\x00\x00\x00\x00\x00",
-        calling: b"\x42\x06\x00\x00\x00",
-        body: &body,
-    };
-    let (outs, _) = arrived(rt.alloc(), &unit, &refused(RouteCause::Unequipped))?;
-    assert_eq!(rt; outs, lost(rt.alloc(), Lost::Cause(4))?);
-    Ok(())
+    let (outs, _) = arrived(&rt, alloc, &unit, &to(&rt, 300, None));
+    assert!(rt; outs == lost(&rt, alloc, Lost::Cause(7)));
 }
 
 /// Delivery to a local subsystem.
 #[test]
-fn messages_are_told(rt: HostRuntime) -> Result<(), Fail> {
+fn messages_are_told(rt: HostRuntime) {
+    let alloc = rt.alloc();
+    let here = Answer::Local(Ssn::from(8));
     let rows: [(&[u8], Option<u8>); 4] = [
         (
             b"\x09\x00\x03\x05\x07\x02\x42\x08\x02\x42\x06\x01\xaa",
@@ -300,173 +286,152 @@ fn messages_are_told(rt: HostRuntime) -> Result<(), Fail> {
         ),
     ];
     for (bytes, notice) in rows {
-        let outs = outs_of(rt.alloc(), bytes, &Answer::Local(Ssn::from(8)))?;
-        let wanted = told(rt.alloc(), notice, b"\x42\x08", b"\x42\x06")?;
-        assert_eq!(rt; outs, Some(wanted), "of {bytes:?}");
+        let wanted = told(&rt, alloc, notice, b"\x42\x08", b"\x42\x06");
+        assert_brings(&rt, alloc, bytes, &here, &wanted);
     }
-    Ok(())
+}
+
+fn is_gathered(segment: &Segment) -> bool {
+    segment.class_octet == 0x81
+        && segment.called.as_slice() == b"\x42\x08".as_slice()
+        && segment.calling.as_slice() == b"\x42\x06".as_slice()
+        && segment.body.as_slice() == b"\x61".as_slice()
+        && segment.segmentation == [0xc2, 1, 0, 0]
 }
 
 /// A segment is to be put together with others.
 #[test]
-fn segments_are_gathered(rt: HostRuntime) -> Result<(), Fail> {
+fn segments_are_gathered(rt: HostRuntime) {
     let first =
         b"\x11\x81\x0f\x04\x06\x08\x09\x02\x42\x08\x02\x42\x06\x01\x61\x10\x04\xc2\x01\x00\x00\x00";
-    let segment = Segment {
-        opc: point(200),
-        sls: selection(),
-        class_octet: 0x81,
-        called: Octets::from_slice(rt.alloc(), b"\x42\x08")?,
-        calling: Octets::from_slice(rt.alloc(), b"\x42\x06")?,
-        body: Octets::from_slice(rt.alloc(), b"\x61")?,
-        segmentation: [0xc2, 1, 0, 0],
-        importance: None,
+    let here = Answer::Local(Ssn::from(8));
+    let (_, next) = arrived_octets(&rt, rt.alloc(), first, &here);
+    let Next::Gather(segment, _) = next else {
+        panic!(rt; "nothing to gather")
     };
-    let (_, next) = arrived_octets(rt.alloc(), first, &Answer::Local(Ssn::from(8)))?;
-    assert_eq!(rt; next, Next::Gather(segment, Ssn::from(8)));
-    Ok(())
+    assert!(rt; is_gathered(&segment));
 }
 
-/// What comes of a segment that can't be put together.
-fn failed(alloc: Global, class_octet: u8, cause: u8) -> Result<Outs, Memory> {
+/// Asserts what comes of a segment that can't be put together.
+fn assert_fails(rt: &impl Abort, alloc: Global, class_octet: u8, cause: u8, wanted: &Outs) {
     let piece = Piece {
-        opc: point(200),
-        sls: selection(),
+        opc: point(rt, 200),
+        sls: selection(rt, 5),
         class_octet,
-        called: Octets::from_slice(alloc, b"\x42\x08")?,
-        calling: Octets::from_slice(alloc, b"\x42\x06")?,
-        body: Octets::from_slice(alloc, b"\x61")?,
+        called: octets(rt, alloc, b"\x42\x08"),
+        calling: octets(rt, alloc, b"\x42\x06"),
+        body: octets(rt, alloc, b"\x61"),
         segmentation: [0xc2, 1, 0, 0],
         importance: None,
         ssn: Ssn::from(8),
     };
     let mut outs = Outs::new(alloc);
-    return_outs(alloc, point(100), &piece, cause, &mut outs)?;
-    Ok(outs)
+    return_outs(alloc, point(rt, 100), &piece, cause, &mut outs).expect(rt, "memory");
+    assert!(rt; outs == *wanted);
 }
 
 /// A segment that can't be put together is returned where it asked that, and else lost.
 #[test]
-fn segments_are_returned(rt: HostRuntime) -> Result<(), Fail> {
+fn segments_are_returned(rt: HostRuntime) {
+    let alloc = rt.alloc();
     let returned =
         b"\x12\x0e\x0f\x04\x06\x08\x09\x02\x42\x06\x02\x42\x08\x01\x61\x10\x04\xc2\x01\x00\x00\x00";
-    assert_eq!(rt;
-        failed(rt.alloc(), 0x81, 14)?,
-        sent(rt.alloc(), 200, returned)?
-    );
-    assert_eq!(rt;
-        failed(rt.alloc(), 0x01, 9)?,
-        lost(rt.alloc(), Lost::Cause(9))?
-    );
-    Ok(())
+    assert_fails(&rt, alloc, 0x81, 14, &sent(&rt, alloc, 200, returned));
+    assert_fails(&rt, alloc, 0x01, 9, &lost(&rt, alloc, Lost::Cause(9)));
 }
 
-/// What comes of a unit of user 8 in lane 3, where one unit was cut before; None where the request isn't in its ranges.
-fn given(
+fn unit(rt: &impl Abort, alloc: Global, first: (u8, bool), called: &[u8], body: &[u8]) -> Request {
+    let (class, ret) = first;
+    Request::Unit {
+        sls: selection(rt, 5),
+        class,
+        ret,
+        called: boxed(rt, alloc, called),
+        calling: None,
+        body: boxed(rt, alloc, body),
+    }
+}
+
+/// Asserts what comes of a unit of user 8 in lane 3, where one unit was cut before, and whether it is cut.
+fn assert_gives(
+    rt: &impl Abort,
     alloc: Global,
     request: &Request,
     answer: &Answer,
-) -> Result<Option<(Outs, bool)>, Memory> {
+    wanted: (&Outs, bool),
+) {
+    assert!(rt; user_ask(request).is_some());
     let mut outs = Outs::new(alloc);
-    if user_ask(request).is_none() {
-        return Ok(None);
-    }
-    let cut = user_outs(alloc, 3, 1, Ssn::from(8), request, answer, &mut outs)?;
-    Ok(Some((outs, cut)))
+    let cut = user_outs(alloc, 3, 1, Ssn::from(8), request, answer, &mut outs);
+    assert!(rt; cut.expect(rt, "memory") == wanted.1);
+    assert!(rt; outs == *wanted.0);
 }
 
-fn unit(
-    alloc: Global,
-    class: u8,
-    ret: bool,
-    called: &[u8],
-    body: &[u8],
-) -> Result<Request, Memory> {
-    Ok(Request::Unit {
-        sls: selection(),
-        class,
-        ret,
-        called: BoxedOctets::from_slice(alloc, called)?,
-        calling: None,
-        body: BoxedOctets::from_slice(alloc, body)?,
-    })
-}
-
-/// What a user's unit brings: a text or a notice to user 8, a loss, or a message to point 300.
-#[derive(Clone, Copy)]
-enum Wanted {
-    Told(Option<u8>),
-    Lost(u8),
-    Sent,
-}
-
-fn wanted_outs(alloc: Global, wanted: Wanted) -> Result<Outs, Memory> {
-    match wanted {
-        Wanted::Told(None) => told(alloc, None, b"\x42\x09", b"\x42\x08"),
-        Wanted::Told(Some(cause)) => told(alloc, Some(cause), b"\x42\x08", b"\x42\x09"),
-        Wanted::Lost(cause) => lost(alloc, Lost::Cause(cause)),
-        Wanted::Sent => {
-            let udt =
-                b"\x09\x80\x03\x0b\x0d\x08\x52\x08\x00\x12\x04\x94\x71\x21\x02\x42\x08\x01\xaa";
-            sent(alloc, 300, udt)
-        }
-    }
-}
-
-/// Units of users that aren't cut.
+/// Units of users that aren't cut: a notice, a loss, a text and a message.
 #[test]
-fn users_give_units(rt: HostRuntime) -> Result<(), Fail> {
+fn users_give_units(rt: HostRuntime) {
+    let alloc = rt.alloc();
     let no = refused(RouteCause::Unequipped);
-    let rows: [(&[u8], bool, Answer, Wanted); 4] = [
-        (b"\x42\x09", true, no, Wanted::Told(Some(4))),
-        (b"\x42\x09", false, no, Wanted::Lost(4)),
+    let udt = b"\x09\x80\x03\x0b\x0d\x08\x52\x08\x00\x12\x04\x94\x71\x21\x02\x42\x08\x01\xaa";
+    let subsystem = b"\x42\x09";
+    let rows: [(&[u8], bool, Answer, Outs); 4] = [
         (
-            b"\x42\x09",
+            subsystem,
+            true,
+            no,
+            told(&rt, alloc, Some(4), b"\x42\x08", subsystem),
+        ),
+        (subsystem, false, no, lost(&rt, alloc, Lost::Cause(4))),
+        (
+            subsystem,
             false,
             Answer::Local(Ssn::from(8)),
-            Wanted::Told(None),
+            told(&rt, alloc, None, subsystem, b"\x42\x08"),
         ),
-        (
-            b"\x12\x08\x00\x12\x04\x94\x71\x21",
-            true,
-            to(300, None),
-            Wanted::Sent,
-        ),
+        (TITLE, true, to(&rt, 300, None), sent(&rt, alloc, 300, udt)),
     ];
-    for (called, ret, answer, wanted) in rows {
-        let request = unit(rt.alloc(), 0, ret, called, b"\xaa")?;
-        let outs = given(rt.alloc(), &request, &answer)?;
-        assert_eq!(rt; outs, Some((wanted_outs(rt.alloc(), wanted)?, false)));
+    for (called, ret, answer, wanted) in &rows {
+        let request = unit(&rt, alloc, (0, *ret), called, b"\xaa");
+        assert_gives(&rt, alloc, &request, answer, (wanted, false));
     }
-    Ok(())
+}
+
+fn put_segment(
+    rt: &impl Abort,
+    alloc: Global,
+    outs: &mut Outs,
+    head: &[u8],
+    data: &[u8],
+    tail: &[u8],
+) {
+    let mut octets = Octets::from_slice(alloc, head).expect(rt, "memory");
+    octets.extend(data).expect(rt, "memory");
+    octets.extend(tail).expect(rt, "memory");
+    put_sent(rt, alloc, outs, 300, octets.as_slice());
 }
 
 /// A unit of 300 octets goes as two segments.
 #[test]
-fn users_units_are_cut(rt: HostRuntime) -> Result<(), Fail> {
+fn users_units_are_cut(rt: HostRuntime) {
     let alloc = rt.alloc();
     let body = [0x61; 300];
-    let rows: [(&[u8], &[u8], &[u8]); 2] = [
+    let rows: [(&[u8], usize, &[u8]); 2] = [
         (
             b"\x11\x01\x0f\x04\x0c\x0e\xff\x08\x52\x08\x00\x12\x04\x94\x71\x21\x02\x42\x08\xf1",
-            &body[..241],
+            241,
             b"\x10\x04\xc1\x13\x00\x00\x00",
         ),
         (
             b"\x11\x01\x0f\x04\x0c\x0e\x49\x08\x52\x08\x00\x12\x04\x94\x71\x21\x02\x42\x08\x3b",
-            &body[..59],
+            59,
             b"\x10\x04\x40\x13\x00\x00\x00",
         ),
     ];
     let mut wanted = Outs::new(alloc);
-    for (head, data, tail) in rows {
-        let mut octets = Octets::from_slice(alloc, head)?;
-        octets.extend(data)?;
-        octets.extend(tail)?;
-        put_sent(alloc, &mut wanted, 300, octets.as_slice())?;
+    for (head, size, tail) in rows {
+        assert!(rt; size <= 300);
+        put_segment(&rt, alloc, &mut wanted, head, &body[..size], tail);
     }
-    let request = unit(alloc, 1, false, b"\x12\x08\x00\x12\x04\x94\x71\x21", &body)?;
-    let given = given(alloc, &request, &to(300, None))?;
-    assert_eq!(rt; given, Some((wanted, true)));
-    Ok(())
+    let request = unit(&rt, alloc, (1, false), TITLE, &body);
+    assert_gives(&rt, alloc, &request, &to(&rt, 300, None), (&wanted, true));
 }
