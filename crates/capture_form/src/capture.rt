@@ -15,7 +15,7 @@ use relay_base::Memory;
 use std::alloc::Global;
 
 /// What a capture holds.
-#[derive(Debug, PartialEq, Eq, Drop)]
+#[derive(PartialEq, Eq, Drop)]
 pub struct Capture {
     pub head: Head,
     pub phases: PhaseList,

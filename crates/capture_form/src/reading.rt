@@ -14,7 +14,7 @@ pub type PhaseList = PlainList<Phase>;
 
 /// What was read so far: the phases that ended, the one that stands, its number, that of the next line, and how many
 /// events there are, and ticks among them.
-#[derive(Debug, Drop)]
+#[derive(Drop)]
 pub struct Reading {
     pub phases: PhaseList,
     pub current: Phase,

@@ -6,7 +6,7 @@ use crate::fault::LineKind;
 use std::alloc::AllocError;
 
 /// Why a line is not read: what is wrong with it, or memory ran out.
-#[derive(Debug, Drop)]
+#[derive(Drop)]
 pub enum LineRefused {
     Kind(LineKind),
     Memory,

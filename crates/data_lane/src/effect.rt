@@ -15,7 +15,7 @@ use routing_control::route;
 use std::alloc::Global;
 
 /// What is left to do with the reassemblies.
-#[derive(Debug, Drop)]
+#[derive(Drop)]
 pub enum Work {
     Nothing,
     /// A segment is taken.
@@ -25,7 +25,7 @@ pub enum Work {
 }
 
 /// What comes of an event before the reassemblies have it.
-#[derive(Debug, Drop)]
+#[derive(Drop)]
 pub struct Effect {
     pub outs: Outs,
     /// A user's unit was cut into segments.

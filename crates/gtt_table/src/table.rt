@@ -13,7 +13,7 @@ use std::alloc::Global;
 use std::marker::Model;
 
 /// Rows of which no two have one selector and one prefix, at most 4,096.
-#[derive(Debug, Drop)]
+#[derive(Drop)]
 pub struct Table {
     rows: Vec<Row>,
 }

@@ -9,7 +9,7 @@ use relay_base::{Memory, Octets};
 use std::alloc::{AllocError, Global};
 
 /// The journals of the control lane, the connection lanes and the data lanes.
-#[derive(Debug, PartialEq, Eq, Drop)]
+#[derive(PartialEq, Eq, Drop)]
 pub struct Book {
     pub control: ControlList,
     pub conns: JournalList,

@@ -9,7 +9,7 @@ use std::slice;
 
 /// The edition at which a phase was opened, and the changes that were published since. All lanes read the routing data of the control
 /// lane, so no other copy is kept.
-#[derive(Debug, Drop)]
+#[derive(Drop)]
 pub struct PhaseChanges {
     pub first: u64,
     pub changes: PlainList<Change>,

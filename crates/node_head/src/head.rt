@@ -7,7 +7,7 @@ use relay_base::{Pc, PcList, PlainList, SsnList};
 pub type RowList = PlainList<Row>;
 
 /// What the head of a capture states.
-#[derive(Debug, PartialEq, Eq, Drop)]
+#[derive(PartialEq, Eq, Drop)]
 pub struct Head {
     /// The own point code.
     pub point: Pc,

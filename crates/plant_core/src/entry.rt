@@ -13,7 +13,7 @@ pub struct Asked {
 }
 
 /// What a lane did with one event: the routing where it asked for one, and what came of it.
-#[derive(Clone, Debug, PartialEq, Eq, Drop)]
+#[derive(PartialEq, Eq, Drop)]
 pub struct Entry {
     pub stamp: Stamp,
     pub event: Event,
@@ -22,14 +22,14 @@ pub struct Entry {
 }
 
 /// What the control lane takes.
-#[derive(Clone, Debug, PartialEq, Eq, Drop)]
+#[derive(Clone, PartialEq, Eq, Drop)]
 pub enum ControlEvent {
     Plain(Event),
     Change(Change),
 }
 
 /// What the control lane did with one event: the number of the edition that it published, where it did, and what came of it.
-#[derive(Clone, Debug, PartialEq, Eq, Drop)]
+#[derive(PartialEq, Eq, Drop)]
 pub struct ControlEntry {
     pub stamp: Stamp,
     pub event: ControlEvent,

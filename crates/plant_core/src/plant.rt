@@ -20,7 +20,7 @@ use std::marker::Model;
 
 /// The routing data of a node: its point and users, the rows of the translation, and which points, subsystems of other points
 /// and users are out of service; with the number of the edition.
-#[derive(Debug, Drop)]
+#[derive(Drop)]
 pub struct Plant {
     own: Pc,
     users: Vec<Ssn>,

@@ -11,7 +11,7 @@ pub struct Stamp {
 }
 
 /// What a lane takes.
-#[derive(Clone, Debug, PartialEq, Eq, Drop)]
+#[derive(Clone, PartialEq, Eq, Drop)]
 pub enum Event {
     Message { opc: Pc, sls: Sls, bytes: Octets },
     Asked { ssn: Ssn, request: Request },
@@ -19,7 +19,7 @@ pub enum Event {
 }
 
 /// What a user asks for.
-#[derive(Clone, Debug, PartialEq, Eq, Drop)]
+#[derive(Clone, PartialEq, Eq, Drop)]
 pub enum Request {
     Unit {
         sls: Sls,
@@ -70,7 +70,7 @@ pub enum Request {
 }
 
 /// What a user is told.
-#[derive(Clone, Debug, PartialEq, Eq, Drop)]
+#[derive(Clone, PartialEq, Eq, Drop)]
 pub enum Tell {
     Unit {
         class: u8,
@@ -190,7 +190,7 @@ pub enum Lost {
 }
 
 /// What a step gives.
-#[derive(Clone, Debug, PartialEq, Eq, Drop)]
+#[derive(PartialEq, Eq, Drop)]
 pub enum Output {
     Sent { point: Pc, sls: Sls, bytes: Octets },
     Told { ssn: Ssn, tell: Tell },

@@ -45,7 +45,7 @@ impl Act {
 }
 
 /// What comes of an event.
-#[derive(Debug, Drop)]
+#[derive(Drop)]
 pub struct Effect {
     pub outs: Outs,
     pub act: Act,

@@ -4,7 +4,7 @@ use relay_base::{PcList, SsnList};
 
 /// What the control lane is made with: the users, the points that are told of their service in this order, their replicates, at most one for each,
 /// and the ticks of the timers.
-#[derive(Clone, Debug, PartialEq, Eq, Drop)]
+#[derive(Clone, Drop)]
 pub struct ControlHead {
     pub users: SsnList,
     pub concerned: PcList,

@@ -12,7 +12,7 @@ use section_model::{Acted, Cell, Hand, Input, Kept, SectionState, WireHead};
 use std::alloc::Global;
 
 /// What a connection section keeps beside its head: what its release says when it is sent again.
-#[derive(Debug, Drop)]
+#[derive(Drop)]
 pub struct Line {
     pub kept: Kept,
 }

@@ -16,7 +16,7 @@ use std::alloc::Global;
 use std::marker::Model;
 
 /// The flow control of a section of class 3, and its expedited data.
-#[derive(Debug, Drop)]
+#[derive(Drop)]
 pub struct Windows {
     pub(crate) flow: Flow,
     /// Expedited data of the other end that has not left.

@@ -15,7 +15,7 @@ use section_user::UserSide;
 use std::alloc::Global;
 
 /// What a user gave in class 3 since the counts were cleared: the units, and how many of them left. Only clauses count them.
-#[derive(Debug, Drop)]
+#[derive(Drop)]
 pub struct Given {
     pub got: UnitList,
     pub passed: u64,

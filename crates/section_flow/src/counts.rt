@@ -8,7 +8,7 @@ use section_model::Unit;
 pub type UnitList = PlainList<Unit>;
 
 /// The counts of a section as whole numbers, since they were last cleared: what clauses read where the code holds remainders.
-#[derive(Debug, Drop)]
+#[derive(Drop)]
 pub struct Counts {
     /// The units that came in.
     pub got: UnitList,

@@ -24,7 +24,7 @@ const OUT_OF_WINDOW: u8 = 0x04;
 const WRONG_FIRST_NUMBER: u8 = 0x05;
 
 /// The flow control of a section: its credits, its counts, and the units of the other end that wait.
-#[derive(Debug, Drop)]
+#[derive(Drop)]
 pub struct Flow {
     agreed: u8,
     credit: u8,

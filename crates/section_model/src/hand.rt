@@ -6,7 +6,7 @@ use relay_base::{Memory, Octets, Output, Outs, PlainList};
 use std::alloc::Global;
 
 /// A unit of data of 1 to 255 octets, and whether more of its text follows.
-#[derive(Debug, Drop)]
+#[derive(Drop)]
 pub struct Unit {
     pub more: bool,
     pub body: Octets,
@@ -14,7 +14,7 @@ pub struct Unit {
 
 /// An effect on the other end. Called addresses have 0 to 255 octets, the data of `Accept`, `Refuse` and `End` 1 to 128, those of a unit
 /// 1 to 255, expedited data 1 to 32.
-#[derive(Debug, Drop)]
+#[derive(Drop)]
 pub enum Hand {
     Accept {
         class: u8,
@@ -56,7 +56,7 @@ pub enum Hand {
 pub type HandList = PlainList<Hand>;
 
 /// What an end does: the effects that the other end takes before its outputs, the outputs, and the effects that it takes after them.
-#[derive(Debug, Drop)]
+#[derive(Drop)]
 pub struct Acted {
     pub first: HandList,
     pub outs: Outs,
@@ -104,7 +104,7 @@ impl Acted {
 }
 
 /// What a repeated release says: its cause, its data of 1 to 128 octets, and its importance.
-#[derive(Debug, Drop)]
+#[derive(Drop)]
 pub struct Kept {
     pub cause: u8,
     pub body: Option<Octets>,

@@ -1,6 +1,7 @@
 //! Connections of both classes for a subsystem of this node, and a confirmation that no connection hears.
 ghost use Rattle.std.specs.Prelude.{◌≡◌};
 
+use crate::outputs::assert_outs;
 use plant_core::{Answer, Terms, Ticks};
 use relay_base::{
     BoxedOctets, Event, Memory, Octets, Output, Outs, Pc, Ref24, Request, Sls, Ssn, Tell,
@@ -106,7 +107,7 @@ fn a_connection_carries_data(rt: HostRuntime) -> Result<(), Fail> {
         calling: None,
         body: None,
     };
-    assert_eq!(rt; offered.outs, told(alloc, offer)?);
+    assert_outs(&rt, &offered.outs, &told(alloc, offer)?);
     assert_eq!(rt; offered.duo.wakes(), u64::MAX);
 
     let accept = Event::Asked {
@@ -121,10 +122,7 @@ fn a_connection_carries_data(rt: HostRuntime) -> Result<(), Fail> {
     let Some(accepted) = heard(&offered.duo, &accept)? else {
         panic!(rt; "an acceptance is not heard");
     };
-    assert_eq!(rt;
-        accepted.outs,
-        sent(alloc, b"\x02\x01\x00\x00\x10\x00\x00\x02\x00")?
-    );
+    assert_outs(&rt, &accepted.outs, &sent(alloc, b"\x02\x01\x00\x00\x10\x00\x00\x02\x00")?);
     assert_eq!(rt; accepted.duo.wakes(), 420);
 
     let data = message(alloc, b"\x06\x10\x00\x00\x00\x01\x01\x61")?;
@@ -135,7 +133,7 @@ fn a_connection_carries_data(rt: HostRuntime) -> Result<(), Fail> {
         mine: reference(),
         body: Octets::from_slice(alloc, b"a")?,
     };
-    assert_eq!(rt; carried.outs, told(alloc, text)?);
+    assert_outs(&rt, &carried.outs, &told(alloc, text)?);
 
     let other = message(alloc, b"\x06\x11\x00\x00\x00\x01\x01\x61")?;
     assert!(rt; !carried.duo.hears(&other));
@@ -184,23 +182,17 @@ fn a_window_closes_and_opens(rt: HostRuntime) -> Result<(), Fail> {
     let Some(first) = heard(&accepted.duo, &send(alloc, 0x61)?)? else {
         panic!(rt; "a unit is not heard");
     };
-    assert_eq!(rt;
-        first.outs,
-        sent(alloc, b"\x07\x07\x00\x00\x00\x00\x01\x01\x61")?
-    );
+    assert_outs(&rt, &first.outs, &sent(alloc, b"\x07\x07\x00\x00\x00\x00\x01\x01\x61")?);
     let Some(second) = heard(&first.duo, &send(alloc, 0x62)?)? else {
         panic!(rt; "a unit is not heard");
     };
-    assert_eq!(rt; second.outs, Outs::new(alloc));
+    assert_outs(&rt, &second.outs, &Outs::new(alloc));
     assert_eq!(rt; second.duo.wakes(), 420);
     let acknowledgement = message(alloc, b"\x08\x10\x00\x00\x02\x01")?;
     let Some(third) = heard(&second.duo, &acknowledgement)? else {
         panic!(rt; "an acknowledgement is not heard");
     };
-    assert_eq!(rt;
-        third.outs,
-        sent(alloc, b"\x07\x07\x00\x00\x02\x00\x01\x01\x62")?
-    );
+    assert_outs(&rt, &third.outs, &sent(alloc, b"\x07\x07\x00\x00\x02\x00\x01\x01\x62")?);
     Ok(())
 }
 
@@ -210,6 +202,6 @@ fn a_stray_confirmation_is_an_error(rt: HostRuntime) -> Result<(), Fail> {
     let confirmation = message(alloc, b"\x02\x30\x00\x00\x09\x00\x00\x02\x00")?;
     let mut outs = Outs::new(alloc);
     stray(alloc, &confirmation, &mut outs)?;
-    assert_eq!(rt; outs, sent(alloc, b"\x0f\x09\x00\x00\x00")?);
+    assert_outs(&rt, &outs, &sent(alloc, b"\x0f\x09\x00\x00\x00")?);
     Ok(())
 }

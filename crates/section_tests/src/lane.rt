@@ -1,6 +1,7 @@
 //! Worked rows of a connection lane: a connection of class 2 for a subsystem of this node, a tick, and messages to references that nobody has.
 ghost use Rattle.std.specs.Prelude.{◌≡◌};
 
+use crate::outputs::assert_outs;
 use conn_lane::ConnLane;
 use plant_core::{LaneHead, Plant, Terms, Ticks};
 use relay_base::{
@@ -8,6 +9,7 @@ use relay_base::{
     Tell,
 };
 use std::alloc::Global;
+use std::process::Abort;
 use std::test::Fail;
 
 /// How many events the lane of a test takes at most.
@@ -57,8 +59,13 @@ impl Scene {
         Ok(Scene { plant, lane })
     }
 
-    /// What comes of an event.
-    fn outcome(&mut self, event: &Event) -> Result<Outs, Memory> {
+    /// Takes an event, and compares its outputs.
+    fn assert_outcome(
+        &mut self,
+        rt: &impl Abort,
+        event: &Event,
+        wanted: &Outs,
+    ) -> Result<(), Memory> {
         if self.lane.journal().len() >= MOST_EVENTS {
             return Err(Memory);
         }
@@ -68,10 +75,9 @@ impl Scene {
             line: 4,
         };
         self.lane.step(&self.plant, stamp, event)?;
-        match self.lane.journal().as_slice().last() {
-            Some(entry) => Ok(entry.outs.clone()?),
-            None => Err(Memory),
-        }
+        let entry = self.lane.journal().as_slice().last().ok_or(Memory)?;
+        assert_outs(rt, &entry.outs, wanted);
+        Ok(())
     }
 }
 
@@ -140,20 +146,20 @@ fn carries_a_connection(rt: HostRuntime) -> Result<(), Fail> {
     let mut scene = Scene::new(alloc)?;
 
     let request = message(alloc, b"\x01\x01\x00\x00\x02\x02\x00\x02\x42\x08")?;
-    assert_eq!(rt; scene.outcome(&request)?, offered(alloc)?);
+    scene.assert_outcome(&rt, &request, &offered(alloc)?)?;
 
     let confirmation = sent(alloc, b"\x02\x01\x00\x00\x10\x00\x00\x02\x00")?;
-    assert_eq!(rt; scene.outcome(&acceptance(alloc))?, confirmation);
+    scene.assert_outcome(&rt, &acceptance(alloc), &confirmation)?;
 
-    assert_eq!(rt; scene.outcome(&Event::Tick)?, Outs::new(alloc));
+    scene.assert_outcome(&rt, &Event::Tick, &Outs::new(alloc))?;
 
     let release = message(alloc, b"\x04\x07\x00\x00\x05\x00\x00\x00\x00")?;
     let complete = sent(alloc, b"\x05\x05\x00\x00\x07\x00\x00")?;
-    assert_eq!(rt; scene.outcome(&release)?, complete);
+    scene.assert_outcome(&rt, &release, &complete)?;
 
     let data = message(alloc, b"\x06\x09\x00\x00\x00\x01\x01\x61")?;
     let stray = single(alloc, Output::Lost(Lost::Stray))?;
-    assert_eq!(rt; scene.outcome(&data)?, stray);
+    scene.assert_outcome(&rt, &data, &stray)?;
 
     let Scene { lane, .. } = scene;
     assert_eq!(rt; lane.into_journal().len(), 5);

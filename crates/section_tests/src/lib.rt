@@ -12,6 +12,8 @@ mod lane;
 #[cfg(test)]
 mod line;
 #[cfg(test)]
+mod outputs;
+#[cfg(test)]
 mod user_side;
 #[cfg(test)]
 mod windows;

@@ -104,11 +104,14 @@ fn hand(alloc: Global, hands: Hands) -> Result<Hand, Memory>
 }
 
 /// What the section gives and hands on, its state behind, and the cause that it keeps.
-fn played(
-    alloc: Global,
-    cell: Cell,
-    input: &Input<'_>,
-) -> Result<(Outs, Hands, SectionState, u8), Memory>
+type Behind = (Outs, Hands, SectionState, u8);
+
+fn assert_behind(rt: &impl Abort, behind: &Behind, wanted: &Behind) {
+    assert!(rt; behind == wanted);
+}
+
+/// What comes of an input in a section that is up.
+fn played(alloc: Global, cell: Cell, input: &Input<'_>) -> Result<Behind, Memory>
     requires { InputWithin input.now }
 {
     let (mut wire, mut line) = section()?;
@@ -130,7 +133,7 @@ fn hear(rt: &impl Abort, alloc: Global, rows: &[Heard]) -> Result<(), Fail> {
         };
         let behind = played(alloc, *cell, &Input::Event(&event))?;
         let wanted = (outs(alloc, *gives)?, *wanted, *state, *kept);
-        assert_eq!(rt; behind, wanted);
+        assert_behind(rt, &behind, &wanted);
     }
     Ok(())
 }
@@ -312,7 +315,8 @@ fn timers_fire(rt: HostRuntime) -> Result<(), Fail> {
     ];
     for (cell, gives, wanted, state, kept) in rows {
         let behind = played(rt.alloc(), cell, &Input::Timer(2))?;
-        assert_eq!(rt; behind, (outs(rt.alloc(), gives)?, wanted, state, kept));
+        let wanted = (outs(rt.alloc(), gives)?, wanted, state, kept);
+        assert_behind(&rt, &behind, &wanted);
     }
     Ok(())
 }
@@ -361,7 +365,7 @@ fn effects_are_taken(rt: HostRuntime) -> Result<(), Fail> {
         let hand = hand(rt.alloc(), comes)?;
         let behind = played(rt.alloc(), cell, &Input::Hand(&hand))?;
         let wanted = (outs(rt.alloc(), gives)?, Hands::Nothing, state, kept);
-        assert_eq!(rt; behind, wanted);
+        assert_behind(&rt, &behind, &wanted);
     }
     Ok(())
 }
@@ -371,7 +375,7 @@ fn effects_are_taken(rt: HostRuntime) -> Result<(), Fail> {
 fn turns_pass(rt: HostRuntime) -> Result<(), Fail> {
     let behind = played(rt.alloc(), Cell::Acknowledge, &Input::Turn)?;
     let wanted = (Outs::new(rt.alloc()), Hands::Nothing, SectionState::Up, 3);
-    assert_eq!(rt; behind, wanted);
+    assert_behind(&rt, &behind, &wanted);
     let (_, line) = section()?;
     assert_eq!(rt; line.copy()?.kept.cause, 3);
     Ok(())

@@ -1,4 +1,5 @@
 //! Worked examples of a user's end.
+use crate::outputs::assert_outs;
 use relay_base::{Event, Memory, Octets, Output, PlainList, Ref24, Request, Ssn, Tell};
 use section_model::{Acted, Cell, Hand, HandList, Input, UserState};
 use section_user::UserSide;
@@ -110,7 +111,7 @@ fn texts_are_told(rt: HostRuntime) -> Result<(), Fail> {
         mine: reference(),
         body: Octets::from_slice(alloc, b"abc")?,
     };
-    assert_eq!(rt; last.outs, told(alloc, tell)?);
+    assert_outs(&rt, &last.outs, &told(alloc, tell)?);
     assert!(rt; side.text.is_empty());
     assert_eq!(rt; last.then.len(), 1);
     Ok(())
@@ -126,7 +127,7 @@ fn long_texts_end(rt: HostRuntime) -> Result<(), Fail> {
         mine: reference(),
         body: octets(alloc, 8_192)?,
     };
-    assert_eq!(rt; done.outs, told(alloc, tell)?);
+    assert_outs(&rt, &done.outs, &told(alloc, tell)?);
 
     let mut long = end_with(UserState::Ready, octets(alloc, 8_192)?);
     let done = unit_came(&mut long, alloc, true, octets(alloc, 1)?)?;
@@ -135,7 +136,7 @@ fn long_texts_end(rt: HostRuntime) -> Result<(), Fail> {
         cause: 7,
         body: None,
     };
-    assert_eq!(rt; done.outs, told(alloc, tell)?);
+    assert_outs(&rt, &done.outs, &told(alloc, tell)?);
     assert_eq!(rt; long.state, UserState::Gone);
     let ends = matches!(
         done.first.as_slice(),

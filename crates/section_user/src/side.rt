@@ -13,7 +13,7 @@ use std::alloc::Global;
 
 /// A user's end of a connection: its subsystem, the reference of the section at the other end, its state, the class (2 or 3) and the
 /// credit (0 to 127) that were offered or agreed on, and what is put together of a text (0 to 8,192 octets).
-#[derive(Debug, Drop)]
+#[derive(Drop)]
 pub struct UserSide {
     pub ssn: Ssn,
     pub mine: Ref24,

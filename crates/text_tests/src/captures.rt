@@ -18,6 +18,14 @@ fn capture_of(alloc: Global, line: &str) -> Result<Capture, CaptureFault> {
     read_capture(alloc, text.as_bytes())
 }
 
+/// Compares the phases of a capture that was read.
+fn assert_phases(rt: &impl Abort, read: Result<Capture, CaptureFault>, wanted: &PhaseList) {
+    match read {
+        Ok(capture) => assert!(rt; capture.phases == *wanted),
+        Err(fault) => assert_eq!(rt; Some(fault), None),
+    }
+}
+
 /// The fault of a line after a head of three lines; none where it is read.
 fn fault_of(alloc: Global, line: &str) -> Option<CaptureFault> {
     capture_of(alloc, line).err()
@@ -438,10 +446,7 @@ fn phases(rt: HostRuntime) -> Result<(), Fail> {
     let text =
         b"point = 100\r\nusers = [8]\r\n# of the head\r\n%%\r\n#none\r\n\r\nm 1 200 0000000005 -\r\nt\r\n  u  1 8 unit 15 1 r 4209 - Aa \r\nw\r\n\r\n  t \n w\n# w\nm 01 16383 0 77\n\nw";
     let wanted = four_phases(rt.alloc())?;
-    match read_capture(rt.alloc(), text.as_slice()) {
-        Ok(capture) => assert_eq!(rt; capture.phases, wanted),
-        Err(fault) => assert_eq!(rt; Some(fault), None),
-    }
+    assert_phases(&rt, read_capture(rt.alloc(), text.as_slice()), &wanted);
     Ok(())
 }
 
@@ -551,10 +556,7 @@ u 1 8 ed 16777215 05
 u 1 8 reset 16777215
 u 1 8 disc 16777215 254 -";
     let wanted = requests_wanted(rt.alloc())?;
-    match capture_of(rt.alloc(), lines) {
-        Ok(capture) => assert_eq!(rt; capture.phases, wanted),
-        Err(fault) => assert_eq!(rt; Some(fault), None),
-    }
+    assert_phases(&rt, capture_of(rt.alloc(), lines), &wanted);
     Ok(())
 }
 
@@ -634,10 +636,7 @@ u 1 8 grant 100
 m 1 200 5 090003050702420102420601aa
 m 1 200 5 01010000030200024208";
     let wanted = one_phase(rt.alloc(), changes(rt.alloc())?, plain_events(rt.alloc())?)?;
-    match capture_of(rt.alloc(), lines) {
-        Ok(capture) => assert_eq!(rt; capture.phases, wanted),
-        Err(fault) => assert_eq!(rt; Some(fault), None),
-    }
+    assert_phases(&rt, capture_of(rt.alloc(), lines), &wanted);
     Ok(())
 }
 

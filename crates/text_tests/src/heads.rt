@@ -18,7 +18,7 @@ fn fault_of(alloc: Global, text: &str) -> Result<String, Fail> {
             format!(in alloc; "{:?} {key}", fault.kind)?
         }
         Err(HeadRefused::Memory) => format!(in alloc; "memory")?,
-        Ok(head) => format!(in alloc; "{head:?}")?,
+        Ok(head) => format!(in alloc; "the head of point {}", head.point.number())?,
     })
 }
 

@@ -61,9 +61,9 @@ fn as_the_text_is_read(rt: HostRuntime) -> Result<(), Fail> {
         (2_147_483_648, 1_203),
     ] {
         let text = text_of(alloc, number, lines)?;
-        let read = read_capture(alloc, text.as_bytes());
+        let read = read_capture(alloc, text.as_bytes()).ok();
         let made = generated(alloc, number as u32, lines as u32)?;
-        assert_eq!(rt; read, Ok(made), "number {number}, {lines} lines");
+        assert!(rt; read == Some(made), "number {number}, {lines} lines");
     }
     Ok(())
 }
