@@ -1,4 +1,5 @@
 //! Addresses of worked messages, read and spelt again.
+use crate::same::assert_same;
 use relay_base::{Pc, Ssn};
 use sccp_address::{Address, AddressFault, Selector, Title, parse, selector, spell};
 use std::test::Fail;
@@ -71,21 +72,22 @@ fn selects_by_the_title(rt: HostRuntime) {
     let Ok(title) = parse(b"\x12\x08\x00\x12\x04\x94\x71\x21") else {
         panic!(rt; "a title")
     };
-    assert_eq!(rt; title.ssn, Some(Ssn::from(8)));
+    assert_same(&rt, &title.ssn, &Some(Ssn::from(8)));
     assert!(rt; !title.on_ssn);
     let Some((found, digits)) = selector(&title) else {
         panic!(rt; "a selector")
     };
-    assert_eq!(rt;
-        found,
-        Selector {
+    assert_same(
+        &rt,
+        &found,
+        &Selector {
             gti: 4,
             tt: 0,
             np: 1,
-            nai: 4
-        }
+            nai: 4,
+        },
     );
-    assert_eq!(rt; digits.as_slice(), [4, 9, 1, 7, 1, 2].as_slice());
+    assert_same(&rt, &digits.as_slice(), &[4, 9, 1, 7, 1, 2].as_slice());
 
     let other = Address {
         point: Pc::new(200),

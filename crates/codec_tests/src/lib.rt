@@ -6,4 +6,6 @@ mod addresses;
 #[cfg(test)]
 mod messages;
 #[cfg(test)]
+mod same;
+#[cfg(test)]
 mod streams;

@@ -1,4 +1,5 @@
 //! Messages of the worked examples, read, owned and written again, the faults of changed messages, and the bounds of a pointer.
+use crate::same::assert_same;
 use q713_codec::{Message, length, own, read, write};
 use relay_base::{Octets, ReadFault};
 use std::alloc::Global;
@@ -40,9 +41,9 @@ fn messages_are_written_as_they_were_read(rt: HostRuntime) -> Result<(), Fail> {
         };
         let message = own(rt.alloc(), &view)?;
         assert!(rt; message.in_range());
-        assert_eq!(rt; length(&message), octets.len());
+        assert_same(&rt, &length(&message), &octets.len());
         let written = write(rt.alloc(), &message)?;
-        assert_eq!(rt; written.as_slice(), octets);
+        assert_same(&rt, &written.as_slice(), &octets);
     }
     Ok(())
 }
@@ -59,26 +60,37 @@ fn fault(octets: &[u8]) -> Option<ReadFault> {
 #[test]
 fn faults_are_the_first_ones(rt: HostRuntime) {
     let unitdata = b"\x09\x00\x03\x05\x07\x02\x42\x08\x02\x42\x06\x01\xaa";
-    assert_eq!(rt; fault(&unitdata[..0]), Some(ReadFault::Empty));
+    assert_same(&rt, &fault(&unitdata[..0]), &Some(ReadFault::Empty));
     for n in [1, 2, 3, 4, 6, 7, 9, 10, 12] {
-        assert_eq!(rt; fault(&unitdata[..n]), Some(ReadFault::Short));
+        assert_same(&rt, &fault(&unitdata[..n]), &Some(ReadFault::Short));
     }
-    assert_eq!(rt; fault(&unitdata[..5]), Some(ReadFault::PointerOut(2)));
-    assert_eq!(rt; fault(&unitdata[..8]), Some(ReadFault::PointerOut(3)));
-    assert_eq!(rt; fault(&unitdata[..11]), Some(ReadFault::PointerOut(4)));
-    assert_eq!(rt; fault(unitdata), None);
-    assert_eq!(rt;
-        fault(b"\x09\x00\xff\x05\x07\x02\x42\x08\x02\x42\x06\x01\xaa"),
-        Some(ReadFault::PointerOut(2))
+    assert_same(&rt, &fault(&unitdata[..5]), &Some(ReadFault::PointerOut(2)));
+    assert_same(&rt, &fault(&unitdata[..8]), &Some(ReadFault::PointerOut(3)));
+    assert_same(
+        &rt,
+        &fault(&unitdata[..11]),
+        &Some(ReadFault::PointerOut(4)),
     );
-    assert_eq!(rt;
-        fault(b"\x09\x00\x03\x05\x07\xff\x42\x08\x02\x42\x06\x01\xaa"),
-        Some(ReadFault::Short)
+    assert_same(&rt, &fault(unitdata), &None);
+    assert_same(
+        &rt,
+        &fault(b"\x09\x00\xff\x05\x07\x02\x42\x08\x02\x42\x06\x01\xaa"),
+        &Some(ReadFault::PointerOut(2)),
     );
-    assert_eq!(rt; fault(b"\x77\x00\x03"), Some(ReadFault::UnknownType(0x77)));
-    assert_eq!(rt;
-        fault(b"\x0b\x10\x00\x00\x01\x00"),
-        Some(ReadFault::ValueLength(0x0F))
+    assert_same(
+        &rt,
+        &fault(b"\x09\x00\x03\x05\x07\xff\x42\x08\x02\x42\x06\x01\xaa"),
+        &Some(ReadFault::Short),
+    );
+    assert_same(
+        &rt,
+        &fault(b"\x77\x00\x03"),
+        &Some(ReadFault::UnknownType(0x77)),
+    );
+    assert_same(
+        &rt,
+        &fault(b"\x0b\x10\x00\x00\x01\x00"),
+        &Some(ReadFault::ValueLength(0x0F)),
     );
 }
 
@@ -268,7 +280,7 @@ fn long_addresses_may_not_be_written(rt: HostRuntime) -> Result<(), Fail> {
             calling: Octets::from_slice(rt.alloc(), &octets[..calling])?,
             body: Octets::from_slice(rt.alloc(), &octets[..255])?,
         };
-        assert_eq!(rt; message.in_range(), wanted);
+        assert_same(&rt, &message.in_range(), &wanted);
     }
     Ok(())
 }

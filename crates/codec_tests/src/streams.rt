@@ -1,6 +1,7 @@
 //! Whole streams over devices that give little at a time, and that fail.
 ghost use Rattle.std.specs.Prelude.{◌≡◌, ◌<◌, ◌≤◌};
 
+use crate::same::assert_same;
 use relay_base::{
     BoxedOctets, Digit, Digits, Failed, MemSink, MemSource, Octets, ReadAllFault, Sink, Source,
     StdSink, StdSource, read_all, write_all,
@@ -34,12 +35,16 @@ fn sink_of(alloc: Global, fails: &[u64]) -> Result<MemSink, AllocError> {
 fn reads_whole_streams(rt: HostRuntime) -> Result<(), Fail> {
     let alloc = rt.alloc();
     let all = read_all(alloc, &mut source_of(alloc, &[])?, 5)?;
-    assert_eq!(rt; all.as_slice(), b"abcde".as_slice());
+    assert_same(&rt, &all.as_slice(), &b"abcde".as_slice());
     let few = read_all(alloc, &mut source_of(alloc, &[])?, 4);
-    assert_eq!(rt; few, Err(ReadAllFault::TooLong));
+    assert_same(&rt, &few, &Err(ReadAllFault::TooLong));
     for call in 1..=4 {
         let mut source = source_of(alloc, &[call])?;
-        assert_eq!(rt; read_all(alloc, &mut source, 9), Err(ReadAllFault::Fault));
+        assert_same(
+            &rt,
+            &read_all(alloc, &mut source, 9),
+            &Err(ReadAllFault::Fault),
+        );
         assert_eq!(rt; source.faults, 1, "at call {call}");
     }
     Ok(())
@@ -49,11 +54,11 @@ fn reads_whole_streams(rt: HostRuntime) -> Result<(), Fail> {
 fn writes_whole_pieces(rt: HostRuntime) -> Result<(), Fail> {
     let alloc = rt.alloc();
     let mut sink = sink_of(alloc, &[])?;
-    assert_eq!(rt; write_all(&mut sink, b"abcde"), Ok(()));
-    assert_eq!(rt; sink.held.as_slice(), b"abcde".as_slice());
+    assert_same(&rt, &write_all(&mut sink, b"abcde"), &Ok(()));
+    assert_same(&rt, &sink.held.as_slice(), &b"abcde".as_slice());
     let mut sink = sink_of(alloc, &[3])?;
-    assert_eq!(rt; write_all(&mut sink, b"abcde"), Err(Failed));
-    assert_eq!(rt; sink.held.as_slice(), b"abcd".as_slice());
+    assert_same(&rt, &write_all(&mut sink, b"abcde"), &Err(Failed));
+    assert_same(&rt, &sink.held.as_slice(), &b"abcd".as_slice());
     Ok(())
 }
 
@@ -84,28 +89,28 @@ fn std_devices(rt: HostRuntime) -> Result<(), Fail> {
         inner: b"xy".as_slice(),
         faults: 0,
     };
-    assert_eq!(rt; source.read(&mut buf), Ok(2));
-    assert_eq!(rt; source.read(&mut buf), Ok(0));
-    assert_eq!(rt; source.faults, 0);
+    assert_same(&rt, &source.read(&mut buf), &Ok(2));
+    assert_same(&rt, &source.read(&mut buf), &Ok(0));
+    assert_same(&rt, &source.faults, &0);
     let mut sink = StdSink {
         inner: Vec::new(rt.alloc()),
         faults: 0,
     };
-    assert_eq!(rt; sink.write(b"xy"), Ok(2));
-    assert_eq!(rt; sink.inner.as_slice(), b"xy".as_slice());
+    assert_same(&rt, &sink.write(b"xy"), &Ok(2));
+    assert_same(&rt, &sink.inner.as_slice(), &b"xy".as_slice());
     let mut source = StdSource {
         inner: Broken,
         faults: 0,
     };
-    assert_eq!(rt; source.read(&mut buf), Err(Failed));
-    assert_eq!(rt; source.faults, 1);
+    assert_same(&rt, &source.read(&mut buf), &Err(Failed));
+    assert_same(&rt, &source.faults, &1);
     let mut sink = StdSink {
         inner: Broken,
         faults: 0,
     };
-    assert_eq!(rt; sink.write(b"xy"), Err(Failed));
-    assert_eq!(rt; sink.write(b""), Ok(0));
-    assert_eq!(rt; sink.faults, 1);
+    assert_same(&rt, &sink.write(b"xy"), &Err(Failed));
+    assert_same(&rt, &sink.write(b""), &Ok(0));
+    assert_same(&rt, &sink.faults, &1);
     Ok(())
 }
 
@@ -119,9 +124,9 @@ fn digits_in_place(rt: HostRuntime) -> Result<(), Fail> {
         prefix = digits;
         digits.push(Digit::new(number).ok_or("a digit")?);
     }
-    assert_eq!(rt; digits.as_slice(), [4, 9, 15].as_slice());
+    assert_same(&rt, &digits.as_slice(), &[4, 9, 15].as_slice());
     assert!(rt; !prefix.starts_with(&digits));
-    assert_eq!(rt; Digit::new(16), None);
+    assert_same(&rt, &Digit::new(16), &None);
     Ok(())
 }
 
@@ -131,14 +136,14 @@ fn octets_by_their_number(rt: HostRuntime) -> Result<(), Fail> {
     let alloc = rt.alloc();
     for count in [0, 22, 23, 24, 300] {
         let mut octets = Octets::from(vec![in alloc; 0xAA; count]?);
-        assert_eq!(rt; octets.is_empty(), count == 0);
+        assert_same(&rt, &octets.is_empty(), &(count == 0));
         octets.push(0xBB)?;
         octets.extend(b"\xcc\xdd")?;
         let mut wanted = Octets::with_capacity(alloc, count)?;
         wanted.extend(vec![in alloc; 0xAA; count]?.as_slice())?;
         wanted.extend(b"\xbb\xcc\xdd")?;
-        assert_eq!(rt; octets, wanted);
-        assert_eq!(rt; octets.len(), count + 3);
+        assert_same(&rt, &octets, &wanted);
+        assert_same(&rt, &octets.len(), &(count + 3));
     }
     Ok(())
 }
@@ -148,11 +153,11 @@ fn octets_in_a_place_of_their_own(rt: HostRuntime) -> Result<(), Fail> {
     let alloc = rt.alloc();
     let few = Octets::from_optional(alloc, Some(b"\x01\x02"))?.ok_or("octets")?;
     let mut boxed = BoxedOctets::from_optional(alloc, Some(few.as_slice()))?.ok_or("octets")?;
-    assert_eq!(rt; boxed.as_slice(), few.as_slice());
+    assert_same(&rt, &boxed.as_slice(), &few.as_slice());
     let copy = boxed.clone()?;
     boxed.put(Octets::new(alloc));
-    assert_eq!(rt; boxed.as_slice(), b"".as_slice());
-    assert_eq!(rt; copy, BoxedOctets::new(alloc, few)?);
-    assert_eq!(rt; copy, BoxedOctets::from_slice(alloc, b"\x01\x02")?);
+    assert_same(&rt, &boxed.as_slice(), &b"".as_slice());
+    assert_same(&rt, &copy, &BoxedOctets::new(alloc, few)?);
+    assert_same(&rt, &copy, &BoxedOctets::from_slice(alloc, b"\x01\x02")?);
     Ok(())
 }

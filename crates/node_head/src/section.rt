@@ -129,45 +129,48 @@ pub fn refuse(alloc: Global, kind: HeadKind, key: &str) -> HeadRefused
 fn is_top_key(key: &str) -> bool
     ensures { result ≡ is_stated Place.Top key.now }
 {
-    key == "point"
-        || key == "users"
-        || key == "conn_lanes"
-        || key == "data_lanes"
-        || key == "links"
-        || key == "credit"
-        || key == "concerned"
-        || key == "timers"
-        || key == "row"
-        || key == "replicate"
+    matches!(
+        key,
+        "point"
+            | "users"
+            | "conn_lanes"
+            | "data_lanes"
+            | "links"
+            | "credit"
+            | "concerned"
+            | "timers"
+            | "row"
+            | "replicate"
+    )
 }
 
 fn is_timer_key(key: &str) -> bool
     ensures { result ≡ is_stated Place.Timers key.now }
 {
-    key == "connect"
-        || key == "ias"
-        || key == "iar"
-        || key == "rel"
-        || key == "repeat"
-        || key == "int"
-        || key == "reset"
-        || key == "reassembly"
-        || key == "freeze"
-        || key == "status"
-        || key == "status_max"
-        || key == "coord"
+    matches!(
+        key,
+        "connect"
+            | "ias"
+            | "iar"
+            | "rel"
+            | "repeat"
+            | "int"
+            | "reset"
+            | "reassembly"
+            | "freeze"
+            | "status"
+            | "status_max"
+            | "coord"
+    )
 }
 
 fn is_row_key(key: &str) -> bool
     ensures { result ≡ is_stated (Place.Nth TableArray.Rows 1) key.now }
 {
-    key == "gti"
-        || key == "tt"
-        || key == "np"
-        || key == "nai"
-        || key == "digits"
-        || key == "first"
-        || key == "second"
+    matches!(
+        key,
+        "gti" | "tt" | "np" | "nai" | "digits" | "first" | "second"
+    )
 }
 
 fn is_replicate_key(key: &str) -> bool

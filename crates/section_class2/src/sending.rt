@@ -29,14 +29,14 @@ pub fn copied(octets: &Option<Octets>) -> Result<Option<Octets>, Memory>
 }
 
 /// A message on a section.
-pub fn sent_on(alloc: Global, wire: &WireHead, message: &Message) -> Result<Output, Memory>
-    requires { InRange message.now }
-    ensures { IfOk result (λ output. output ≡ sent_on (section_of wire.now) message.now) }
+pub fn sent_on(alloc: Global, wire: &WireHead, message: Message) -> Result<Output, Memory>
+    requires { InRange message }
+    ensures { IfOk result (λ output. output ≡ sent_on (section_of wire.now) message) }
 {
     Ok(Output::Sent {
         point: wire.point,
         sls: wire.sls,
-        bytes: write(alloc, message)?,
+        bytes: write(alloc, &message)?,
     })
 }
 
@@ -52,7 +52,7 @@ pub fn rlsd(alloc: Global, wire: &WireHead, kept: &Kept) -> Result<Output, Memor
         body: copied(&kept.body)?,
         importance: kept.importance,
     };
-    sent_on(alloc, wire, &message)
+    sent_on(alloc, wire, message)
 }
 
 /// RLC.
@@ -63,7 +63,7 @@ pub fn rlc(alloc: Global, wire: &WireHead) -> Result<Output, Memory>
         dlr: wire.other,
         slr: wire.mine,
     };
-    sent_on(alloc, wire, &message)
+    sent_on(alloc, wire, message)
 }
 
 /// IT, with no sequence numbers.
@@ -77,7 +77,7 @@ pub fn test(alloc: Global, wire: &WireHead) -> Result<Output, Memory>
         sequencing: [0, 0],
         credit: wire.credit,
     };
-    sent_on(alloc, wire, &message)
+    sent_on(alloc, wire, message)
 }
 
 /// CC of a class; the credit stands in it in class 3 alone.
@@ -104,7 +104,7 @@ pub fn confirmation(
         body: copied(body)?,
         importance,
     };
-    sent_on(alloc, wire, &message)
+    sent_on(alloc, wire, message)
 }
 
 /// CREF.
@@ -127,7 +127,7 @@ pub fn refusal(
         body: copied(body)?,
         importance,
     };
-    sent_on(alloc, wire, &message)
+    sent_on(alloc, wire, message)
 }
 
 /// DT1 with a unit of data.
@@ -140,5 +140,5 @@ pub fn data(alloc: Global, wire: &WireHead, more: bool, body: &Octets) -> Result
         segmenting: u8::from(more),
         body: copied_octets(body)?,
     };
-    sent_on(alloc, wire, &message)
+    sent_on(alloc, wire, message)
 }

@@ -28,7 +28,7 @@ pub fn numbered(
         sequencing: [2 * ps, 2 * pr + u8::from(unit.more)],
         body: copied_octets(&unit.body)?,
     };
-    sent_on(alloc, wire, &message)
+    sent_on(alloc, wire, message)
 }
 
 /// AK with P(R) below 128, and the credit that was agreed on.
@@ -41,7 +41,7 @@ pub fn acknowledgement(alloc: Global, wire: &WireHead, pr: u8) -> Result<Output,
         receive: 2 * pr,
         credit: wire.credit,
     };
-    sent_on(alloc, wire, &message)
+    sent_on(alloc, wire, message)
 }
 
 /// ED.
@@ -53,7 +53,7 @@ pub fn expedited(alloc: Global, wire: &WireHead, body: &Octets) -> Result<Output
         dlr: wire.other,
         body: copied_octets(body)?,
     };
-    sent_on(alloc, wire, &message)
+    sent_on(alloc, wire, message)
 }
 
 /// EA.
@@ -61,7 +61,7 @@ pub fn expedited_acknowledgement(alloc: Global, wire: &WireHead) -> Result<Outpu
     ensures { IfOk result (λ output. output ≡ sent_on (section_of wire.now) (Ea wire.now.other)) }
 {
     let message = Message::Ea { dlr: wire.other };
-    sent_on(alloc, wire, &message)
+    sent_on(alloc, wire, message)
 }
 
 /// RSR.
@@ -73,7 +73,7 @@ pub fn reset_request(alloc: Global, wire: &WireHead, cause: u8) -> Result<Output
         slr: wire.mine,
         cause,
     };
-    sent_on(alloc, wire, &message)
+    sent_on(alloc, wire, message)
 }
 
 /// RSC.
@@ -84,7 +84,7 @@ pub fn reset_confirmation(alloc: Global, wire: &WireHead) -> Result<Output, Memo
         dlr: wire.other,
         slr: wire.mine,
     };
-    sent_on(alloc, wire, &message)
+    sent_on(alloc, wire, message)
 }
 
 /// IT with P(S) and P(R) below 128.
@@ -99,5 +99,5 @@ pub fn test(alloc: Global, wire: &WireHead, ps: u8, pr: u8) -> Result<Output, Me
         sequencing: [2 * ps, 2 * pr],
         credit: wire.credit,
     };
-    sent_on(alloc, wire, &message)
+    sent_on(alloc, wire, message)
 }

@@ -246,7 +246,7 @@ fn refused(alloc: Global, incoming: &Incoming<'_>, cause: u8) -> Result<Outs, Me
         body: None,
         importance: None,
     };
-    let output = sent(alloc, incoming.point, incoming.wanted.sls, &message)?;
+    let output = sent(alloc, incoming.point, incoming.wanted.sls, message)?;
     single(alloc, output)
 }
 
@@ -301,7 +301,7 @@ fn sent_onward(
     ensures { IfOk result (λ output. (from slr : ℕ) → output ≡ Sent to.now.point wanted.now.sls (spelling_of (onward (seen_wanted terms.now from slr wanted.now) to.now.rewrite.now to.now.hop mine))) }
 {
     let message = onward(alloc, terms, wanted, to, mine)?;
-    sent(alloc, to.point, wanted.sls, &message)
+    sent(alloc, to.point, wanted.sls, message)
 }
 
 /// CR for a subsystem of this node.

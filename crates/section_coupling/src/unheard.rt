@@ -48,11 +48,11 @@ pub fn is_in_range(request: &Request) -> bool
 }
 
 /// A message that goes to a point.
-pub fn sent(alloc: Global, point: Pc, sls: Sls, message: &Message) -> Result<Output, Memory>
-    requires { InRange message.now }
-    ensures { IfOk result (λ output. output ≡ Sent point sls (spelling_of message.now)) }
+pub fn sent(alloc: Global, point: Pc, sls: Sls, message: Message) -> Result<Output, Memory>
+    requires { InRange message }
+    ensures { IfOk result (λ output. output ≡ Sent point sls (spelling_of message)) }
 {
-    let bytes = write(alloc, message)?;
+    let bytes = write(alloc, &message)?;
     Ok(Output::Sent { point, sls, bytes })
 }
 
@@ -64,11 +64,11 @@ fn answer(alloc: Global, point: Pc, sls: Sls, view: &View<'_>) -> Result<Option<
     match *view {
         View::Cc { slr, .. } | View::Rsr { slr, .. } | View::It { slr, .. } => {
             let error = Message::Err { dlr: slr, cause: 0 };
-            Ok(Some(sent(alloc, point, sls, &error)?))
+            Ok(Some(sent(alloc, point, sls, error)?))
         }
         View::Rlsd { dlr, slr, .. } => {
             let complete = Message::Rlc { dlr: slr, slr: dlr };
-            Ok(Some(sent(alloc, point, sls, &complete)?))
+            Ok(Some(sent(alloc, point, sls, complete)?))
         }
         View::Cref { .. } | View::Rlc { .. } | View::Rsc { .. } | View::Err { .. } => {
             Ok(Some(Output::Lost(Lost::Stray)))

@@ -1,4 +1,5 @@
 //! The flow control of a section: what comes in, what leaves, and the numbers past 128.
+use crate::same::assert_same;
 use relay_base::{Memory, Octets};
 use section_flow::Flow;
 use section_model::Unit;
@@ -36,16 +37,16 @@ fn units_come_in(rt: HostRuntime) -> Result<(), Fail> {
         (2, 1, Err(0x04)),
     ];
     for (ps, pr, wanted) in rows {
-        assert_eq!(rt; flow.accept(ps, pr, false, b"a"), wanted);
+        assert_same(&rt, &flow.accept(ps, pr, false, b"a"), &wanted);
     }
-    assert_eq!(rt; flow.due(), None);
+    assert_same(&rt, &flow.due(), &None);
     flow.left(1);
-    assert_eq!(rt; flow.due(), Some(1));
+    assert_same(&rt, &flow.due(), &Some(1));
     flow.left(9);
-    assert_eq!(rt; flow.due(), Some(2));
+    assert_same(&rt, &flow.due(), &Some(2));
     flow.tell();
-    assert_eq!(rt; flow.due(), None);
-    assert_eq!(rt; flow.accept(2, 0, false, b"a"), Ok(()));
+    assert_same(&rt, &flow.due(), &None);
+    assert_same(&rt, &flow.accept(2, 0, false, b"a"), &Ok(()));
     Ok(())
 }
 
@@ -65,10 +66,10 @@ fn units_leave(rt: HostRuntime) -> Result<(), Fail> {
         (4, 2, Ok(()), [Some((4, 0, 5)), None, None]),
     ];
     for (pr, credit, taken, left) in rows {
-        assert_eq!(rt; flow.acknowledge(pr, credit), taken);
+        assert_same(&rt, &flow.acknowledge(pr, credit), &taken);
         for wanted in left {
-            assert_eq!(rt; flow.sendable() > 0, wanted.is_some());
-            assert_eq!(rt; next(&mut flow), wanted);
+            assert_same(&rt, &(flow.sendable() > 0), &wanted.is_some());
+            assert_same(&rt, &next(&mut flow), &wanted);
         }
     }
     Ok(())
@@ -79,18 +80,20 @@ fn counts_are_copied_and_cleared(rt: HostRuntime) -> Result<(), Fail> {
     let mut flow = Flow::new(rt.alloc(), 2);
     wait(rt.alloc(), &mut flow, 1)?;
     wait(rt.alloc(), &mut flow, 2)?;
-    assert_eq!(rt; next(&mut flow), Some((0, 0, 1)));
+    assert_same(&rt, &next(&mut flow), &Some((0, 0, 1)));
     let mut copy = flow.copy()?;
     flow.clear();
-    assert_eq!(rt;
-        (flow.waiting(), flow.send_number(), flow.receive_number()),
-        (0, 0, 0)
+    assert_same(
+        &rt,
+        &(flow.waiting(), flow.send_number(), flow.receive_number()),
+        &(0, 0, 0),
     );
-    assert_eq!(rt;
-        (copy.waiting(), copy.send_number(), copy.receive_number()),
-        (1, 1, 0)
+    assert_same(
+        &rt,
+        &(copy.waiting(), copy.send_number(), copy.receive_number()),
+        &(1, 1, 0),
     );
-    assert_eq!(rt; next(&mut copy), Some((1, 0, 2)));
+    assert_same(&rt, &next(&mut copy), &Some((1, 0, 2)));
     Ok(())
 }
 
@@ -101,15 +104,15 @@ fn numbers_begin_anew_at_128(rt: HostRuntime) -> Result<(), Fail> {
     let mut number = 0u8;
     for _ in 0..300u16 {
         let later = number.wrapping_add(1) % 128;
-        assert_eq!(rt; flow.accept(number, number, false, b"a"), Ok(()));
+        assert_same(&rt, &flow.accept(number, number, false, b"a"), &Ok(()));
         flow.left(1);
-        assert_eq!(rt; flow.due(), Some(later));
+        assert_same(&rt, &flow.due(), &Some(later));
         flow.tell();
         wait(rt.alloc(), &mut flow, 1)?;
-        assert_eq!(rt; next(&mut flow), Some((number, later, 1)));
-        assert_eq!(rt; flow.acknowledge(later, 127), Ok(()));
+        assert_same(&rt, &next(&mut flow), &Some((number, later, 1)));
+        assert_same(&rt, &flow.acknowledge(later, 127), &Ok(()));
         number = later;
     }
-    assert_eq!(rt; number, 44);
+    assert_same(&rt, &number, &44);
     Ok(())
 }

@@ -14,6 +14,8 @@ mod line;
 #[cfg(test)]
 mod outputs;
 #[cfg(test)]
+mod same;
+#[cfg(test)]
 mod user_side;
 #[cfg(test)]
 mod windows;

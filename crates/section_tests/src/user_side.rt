@@ -1,5 +1,6 @@
 //! Worked examples of a user's end.
 use crate::outputs::assert_outs;
+use crate::same::assert_same;
 use relay_base::{Event, Memory, Octets, Output, PlainList, Ref24, Request, Ssn, Tell};
 use section_model::{Acted, Cell, Hand, HandList, Input, UserState};
 use section_user::UserSide;
@@ -105,7 +106,7 @@ fn texts_are_told(rt: HostRuntime) -> Result<(), Fail> {
     let mut side = end_with(UserState::Ready, Octets::new(alloc));
     let first = unit_came(&mut side, alloc, true, Octets::from_slice(alloc, b"ab")?)?;
     assert!(rt; first.outs.is_empty());
-    assert_eq!(rt; side.copy()?.text, Octets::from_slice(alloc, b"ab")?);
+    assert_same(&rt, &side.copy()?.text, &Octets::from_slice(alloc, b"ab")?);
     let last = unit_came(&mut side, alloc, false, Octets::from_slice(alloc, b"c")?)?;
     let tell = Tell::Text {
         mine: reference(),
@@ -113,7 +114,7 @@ fn texts_are_told(rt: HostRuntime) -> Result<(), Fail> {
     };
     assert_outs(&rt, &last.outs, &told(alloc, tell)?);
     assert!(rt; side.text.is_empty());
-    assert_eq!(rt; last.then.len(), 1);
+    assert_same(&rt, &last.then.len(), &1);
     Ok(())
 }
 
@@ -137,7 +138,7 @@ fn long_texts_end(rt: HostRuntime) -> Result<(), Fail> {
         body: None,
     };
     assert_outs(&rt, &done.outs, &told(alloc, tell)?);
-    assert_eq!(rt; long.state, UserState::Gone);
+    assert_same(&rt, &long.state, &UserState::Gone);
     let ends = matches!(
         done.first.as_slice(),
         [Hand::End {
@@ -163,7 +164,7 @@ fn credits_are_agreed(rt: HostRuntime) -> Result<(), Fail> {
             body: Octets::new(alloc),
         };
         let done = asked(&mut side, alloc, Cell::UserAccepts, request)?;
-        assert_eq!(rt; side.state, UserState::Ready);
+        assert_same(&rt, &side.state, &UserState::Ready);
         assert_eq!(rt; (side.class, side.credit), (class, agreed), "of {credit}");
         assert!(rt; matches!(done.then.as_slice(), [Hand::Accept { body: None, .. }]));
     }

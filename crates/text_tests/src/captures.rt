@@ -86,6 +86,11 @@ fn first_other<'a>(alloc: Global, kind: LineKind, lines: &'a str) -> Option<&'a 
     None
 }
 
+/// Each of these lines alone has a fault of this kind.
+fn assert_all(rt: &impl Abort, alloc: Global, kind: LineKind, lines: &str) {
+    assert_eq!(rt; first_other(alloc, kind, lines), None);
+}
+
 /// The words as a whole are tested first; then the leftmost faulty word decides.
 #[test]
 fn line_faults(rt: HostRuntime) {
@@ -108,7 +113,7 @@ u 1 8 unit 5 0 rr 4209 - aa
 t 1
 t t
 T";
-    assert_eq!(rt; first_other(rt.alloc(), LineKind::Words, lines), None);
+    assert_all(&rt, rt.alloc(), LineKind::Words, lines);
     let lines = "m 0 200 5 -
 m 2 200 5 0
 m 00000000001 200 5 -
@@ -123,13 +128,13 @@ m 1 -1 5 -
 m 1 0x1 5 -
 m 1 200 16 0b1000000100
 m 1 200 00000000005 -";
-    assert_eq!(rt; first_other(rt.alloc(), LineKind::Number, lines), None);
+    assert_all(&rt, rt.alloc(), LineKind::Number, lines);
     let lines = "m 1 200 5 0
 m 1 200 5 0b100000010
 m 1 200 5 0g
 m 1 200 5 0x
 m 1 200 5 --";
-    assert_eq!(rt; first_other(rt.alloc(), LineKind::Hex, lines), None);
+    assert_all(&rt, rt.alloc(), LineKind::Hex, lines);
 }
 
 /// Requests for units.
@@ -142,16 +147,16 @@ u 1 8 unit 16 0 r - 0 0
 u 1 8 unit 5 2 r - 0 0
 u 1 8 unit 5 3 r 4209 - aa
 u 1 8 unit 5 4294967296 r 4209 - aa";
-    assert_eq!(rt; first_other(rt.alloc(), LineKind::Number, lines), None);
+    assert_all(&rt, rt.alloc(), LineKind::Number, lines);
     let lines = "u 1 9 unit 16 2 r - 0 0
 u 1 255 unit 5 0 r 4209 - aa
 u 1 1 unit 5 0 r 4209 - aa";
-    assert_eq!(rt; first_other(rt.alloc(), LineKind::User, lines), None);
+    assert_all(&rt, rt.alloc(), LineKind::User, lines);
     let lines = "u 1 8 unit 5 0 r 420 42 0
 u 1 8 unit 5 0 - 4209 0 0
 u 1 8 unit 5 0 - 4209 - 0
 u 1 8 unit 5 0 - 4209 4208 r";
-    assert_eq!(rt; first_other(rt.alloc(), LineKind::Hex, lines), None);
+    assert_all(&rt, rt.alloc(), LineKind::Hex, lines);
     let lines = "u 1 8 unit 5 0 r - 0 0
 u 1 8 unit 5 0 r 42 0 0
 u 1 8 unit 5 0 r 4101 0 0
@@ -159,7 +164,7 @@ u 1 8 unit 5 0 r 12080012 - aa
 u 1 8 unit 5 0 r 1208001104 - aa
 u 1 8 unit 5 0 - 4209 42 0
 u 1 8 unit 5 0 - 4209 12080012 aa";
-    assert_eq!(rt; first_other(rt.alloc(), LineKind::Address, lines), None);
+    assert_all(&rt, rt.alloc(), LineKind::Address, lines);
 }
 
 /// Requests on connections: first the number of their words, then the leftmost faulty one.
@@ -175,7 +180,7 @@ u 2 9 reset
 u 2 9 reset 16777216 -
 u 2 9 disc 16777216 256
 u 2 9 Conn 65536 1 128 - 0";
-    assert_eq!(rt; first_other(rt.alloc(), LineKind::Words, lines), None);
+    assert_all(&rt, rt.alloc(), LineKind::Words, lines);
     let lines = "u 2 9 conn 65536 1 128 - 0
 u 2 9 refuse 16777216 256 0
 u 1 256 disc 16777216 256 0
@@ -195,13 +200,13 @@ u 1 8 ed 16777216 0
 u 1 8 reset 16777216
 u 1 8 disc 16777216 0 0
 u 1 8 disc 16 256 0";
-    assert_eq!(rt; first_other(rt.alloc(), LineKind::Number, lines), None);
+    assert_all(&rt, rt.alloc(), LineKind::Number, lines);
     let lines = "u 1 9 conn 65536 1 128 - 0
 u 1 9 accept 16777216 1 128 0
 u 1 9 send 16777216 0
 u 1 9 ed 16777216 0
 u 1 9 reset 16777216";
-    assert_eq!(rt; first_other(rt.alloc(), LineKind::User, lines), None);
+    assert_all(&rt, rt.alloc(), LineKind::User, lines);
     let lines = "u 1 8 conn 7 2 127 420 0
 u 1 8 conn 7 3 0 4209 0
 u 1 8 accept 16 2 127 0
@@ -209,13 +214,13 @@ u 1 8 refuse 16 255 0
 u 1 8 send 16 0
 u 1 8 ed 16 0
 u 1 8 disc 16 255 0";
-    assert_eq!(rt; first_other(rt.alloc(), LineKind::Hex, lines), None);
+    assert_all(&rt, rt.alloc(), LineKind::Hex, lines);
     let lines = "u 1 8 conn 7 2 127 - 0
 u 1 8 conn 7 3 0 12080012 0";
-    assert_eq!(rt; first_other(rt.alloc(), LineKind::Address, lines), None);
+    assert_all(&rt, rt.alloc(), LineKind::Address, lines);
     let lines = "u 1 8 send 16 -
 u 1 8 ed 16 -";
-    assert_eq!(rt; first_other(rt.alloc(), LineKind::Size, lines), None);
+    assert_all(&rt, rt.alloc(), LineKind::Size, lines);
 }
 
 /// Rows: the number of their words, then indicator, type, plan, nature, digits and entities from left to right.
@@ -230,7 +235,7 @@ e add 2 256 16 128 4g
 e add 2 256 16 128 4g x x x
 e del 2 256 16 128
 e del 2 256 16 128 4g x";
-    assert_eq!(rt; first_other(rt.alloc(), LineKind::Words, lines), None);
+    assert_all(&rt, rt.alloc(), LineKind::Words, lines);
     let lines = "e add 0 0 0 0 4g x
 e add 2 0 0 0 - 300/8/s
 e add 5 0 0 0 - 300/8/s
@@ -247,13 +252,13 @@ e add 4 255 15 128 4g x
 e del 2 0 0 0 -
 e del 1 1 0 0 4g
 e del 3 0 0 1 4g";
-    assert_eq!(rt; first_other(rt.alloc(), LineKind::Number, lines), None);
+    assert_all(&rt, rt.alloc(), LineKind::Number, lines);
     let lines = "e add 4 255 15 127 4g x
 e add 4 0 1 4 0x49 300/8/s
 e add 4 0 1 4 0123456789012345678901234 x
 e add 4 0 1 4 -- 300/8/s
 e del 4 0 1 4 4g";
-    assert_eq!(rt; first_other(rt.alloc(), LineKind::Digits, lines), None);
+    assert_all(&rt, rt.alloc(), LineKind::Digits, lines);
     let lines = "e add 4 0 1 4 - 300/8/x
 e add 4 0 1 4 49 -
 e add 4 0 1 4 49 100/8/g
@@ -263,7 +268,7 @@ e add 4 0 1 4 49 16384/8/s
 e add 4 0 1 4 49 300/256/s
 e add 4 0 1 4 49 300/8/s -
 e add 4 0 1 4 49 300/8/s 100/8/g";
-    assert_eq!(rt; first_other(rt.alloc(), LineKind::Entity, lines), None);
+    assert_all(&rt, rt.alloc(), LineKind::Entity, lines);
 }
 
 /// The status of another point, the service of a user, and coordinated state change.
@@ -282,7 +287,7 @@ s 9 in out
 u 2 9 coord 0
 u 2 9 grant
 u 2 9 grant 16384 0";
-    assert_eq!(rt; first_other(rt.alloc(), LineKind::Words, lines), None);
+    assert_all(&rt, rt.alloc(), LineKind::Words, lines);
     let lines = "p pause 16384
 p resume -
 s 256 in
@@ -290,15 +295,15 @@ s - out
 u 2 9 coord
 u 1 8 grant 16384
 u 1 8 grant -";
-    assert_eq!(rt; first_other(rt.alloc(), LineKind::Number, lines), None);
+    assert_all(&rt, rt.alloc(), LineKind::Number, lines);
     let lines = "p pause 100
 p resume 0000000100";
-    assert_eq!(rt; first_other(rt.alloc(), LineKind::Point, lines), None);
+    assert_all(&rt, rt.alloc(), LineKind::Point, lines);
     let lines = "s 255 in
 s 9 out
 u 1 9 coord
 u 1 9 grant 16384";
-    assert_eq!(rt; first_other(rt.alloc(), LineKind::User, lines), None);
+    assert_all(&rt, rt.alloc(), LineKind::User, lines);
 }
 
 /// An address has at most 40 octets, the body of a unit at most 2,560, data of one call 128, a text 8,192 and expedited data 32.

@@ -1,4 +1,5 @@
 //! Heads with each kind of fault, and what heads state.
+use crate::same::assert_same;
 use bstr::ByteSlice;
 use gtt_table::{Entity, Row};
 use node_head::{HeadRefused, digits_of, entity_of, read_head, take_head};
@@ -194,11 +195,12 @@ fn refuses_a_second_row_under_one_key(rt: HostRuntime) -> Result<(), Fail> {
 #[test]
 fn reads_the_defaults(rt: HostRuntime) -> Result<(), Fail> {
     let head = read_head(rt.alloc(), b"point = 16383\r\n%%\r\n".as_slice())?;
-    assert_eq!(rt; head.point.number(), 16_383);
+    assert_same(&rt, &head.point.number(), &16_383);
     assert!(rt; head.users.is_empty());
-    assert_eq!(rt;
-        [head.conn_lanes, head.data_lanes, head.links, head.credit],
-        [1, 1, 1, 7]
+    assert_same(
+        &rt,
+        &[head.conn_lanes, head.data_lanes, head.links, head.credit],
+        &[1, 1, 1, 7],
     );
     assert!(rt; head.concerned.is_empty());
     assert!(rt; head.row.is_empty());
@@ -217,7 +219,7 @@ fn reads_the_defaults(rt: HostRuntime) -> Result<(), Fail> {
         status_max: 600,
         coord: 90,
     };
-    assert_eq!(rt; head.timers, ticks);
+    assert_same(&rt, &head.timers, &ticks);
     Ok(())
 }
 
@@ -226,18 +228,19 @@ fn reads_the_ends_of_ranges(rt: HostRuntime) -> Result<(), Fail> {
     let text =
         b"point = 0\nusers = [254, 2]\nconn_lanes = 16\ndata_lanes = 16\nlinks = 8\ncredit = 127\nconcerned = [16383, 1]\n%%";
     let head = read_head(rt.alloc(), text.as_slice())?;
-    assert_eq!(rt; head.point.number(), 0);
+    assert_same(&rt, &head.point.number(), &0);
     let users = [Ssn::from(254), Ssn::from(2)];
-    assert_eq!(rt; head.users.as_slice(), users.as_slice());
-    assert_eq!(rt;
-        [head.conn_lanes, head.data_lanes, head.links, head.credit],
-        [16, 16, 8, 127]
+    assert_same(&rt, &head.users.as_slice(), &users.as_slice());
+    assert_same(
+        &rt,
+        &[head.conn_lanes, head.data_lanes, head.links, head.credit],
+        &[16, 16, 8, 127],
     );
     let concerned = [
         Pc::new(16_383).ok_or("a point")?,
         Pc::new(1).ok_or("a point")?,
     ];
-    assert_eq!(rt; head.concerned.as_slice(), concerned.as_slice());
+    assert_same(&rt, &head.concerned.as_slice(), &concerned.as_slice());
     Ok(())
 }
 
@@ -272,8 +275,8 @@ fn reads_rows(rt: HostRuntime) -> Result<(), Fail> {
         b"point = 100\nusers = [8]\n[[row]]\ngti = 4\nnp = 1\nnai = 4\ndigits = \"49\"\nfirst = \"300/8/s\"\n%%\nw\n";
     let mut lines = text.as_slice().lines();
     let (head, count) = take_head(alloc, &mut lines)?;
-    assert_eq!(rt; count, 8);
-    assert_eq!(rt; lines.next(), Some(b"w".as_slice()));
+    assert_same(&rt, &count, &8);
+    assert_same(&rt, &lines.next(), &Some(b"w".as_slice()));
     let row = Row {
         selector: Selector {
             gti: 4,
@@ -289,7 +292,7 @@ fn reads_rows(rt: HostRuntime) -> Result<(), Fail> {
         },
         second: None,
     };
-    assert_eq!(rt; head.row.as_slice(), [row].as_slice());
+    assert_same(&rt, &head.row.as_slice(), &[row].as_slice());
     Ok(())
 }
 
@@ -308,7 +311,7 @@ fn reads_replicates(rt: HostRuntime) -> Result<(), Fail> {
             point: Pc::new(0).ok_or("a point")?,
         },
     ];
-    assert_eq!(rt; head.replicates.as_slice(), replicates.as_slice());
+    assert_same(&rt, &head.replicates.as_slice(), &replicates.as_slice());
     Ok(())
 }
 
@@ -335,14 +338,15 @@ fn reads_entities(rt: HostRuntime) -> Result<(), Fail> {
 #[test]
 fn reads_digits(rt: HostRuntime) -> Result<(), Fail> {
     let digits = digits_of(b"0123456789abcdefABCDEF09").ok_or("no digits")?;
-    assert_eq!(rt;
-        digits.as_slice(),
-        [
-            0, 1, 2, 3, 4, 5, 6, 7, 8, 9, 10, 11, 12, 13, 14, 15, 10, 11, 12, 13, 14, 15, 0, 9
+    assert_same(
+        &rt,
+        &digits.as_slice(),
+        &[
+            0, 1, 2, 3, 4, 5, 6, 7, 8, 9, 10, 11, 12, 13, 14, 15, 10, 11, 12, 13, 14, 15, 0, 9,
         ]
-        .as_slice()
+        .as_slice(),
     );
-    assert_eq!(rt; digits_of(b"-"), None);
+    assert_same(&rt, &digits_of(b"-"), &None);
     Ok(())
 }
 

@@ -1,6 +1,7 @@
 //! The print of journals, against texts that follow from its rules alone.
 ghost use Rattle.std.specs.Prelude.{◌<◌};
 
+use crate::same::assert_same;
 use journal_text::{Book, WriteFault, print_book, write_book};
 use plant_core::{
     Answer, Asked, Change, ControlEntry, ControlEvent, ControlList, Entry, EntryList, Rewrite,
@@ -427,9 +428,10 @@ fn prints_journals(rt: HostRuntime) -> Result<(), Fail> {
     let alloc = rt.alloc();
     let mut book = Book::new(alloc);
     assert!(rt; book.is_empty());
-    assert_eq!(rt;
-        print_book(alloc, &book)?.as_slice(),
-        b"= control\n".as_slice()
+    assert_same(
+        &rt,
+        &print_book(alloc, &book)?.as_slice(),
+        &b"= control\n".as_slice(),
     );
     put_controls(alloc, &mut book.control)?;
     assert!(rt; !book.is_empty());
@@ -443,13 +445,17 @@ fn prints_journals(rt: HostRuntime) -> Result<(), Fail> {
     book.units.push(lane)?;
     book.units.push(EntryList::new(alloc))?;
     let print = print_book(alloc, &book)?;
-    assert_eq!(rt; print.as_slice(), JOURNALS.as_bytes());
+    assert_same(&rt, &print.as_slice(), &JOURNALS.as_bytes());
     let mut sink = sink_of(alloc, &[])?;
-    assert_eq!(rt; write_book(alloc, &book, &mut sink), Ok(()));
-    assert_eq!(rt; sink.held.as_slice(), print.as_slice());
+    assert_same(&rt, &write_book(alloc, &book, &mut sink), &Ok(()));
+    assert_same(&rt, &sink.held.as_slice(), &print.as_slice());
     let mut sink = sink_of(alloc, &[2])?;
-    assert_eq!(rt; write_book(alloc, &book, &mut sink), Err(WriteFault::Sink));
-    assert_eq!(rt; sink.held.as_slice(), b"= contro".as_slice());
+    assert_same(
+        &rt,
+        &write_book(alloc, &book, &mut sink),
+        &Err(WriteFault::Sink),
+    );
+    assert_same(&rt, &sink.held.as_slice(), &b"= contro".as_slice());
     Ok(())
 }
 
@@ -460,7 +466,7 @@ fn prints_outputs(rt: HostRuntime) -> Result<(), Fail> {
     let mut book = Book::new(alloc);
     book.conns.push(lane_of_outputs(alloc)?)?;
     let print = print_book(alloc, &book)?;
-    assert_eq!(rt; print.as_slice(), OUTPUTS.as_bytes());
+    assert_same(&rt, &print.as_slice(), &OUTPUTS.as_bytes());
     Ok(())
 }
 
@@ -475,7 +481,11 @@ fn writes_long_lanes(rt: HostRuntime) -> Result<(), Fail> {
     }
     book.units.push(lane)?;
     let mut sink = sink_of(alloc, &[])?;
-    assert_eq!(rt; write_book(alloc, &book, &mut sink), Ok(()));
-    assert_eq!(rt; sink.held.as_slice(), print_book(alloc, &book)?.as_slice());
+    assert_same(&rt, &write_book(alloc, &book, &mut sink), &Ok(()));
+    assert_same(
+        &rt,
+        &sink.held.as_slice(),
+        &print_book(alloc, &book)?.as_slice(),
+    );
     Ok(())
 }

@@ -11,3 +11,5 @@ mod heads;
 mod journals;
 #[cfg(test)]
 mod made;
+#[cfg(test)]
+mod same;
