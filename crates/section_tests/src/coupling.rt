@@ -8,6 +8,7 @@ use relay_base::{
 };
 use section_coupling::{Begun, Duo, Heard, ask_of, stray};
 use std::alloc::Global;
+use std::process::Abort;
 use std::test::Fail;
 
 fn terms() -> Terms
@@ -92,14 +93,18 @@ fn heard(duo: &Duo, event: &Event) -> Result<Option<Heard>, Memory> {
     Ok(Some(duo.hear(0, event)?))
 }
 
-#[test]
-fn a_connection_carries_data(rt: HostRuntime) -> Result<(), Fail> {
-    let alloc = rt.alloc();
-    let request = message(alloc, b"\x01\x01\x00\x00\x02\x02\x00\x02\x42\x08")?;
-    let Some(offered) = begun(alloc, &request)? else {
-        panic!(rt; "no connection");
+/// The connection behind an event that it hears, with these outputs.
+fn assert_heard(rt: &impl Abort, duo: &Duo, event: &Event, wanted: &Outs) -> Result<Duo, Fail> {
+    let Some(Heard { duo, outs }) = heard(duo, event)? else {
+        panic!(rt; "the event is not heard");
     };
-    let offer = Tell::Conn {
+    assert_outs(rt, &outs, wanted);
+    Ok(duo)
+}
+
+/// What user 8 is told of a request.
+fn offer(alloc: Global) -> Result<Outs, Memory> {
+    let tell = Tell::Conn {
         mine: reference(),
         class: 2,
         credit: 0,
@@ -107,36 +112,50 @@ fn a_connection_carries_data(rt: HostRuntime) -> Result<(), Fail> {
         calling: None,
         body: None,
     };
-    assert_outs(&rt, &offered.outs, &told(alloc, offer)?);
-    assert_eq!(rt; offered.duo.wakes(), u64::MAX);
+    told(alloc, tell)
+}
 
-    let accept = Event::Asked {
+/// What user 8 is told of one octet of data.
+fn text(alloc: Global, octet: u8) -> Result<Outs, Memory> {
+    let tell = Tell::Text {
+        mine: reference(),
+        body: Octets::from_slice(alloc, &[octet])?,
+    };
+    told(alloc, tell)
+}
+
+/// User 8 accepts.
+fn acceptance(alloc: Global, class: u8, credit: u8) -> Event {
+    Event::Asked {
         ssn: Ssn::from(8),
         request: Request::Accept {
             mine: reference(),
-            class: 2,
-            credit: 0,
+            class,
+            credit,
             body: Octets::new(alloc),
         },
+    }
+}
+
+#[test]
+fn a_connection_carries_data(rt: HostRuntime) -> Result<(), Fail> {
+    let alloc = rt.alloc();
+    let request = message(alloc, b"\x01\x01\x00\x00\x02\x02\x00\x02\x42\x08")?;
+    let Some(offered) = begun(alloc, &request)? else {
+        panic!(rt; "no connection");
     };
-    let Some(accepted) = heard(&offered.duo, &accept)? else {
-        panic!(rt; "an acceptance is not heard");
-    };
-    assert_outs(&rt, &accepted.outs, &sent(alloc, b"\x02\x01\x00\x00\x10\x00\x00\x02\x00")?);
-    assert_eq!(rt; accepted.duo.wakes(), 420);
+    assert_outs(&rt, &offered.outs, &offer(alloc)?);
+    assert_eq!(rt; offered.duo.wakes(), u64::MAX);
+
+    let confirmation = sent(alloc, b"\x02\x01\x00\x00\x10\x00\x00\x02\x00")?;
+    let accepted = assert_heard(&rt, &offered.duo, &acceptance(alloc, 2, 0), &confirmation)?;
+    assert_eq!(rt; accepted.wakes(), 420);
 
     let data = message(alloc, b"\x06\x10\x00\x00\x00\x01\x01\x61")?;
-    let Some(carried) = heard(&accepted.duo, &data)? else {
-        panic!(rt; "data is not heard");
-    };
-    let text = Tell::Text {
-        mine: reference(),
-        body: Octets::from_slice(alloc, b"a")?,
-    };
-    assert_outs(&rt, &carried.outs, &told(alloc, text)?);
+    let carried = assert_heard(&rt, &accepted, &data, &text(alloc, 0x61)?)?;
 
     let other = message(alloc, b"\x06\x11\x00\x00\x00\x01\x01\x61")?;
-    assert!(rt; !carried.duo.hears(&other));
+    assert!(rt; !carried.hears(&other));
     Ok(())
 }
 
@@ -157,17 +176,8 @@ fn windowed(alloc: Global) -> Result<Option<Heard>, Memory> {
         alloc,
         b"\x01\x07\x00\x00\x03\x02\x04\x02\x42\x08\x09\x01\x01\x00",
     )?;
-    let accept = Event::Asked {
-        ssn: Ssn::from(8),
-        request: Request::Accept {
-            mine: reference(),
-            class: 3,
-            credit: 1,
-            body: Octets::new(alloc),
-        },
-    };
     match begun(alloc, &request)? {
-        Some(offered) => heard(&offered.duo, &accept),
+        Some(offered) => heard(&offered.duo, &acceptance(alloc, 3, 1)),
         None => Ok(None),
     }
 }
@@ -179,20 +189,15 @@ fn a_window_closes_and_opens(rt: HostRuntime) -> Result<(), Fail> {
     let Some(accepted) = windowed(alloc)? else {
         panic!(rt; "no connection");
     };
-    let Some(first) = heard(&accepted.duo, &send(alloc, 0x61)?)? else {
-        panic!(rt; "a unit is not heard");
-    };
-    assert_outs(&rt, &first.outs, &sent(alloc, b"\x07\x07\x00\x00\x00\x00\x01\x01\x61")?);
-    let Some(second) = heard(&first.duo, &send(alloc, 0x62)?)? else {
-        panic!(rt; "a unit is not heard");
-    };
-    assert_outs(&rt, &second.outs, &Outs::new(alloc));
-    assert_eq!(rt; second.duo.wakes(), 420);
+    let unit = sent(alloc, b"\x07\x07\x00\x00\x00\x00\x01\x01\x61")?;
+    let first = assert_heard(&rt, &accepted.duo, &send(alloc, 0x61)?, &unit)?;
+
+    let second = assert_heard(&rt, &first, &send(alloc, 0x62)?, &Outs::new(alloc))?;
+    assert_eq!(rt; second.wakes(), 420);
+
     let acknowledgement = message(alloc, b"\x08\x10\x00\x00\x02\x01")?;
-    let Some(third) = heard(&second.duo, &acknowledgement)? else {
-        panic!(rt; "an acknowledgement is not heard");
-    };
-    assert_outs(&rt, &third.outs, &sent(alloc, b"\x07\x07\x00\x00\x02\x00\x01\x01\x62")?);
+    let unit = sent(alloc, b"\x07\x07\x00\x00\x02\x00\x01\x01\x62")?;
+    assert_heard(&rt, &second, &acknowledgement, &unit)?;
     Ok(())
 }
 
