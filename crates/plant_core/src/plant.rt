@@ -110,13 +110,39 @@ impl Plant {
         ensures routing { IfOk result (λ p. p.routing ≡ self.now.routing) }
         ensures edition { IfOk result (λ p. p.edition ≡ self.now.edition) }
     {
+        let out_of_service = self.out_of_service.clone()?;
+        let barred = self.barred()?;
+        self.with_statuses(out_of_service, barred)
+    }
+
+    /// What is barred at other points.
+    fn barred(&self) -> Result<(BarredPoints, BarredSubsystems), Memory>
+        ensures points { IfOk result (λ x. x.0.keys ≡ self.now.routing.barred_points) }
+        ensures subsystems { IfOk result (λ x. x.1.keys ≡ self.now.routing.barred_subsystems) }
+    {
+        let points = points_of(&self.barred_points)?;
+        Ok((points, subsystems_of(&self.barred_subsystems)?))
+    }
+
+    /// A plant with these statuses, and all else as here.
+    fn with_statuses(
+        &self,
+        out_of_service: Vec<Ssn>,
+        barred: (BarredPoints, BarredSubsystems),
+    ) -> Result<Plant, Memory>
+        ensures routing { IfOk result (λ p. p.routing ≡ record self.now.routing { barred_points = barred.0.keys; barred_subsystems = barred.1.keys; out_of_service = out_of_service.items }) }
+        ensures edition { IfOk result (λ p. p.edition ≡ self.now.edition) }
+    {
+        let users = self.users.clone()?;
+        let rows = self.rows.copy()?;
+        let (barred_points, barred_subsystems) = barred;
         Ok(Plant {
             own: self.own,
-            users: self.users.clone()?,
-            rows: self.rows.copy()?,
-            barred_points: points_of(&self.barred_points)?,
-            barred_subsystems: subsystems_of(&self.barred_subsystems)?,
-            out_of_service: self.out_of_service.clone()?,
+            users,
+            rows,
+            barred_points,
+            barred_subsystems,
+            out_of_service,
             edition: self.edition,
         })
     }
