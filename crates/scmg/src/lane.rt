@@ -1,5 +1,6 @@
 //! The control lane.
-ghost use Rattle.std.specs.Prelude.{◌≡◌, ◌+◌, ◌-◌, ◌^◌, ◌<◌, [], ◌∷◌, ◌++◌, length, None, option_to_list, IfOk, OnOk, OnErr};
+ghost use Rattle.std.specs.Prelude.{◌≡◌, ◌+◌, ◌-◌, ◌^◌, ◌<◌, [], ◌∷◌, ◌++◌, length, vec_len, None, option_to_list, IfOk, OnOk, OnErr};
+ghost use Rattle.std.specs.Vec.{vec_capacity};
 ghost use Rattle.scmg.specs.Control.{effect_of, control_after, change_of, edition_after, count_after};
 
 use crate::effect::{Act, Context, Effect};
@@ -85,8 +86,35 @@ fn publish_change<P: Publish>(
     Ok(Some(publish.publish(&change)?))
 }
 
-/// Takes all memory, publishes the change of an act, and then does it, and puts the entry at the end of the journal, with the edition that was
-/// published. After `Memory` all is as before.
+/// Takes all memory, also for one entry of the journal, publishes the change of an act, and then does it; gives the edition that was published.
+/// After `Memory` all is as before.
+fn perform<P: Publish>(
+    kept: &mut Kept,
+    journal: &mut Vec<ControlEntry>,
+    publish: &mut P,
+    ticks: &Ticks,
+    act: Act,
+) -> Result<Option<u64>, Memory>
+    requires in_step { P.first publish.old + length (P.published publish.old) ≡ kept.old.edition }
+    requires few { kept.old.edition < 4294967295 }
+    ensures control { OnOk result (kept.new.control ≡ control_after ticks.now kept.old.control act) }
+    ensures edition { OnOk result (kept.new.edition ≡ count_after kept.old.edition (change_of act)) }
+    ensures number { IfOk result (λ number. number ≡ edition_after kept.old.edition (change_of act)) }
+    ensures room { OnOk result (vec_len journal.new < vec_capacity journal.new) }
+    ensures journal { journal.new.items ≡ journal.old.items }
+    ensures published { OnOk result (P.published publish.new ≡ P.published publish.old ++ option_to_list (change_of act)) }
+    ensures first { P.first publish.new ≡ P.first publish.old }
+    ensures kept { OnErr result ((kept.new.control ≡ kept.old.control) × (kept.new.edition ≡ kept.old.edition)) }
+    ensures unpublished { OnErr result (P.published publish.new ≡ P.published publish.old) }
+{
+    kept.make_room()?;
+    journal.reserve(1)?;
+    let published = publish_change(publish, act.change())?;
+    kept.act(ticks, act)?;
+    Ok(published)
+}
+
+/// Does an act, and puts the entry at the end of the journal, with the edition that was published. After `Memory` all is as before.
 fn write<P: Publish>(
     kept: &mut Kept,
     journal: &mut Vec<ControlEntry>,
@@ -106,10 +134,7 @@ fn write<P: Publish>(
     ensures journal { OnErr result (journal.new.items ≡ journal.old.items) }
     ensures unpublished { OnErr result (P.published publish.new ≡ P.published publish.old) }
 {
-    kept.make_room()?;
-    journal.reserve(1)?;
-    let published = publish_change(publish, act.change())?;
-    kept.act(ticks, act)?;
+    let published = perform(kept, journal, publish, ticks, act)?;
     journal.push_reserved(ControlEntry { published, ..entry });
     Ok(())
 }
