@@ -358,13 +358,14 @@ fn assert_gives(
     alloc: Global,
     request: &Request,
     answer: &Answer,
-    wanted: (&Outs, bool),
+    wanted: &Outs,
+    is_cut: bool,
 ) {
     assert!(rt; user_ask(request).is_some());
     let mut outs = Outs::new(alloc);
     let cut = user_outs(alloc, 3, 1, Ssn::from(8), request, answer, &mut outs);
-    assert!(rt; cut.expect(rt, "memory") == wanted.1);
-    assert!(rt; outs == *wanted.0);
+    assert!(rt; cut.expect(rt, "memory") == is_cut);
+    assert!(rt; outs == *wanted);
 }
 
 /// Units of users that aren't cut: a notice, a loss, a text and a message.
@@ -392,7 +393,7 @@ fn users_give_units(rt: HostRuntime) {
     ];
     for (called, ret, answer, wanted) in &rows {
         let request = unit(&rt, alloc, (0, *ret), called, b"\xaa");
-        assert_gives(&rt, alloc, &request, answer, (wanted, false));
+        assert_gives(&rt, alloc, &request, answer, wanted, false);
     }
 }
 
@@ -433,5 +434,5 @@ fn users_units_are_cut(rt: HostRuntime) {
         put_segment(&rt, alloc, &mut wanted, head, &body[..size], tail);
     }
     let request = unit(&rt, alloc, (1, false), TITLE, &body);
-    assert_gives(&rt, alloc, &request, &to(&rt, 300, None), (&wanted, true));
+    assert_gives(&rt, alloc, &request, &to(&rt, 300, None), &wanted, true);
 }
