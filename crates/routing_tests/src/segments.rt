@@ -1,6 +1,6 @@
 //! Worked rows of reassembly, and the calls with ample memory.
 use crate::common::{octets, point, selection};
-use reassembly::{Bench, Now, Piece};
+use reassembly::{Bench, Now, Piece, Taken};
 use relay_base::Ssn;
 use std::alloc::Global;
 use std::process::Abort;
@@ -79,7 +79,8 @@ fn tells_the_whole(rt: HostRuntime) {
         assert_takes(&rt, &mut bench, piece, false, Word::Waiting);
     }
     let last = segment(&rt, alloc, 0x40, 1, b'c');
-    let Now::Whole(whole) = bench.take(last).expect(&rt, "memory").now else {
+    let Taken { failed: _, now } = bench.take(last).expect(&rt, "memory");
+    let Now::Whole(whole) = now else {
         panic!(rt; "not whole")
     };
     assert!(rt; whole.body.as_slice() == b"abc".as_slice());

@@ -368,33 +368,35 @@ fn assert_gives(
     assert!(rt; outs == *wanted);
 }
 
+/// Asserts what comes of a unit that isn't cut.
+fn assert_gives_one(
+    rt: &impl Abort,
+    alloc: Global,
+    called: &[u8],
+    ret: bool,
+    answer: &Answer,
+    wanted: &Outs,
+) {
+    let request = unit(rt, alloc, (0, ret), called, b"\xaa");
+    assert_gives(rt, alloc, &request, answer, wanted, false);
+}
+
 /// Units of users that aren't cut: a notice, a loss, a text and a message.
 #[test]
 fn users_give_units(rt: HostRuntime) {
     let alloc = rt.alloc();
     let no = refused(RouteCause::Unequipped);
+    let here = Answer::Local(Ssn::from(8));
+    let there = to(&rt, 300, None);
     let udt = b"\x09\x80\x03\x0b\x0d\x08\x52\x08\x00\x12\x04\x94\x71\x21\x02\x42\x08\x01\xaa";
-    let subsystem = b"\x42\x09";
-    let rows: [(&[u8], bool, Answer, Outs); 4] = [
-        (
-            subsystem,
-            true,
-            no,
-            told(&rt, alloc, Some(4), b"\x42\x08", subsystem),
-        ),
-        (subsystem, false, no, lost(&rt, alloc, Lost::Cause(4))),
-        (
-            subsystem,
-            false,
-            Answer::Local(Ssn::from(8)),
-            told(&rt, alloc, None, subsystem, b"\x42\x08"),
-        ),
-        (TITLE, true, to(&rt, 300, None), sent(&rt, alloc, 300, udt)),
-    ];
-    for (called, ret, answer, wanted) in &rows {
-        let request = unit(&rt, alloc, (0, *ret), called, b"\xaa");
-        assert_gives(&rt, alloc, &request, answer, wanted, false);
-    }
+    let notice = told(&rt, alloc, Some(4), b"\x42\x08", b"\x42\x09");
+    let loss = lost(&rt, alloc, Lost::Cause(4));
+    let text = told(&rt, alloc, None, b"\x42\x09", b"\x42\x08");
+    let message = sent(&rt, alloc, 300, udt);
+    assert_gives_one(&rt, alloc, b"\x42\x09", true, &no, &notice);
+    assert_gives_one(&rt, alloc, b"\x42\x09", false, &no, &loss);
+    assert_gives_one(&rt, alloc, b"\x42\x09", false, &here, &text);
+    assert_gives_one(&rt, alloc, TITLE, true, &there, &message);
 }
 
 fn put_segment(
