@@ -1,4 +1,6 @@
 //! Routing data through their changes, and what leaves by their answers.
+ghost use Rattle.std.specs.Prelude.{◌≡◌};
+
 use crate::common::{E164, TITLE, digits, entity, point, row};
 use gtt_table::Look;
 use plant_core::{
@@ -11,7 +13,9 @@ use std::alloc::Global;
 use std::process::Abort;
 
 /// Point 100 with subsystem 8.
-fn plant(rt: &impl Abort, alloc: Global) -> Plant {
+fn plant(rt: &impl Abort, alloc: Global) -> Plant
+    ensures { result.edition ≡ 0 }
+{
     Plant::start(alloc, point(rt, 100), &[Ssn::from(8)]).expect(rt, "memory")
 }
 
