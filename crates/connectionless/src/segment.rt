@@ -2,7 +2,7 @@
 use relay_base::{Octets, Pc, Sls, Ssn};
 
 /// A segment of a message, as it came: its origin and its parameters (Q.713, XUDT).
-#[derive(PartialEq, Eq, Drop)]
+#[derive(Drop)]
 pub struct Segment {
     pub opc: Pc,
     pub sls: Sls,
@@ -17,7 +17,7 @@ pub struct Segment {
 }
 
 /// What is left to do with a unit: nothing, or to put a segment together with others for a local subsystem.
-#[derive(PartialEq, Eq, Drop)]
+#[derive(Drop)]
 pub enum Next {
     Done,
     Gather(Segment, Ssn),

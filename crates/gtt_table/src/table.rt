@@ -31,7 +31,7 @@ impl Model for Table {
 }
 
 /// What a search gives: no row has the selector, no prefix begins the digits, or the row with the longest such prefix.
-#[derive(Clone, Copy, Debug, PartialEq, Eq)]
+#[derive(Clone, Copy)]
 pub enum Look<'a> {
     NoSelector,
     NoPrefix,

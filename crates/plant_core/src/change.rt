@@ -4,7 +4,7 @@ use relay_base::{Digits, Pc, Ssn};
 use sccp_address::Selector;
 
 /// A change of the routing data.
-#[derive(Clone, Copy, Debug, PartialEq, Eq)]
+#[derive(Clone, Copy, PartialEq, Eq)]
 pub enum Change {
     /// A row is added.
     AddRow(Row),

@@ -6,7 +6,7 @@ use crate::change::Change;
 use relay_base::{Event, Outs, PlainList, Stamp};
 
 /// A routing, with the edition of the routing data that it read.
-#[derive(Clone, Copy, Debug, PartialEq, Eq)]
+#[derive(Clone, Copy, PartialEq, Eq)]
 pub struct Asked {
     pub edition: u64,
     pub answer: Answer,

@@ -31,7 +31,7 @@ pub struct Ticks {
 }
 
 /// What a connection is opened with: the own point code, the greatest credit (1 to 127), and the ticks.
-#[derive(Clone, Copy, Debug, PartialEq, Eq)]
+#[derive(Clone, Copy)]
 pub struct Terms {
     pub own: Pc,
     pub credit: u8,
@@ -39,7 +39,7 @@ pub struct Terms {
 }
 
 /// What a lane is made with: the terms of its connections, and the ticks of a reassembly (1 to 65,535).
-#[derive(Clone, Copy, Debug, PartialEq, Eq)]
+#[derive(Clone, Copy)]
 pub struct LaneHead {
     pub terms: Terms,
     pub reassembly: u32,

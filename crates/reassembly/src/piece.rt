@@ -5,7 +5,7 @@ ghost use Rattle.reassembly.specs.Segments.{key_of, same_key, is_first, remainin
 use relay_base::{Octets, Pc, PlainList, Sls, Ssn};
 
 /// A segment: where it came from, its parameters (Q.713), and the subsystem that it is for.
-#[derive(Clone, PartialEq, Eq, Drop)]
+#[derive(Drop)]
 pub struct Piece {
     pub opc: Pc,
     pub sls: Sls,
@@ -49,7 +49,7 @@ impl Piece {
 }
 
 /// What comes of a segment.
-#[derive(PartialEq, Eq, Drop)]
+#[derive(Drop)]
 pub enum Now {
     /// Further segments of its message are awaited.
     Waiting,
@@ -64,7 +64,7 @@ pub enum Now {
 }
 
 /// The answer to a segment: the first segment of a reassembly that failed by it, and what comes of it.
-#[derive(PartialEq, Eq, Drop)]
+#[derive(Drop)]
 pub struct Taken {
     pub failed: Option<Piece>,
     pub now: Now,

@@ -16,7 +16,7 @@ const LONGEST: usize = 268;
 const BEFORE_DATA: [u8; 12] = [9, 0, 3, 5, 7, 2, 0x42, 1, 2, 0x42, 1, 5];
 
 /// SSA, SSP, SST, SOR and SOG.
-#[derive(Clone, Copy, Debug, PartialEq, Eq)]
+#[derive(Clone, Copy)]
 pub enum Format {
     Allowed,
     Prohibited,
@@ -26,7 +26,7 @@ pub enum Format {
 }
 
 /// What a message of management says of a subsystem of a point.
-#[derive(Clone, Copy, Debug, PartialEq, Eq)]
+#[derive(Clone, Copy)]
 pub struct Notice {
     pub format: Format,
     pub ssn: Ssn,

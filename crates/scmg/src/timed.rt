@@ -8,7 +8,7 @@ use plant_core::Ticks;
 use relay_base::{Memory, Pc, Ssn};
 
 /// The test of a subsystem of another point that is out of service: the ticks until it is sent, and how many it was armed with.
-#[derive(Clone, Copy, Debug, PartialEq, Eq)]
+#[derive(Clone, Copy)]
 pub struct StatusTest {
     pub point: Pc,
     pub ssn: Ssn,
@@ -17,7 +17,7 @@ pub struct StatusTest {
 }
 
 /// A coordinated change that a user asked for: the point of its replicate, and the ticks until it is denied.
-#[derive(Clone, Copy, Debug, PartialEq, Eq)]
+#[derive(Clone, Copy)]
 pub struct Coordination {
     pub ssn: Ssn,
     pub point: Pc,
