@@ -3,10 +3,7 @@ ghost use Rattle.std.specs.Prelude.{◌≡◌};
 
 use crate::common::{E164, TITLE, digits, entity, point, row};
 use gtt_table::Look;
-use plant_core::{
-    Answer, Ask, Change, Origin, Plant, Rewrite, RouteCause, Verdict, refusal_cause, return_cause,
-    rewritten,
-};
+use plant_core::{Answer, Ask, Change, Origin, Plant, Rewrite, RouteCause, Verdict, rewritten};
 use relay_base::Ssn;
 use sccp_address::parse;
 use std::alloc::Global;
@@ -128,19 +125,4 @@ fn rewrites_called_addresses(rt: HostRuntime) {
     assert_leaves(&rt, alloc, title, &Rewrite::Keep, title);
     assert_leaves(&rt, alloc, title, &named, subsystem_7);
     assert_leaves(&rt, alloc, title, &unnamed, TITLE);
-}
-
-#[test]
-fn names_the_causes(rt: HostRuntime) {
-    let causes = [
-        (RouteCause::NoNature, 0x00, 0x12),
-        (RouteCause::NoAddress, 0x01, 0x04),
-        (RouteCause::PointBarred, 0x05, 0x05),
-        (RouteCause::SubsystemBarred, 0x03, 0x0a),
-        (RouteCause::Unequipped, 0x04, 0x13),
-        (RouteCause::Hop, 0x0c, 0x10),
-    ];
-    for (cause, returned, refused) in causes {
-        assert!(rt; return_cause(cause) == returned && refusal_cause(cause) == refused);
-    }
 }
