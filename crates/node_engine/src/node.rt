@@ -84,6 +84,16 @@ fn plant_of(alloc: Global, head: &Head) -> Result<Plant, Memory>
     Ok(plant)
 }
 
+/// The control lane of a head, before its first event.
+fn control_lane(alloc: Global, head: &Head) -> Result<ControlLane, Memory>
+    requires { IsTrue (are_addable [] head.now.row) }
+    ensures { IfOk result (λ lane. lane ≡ record { head = control_head_of head.now; start = routing_of head.now; journal = [] }) }
+{
+    let plant = plant_of(alloc, head)?;
+    let told = control_head_of(alloc, head)?;
+    ControlLane::new(alloc, &told, plant)
+}
+
 /// The connection lanes of a head, before their first events.
 fn conn_lanes(alloc: Global, head: &Head) -> Result<ConnLaneList, Memory>
     requires lanes { head.now.conn_lanes ≤ 16 }
@@ -122,12 +132,13 @@ impl Node {
         requires { IsHead head.now }
         ensures { IfOk result (λ node. IsFirst head.now node) }
     {
-        let plant = plant_of(alloc, head)?;
-        let told = control_head_of(alloc, head)?;
+        let control = control_lane(alloc, head)?;
+        let conns = conn_lanes(alloc, head)?;
+        let units = data_lanes(alloc, head)?;
         Ok(Node {
-            control: ControlLane::new(alloc, &told, plant)?,
-            conns: conn_lanes(alloc, head)?,
-            units: data_lanes(alloc, head)?,
+            control,
+            conns,
+            units,
         })
     }
 }
