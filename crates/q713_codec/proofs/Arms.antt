@@ -1,20 +1,16 @@
--- A message of one type, by the format and the values of its parts.
-use Rattle.std.proofs.Common.{◌≡◌, Bool, ap, sym, ◌∙◌}
+-- A message as it is written, and what its definition says.
+use Rattle.std.proofs.Common.{◌≡◌, ap, ◌∙◌}
 use Rattle.std.specs.Prelude.{IsTrue}
-use Rattle.q713_shape.specs.Format.{Format, Values}
+use Rattle.q713_shape.specs.Format.{Format, Values, nameless}
 use Rattle.q713_shape.specs.Writing.{are_in_range, octets_of}
 use Rattle.q713_codec.specs.Names.{Message}
 use Rattle.q713_codec.specs.Messages.{values_of_message, format_in}
-use Rattle.q713_codec.specs.Writing.{InRange, is_in_range, spelling_of}
+use Rattle.q713_codec.specs.Writing.{is_in_range, spelling_of}
 
-pub is_in_range-parts : (message made : Message) (format : Format) (values : Values) (fits : Bool) → fits ≡ are_in_range format values → message ≡ made → format ≡ format_in made → values ≡ values_of_message made → fits ≡ is_in_range message
-unfolding is_in_range
-is_in_range-parts message made format values fits f m e v = f ∙ ap (λ x. are_in_range x values) e ∙ ap (are_in_range (format_in made)) v ∙ ap is_in_range (sym m)
+pub is_in_range-written : (message : Message) (format : Format) (values : Values) → format ≡ nameless (format_in message) → values ≡ values_of_message message → are_in_range format values ≡ is_in_range message
+unfolding is_in_range are_in_range
+is_in_range-written message format values f v = ap (λ x. are_in_range x values) f ∙ ap (are_in_range (nameless (format_in message))) v
 
-pub InRange-parts : (message made : Message) (format : Format) (values : Values) → InRange message → message ≡ made → format ≡ format_in made → values ≡ values_of_message made → IsTrue (are_in_range format values)
-unfolding is_in_range
-InRange-parts message made format values h m e v = ap (λ x. are_in_range x values) e ∙ ap (are_in_range (format_in made)) v ∙ ap is_in_range (sym m) ∙ h
-
-pub spelling_of-parts : (message made : Message) (format : Format) (values : Values) → message ≡ made → format ≡ format_in made → values ≡ values_of_message made → octets_of format values ≡ spelling_of message
-unfolding spelling_of
-spelling_of-parts message made format values m e v = ap (λ x. octets_of x values) e ∙ ap (octets_of (format_in made)) v ∙ ap spelling_of (sym m)
+pub spelling_of-written : (message : Message) (format : Format) (values : Values) → format ≡ nameless (format_in message) → values ≡ values_of_message message → octets_of format values ≡ spelling_of message
+unfolding spelling_of octets_of
+spelling_of-written message format values f v = ap (λ x. octets_of x values) f ∙ ap (octets_of (nameless (format_in message))) v

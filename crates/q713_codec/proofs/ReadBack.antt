@@ -91,9 +91,7 @@ reads_back (Xudts cause hop called calling body segmentation importance) types r
 reads_back (Ludt class hop called calling body segmentation importance) types range = reads_back-as (Ludt class hop called calling body segmentation importance) (kind_of ludt_format ludt_of) refl refl (rw (one importance, segmentation-four ludt_format (values_of_message (Ludt class hop called calling body segmentation importance)) (0x12 ∷ []) segmentation _ refl refl (in_range-parts (Ludt class hop called calling body segmentation importance) range)) refl) refl (places ludt_format (values_of_message (Ludt class hop called calling body segmentation importance)) types.1 refl refl refl refl) range
 reads_back (Ludts cause hop called calling body segmentation importance) types range = reads_back-as (Ludts cause hop called calling body segmentation importance) (kind_of ludts_format ludts_of) refl refl (rw (one importance, segmentation-four ludts_format (values_of_message (Ludts cause hop called calling body segmentation importance)) (0x12 ∷ []) segmentation _ refl refl (in_range-parts (Ludts cause hop called calling body segmentation importance) range)) refl) refl (places ludts_format (values_of_message (Ludts cause hop called calling body segmentation importance)) types.1 refl refl refl refl) range
 
--- what is written, by the parts of the message
-pub read_back-parts : {E : Type 0} (message made : Message) (format : Format) (values : Values) (written : Result (List ℕ) E) → InRange message → message ≡ made → format ≡ format_in made → values ≡ values_of_message made → HasTypes made → IfOk written (λ o. o ≡ octets_of format values) → IfOk written (λ o. reading_of o ≡ Ok message)
-unfolding spelling_of
-read_back-parts message made format values (Err e) range m f v types w = w
-read_back-parts message made format values (Ok o) range m f v types w =
-    ap reading_of (w ∙ ap (λ x. octets_of x values) f ∙ ap (octets_of (format_in made)) v) ∙ reads_back made types (subst InRange m range) ∙ ap Ok (sym m)
+-- what is written reads back
+pub read_back-spelled : {E : Type 0} (message : Message) (written : Result (List ℕ) E) → HasTypes message → InRange message → IfOk written (λ o. o ≡ spelling_of message) → IfOk written (λ o. reading_of o ≡ Ok message)
+read_back-spelled message (Err e) types range w = w
+read_back-spelled message (Ok o) types range w = ap reading_of w ∙ reads_back message types range

@@ -1,16 +1,18 @@
-//! The parts of the messages of each type: what part of its shape each field of the message is.
-ghost use Rattle.std.specs.Prelude.{◌≡◌};
-ghost use Rattle.q713_shape.specs.Parts.{values_seen};
+//! The messages of each type as they are written: what part of its shape each field of the message is.
 ghost use Rattle.q713_codec.specs.Names.{Cr, Cc, Cref, Rlsd, Rlc, Dt1, Dt2, Ak, Udt, Udts, Ed, Ea, Rsr, Rsc, Error, It, Xudt, Xudts, Ludt, Ludts};
-ghost use Rattle.q713_codec.specs.Messages.{values_of_message};
-ghost use Rattle.q713_codec.specs.Types.{HasTypes};
+ghost use Rattle.q713_codec.specs.Written.{IsWritten};
 
-use crate::values::{four, high, low, middle, octet, octets};
-use q713_shape::Parts;
+use crate::shapes::{
+    ak_shape, cc_shape, cr_shape, cref_shape, dt1_shape, dt2_shape, ea_shape, ed_shape, err_shape,
+    it_shape, ludt_shape, ludts_shape, rlc_shape, rlsd_shape, rsc_shape, rsr_shape, udt_shape,
+    udts_shape, xudt_shape, xudts_shape,
+};
+use crate::values::{four, octet, octets};
+use crate::written::{FixedPart, Written};
 use relay_base::{Octets, Ref24};
 
 /// A message of the type connection request (01).
-pub fn cr_parts<'a>(
+pub fn cr_written<'a>(
     slr: Ref24,
     class_octet: u8,
     called: &'a Octets,
@@ -19,25 +21,27 @@ pub fn cr_parts<'a>(
     body: &'a Option<Octets>,
     hop: &'a Option<u8>,
     importance: &'a Option<u8>,
-) -> Parts<'a, 4, 1>
-    ensures values { values_seen result ≡ values_of_message (Cr slr class_octet called.now credit.now calling.now body.now hop.now importance.now) }
-    ensures types { HasTypes (Cr slr class_octet called.now credit.now calling.now body.now hop.now importance.now) }
+) -> Written<'a>
+    ensures { let message = Cr slr class_octet called.now credit.now calling.now
+        body.now hop.now importance.now
+        in IsWritten result message }
 {
-    Parts {
-        fixed: [low(slr), middle(slr), high(slr), class_octet],
-        vars: [called.as_slice(), &[], &[]],
-        options: [
+    Written::of(
+        &cr_shape(),
+        FixedPart::new().with_reference(slr).with(&[class_octet]),
+        [called.as_slice(), &[], &[]],
+        [
             octet(credit),
             octets(calling),
             octets(body),
             octet(hop),
             octet(importance),
         ],
-    }
+    )
 }
 
 /// A message of the type connection confirm (02).
-pub fn cc_parts<'a>(
+pub fn cc_written<'a>(
     dlr: Ref24,
     slr: Ref24,
     class_octet: u8,
@@ -45,276 +49,238 @@ pub fn cc_parts<'a>(
     called: &'a Option<Octets>,
     body: &'a Option<Octets>,
     importance: &'a Option<u8>,
-) -> Parts<'a, 7, 0>
-    ensures values { values_seen result ≡ values_of_message (Cc dlr slr class_octet credit.now called.now body.now importance.now) }
-    ensures types { HasTypes (Cc dlr slr class_octet credit.now called.now body.now importance.now) }
+) -> Written<'a>
+    ensures { let message = Cc dlr slr class_octet credit.now called.now body.now importance.now
+        in IsWritten result message }
 {
-    Parts {
-        fixed: [
-            low(dlr),
-            middle(dlr),
-            high(dlr),
-            low(slr),
-            middle(slr),
-            high(slr),
-            class_octet,
-        ],
-        vars: [&[], &[], &[]],
-        options: [
+    Written::of(
+        &cc_shape(),
+        FixedPart::new()
+            .with_reference(dlr)
+            .with_reference(slr)
+            .with(&[class_octet]),
+        [&[], &[], &[]],
+        [
             octet(credit),
             octets(called),
             octets(body),
             octet(importance),
             None,
         ],
-    }
+    )
 }
 
 /// A message of the type connection refused (03).
-pub fn cref_parts<'a>(
+pub fn cref_written<'a>(
     dlr: Ref24,
     cause: u8,
     called: &'a Option<Octets>,
     body: &'a Option<Octets>,
     importance: &'a Option<u8>,
-) -> Parts<'a, 4, 0>
-    ensures values { values_seen result ≡ values_of_message (Cref dlr cause called.now body.now importance.now) }
-    ensures types { HasTypes (Cref dlr cause called.now body.now importance.now) }
+) -> Written<'a>
+    ensures { IsWritten result (Cref dlr cause called.now body.now importance.now) }
 {
-    Parts {
-        fixed: [low(dlr), middle(dlr), high(dlr), cause],
-        vars: [&[], &[], &[]],
-        options: [octets(called), octets(body), octet(importance), None, None],
-    }
+    Written::of(
+        &cref_shape(),
+        FixedPart::new().with_reference(dlr).with(&[cause]),
+        [&[], &[], &[]],
+        [octets(called), octets(body), octet(importance), None, None],
+    )
 }
 
 /// A message of the type released (04).
-pub fn rlsd_parts<'a>(
+pub fn rlsd_written<'a>(
     dlr: Ref24,
     slr: Ref24,
     cause: u8,
     body: &'a Option<Octets>,
     importance: &'a Option<u8>,
-) -> Parts<'a, 7, 0>
-    ensures values { values_seen result ≡ values_of_message (Rlsd dlr slr cause body.now importance.now) }
-    ensures types { HasTypes (Rlsd dlr slr cause body.now importance.now) }
+) -> Written<'a>
+    ensures { IsWritten result (Rlsd dlr slr cause body.now importance.now) }
 {
-    Parts {
-        fixed: [
-            low(dlr),
-            middle(dlr),
-            high(dlr),
-            low(slr),
-            middle(slr),
-            high(slr),
-            cause,
-        ],
-        vars: [&[], &[], &[]],
-        options: [octets(body), octet(importance), None, None, None],
-    }
+    Written::of(
+        &rlsd_shape(),
+        FixedPart::new()
+            .with_reference(dlr)
+            .with_reference(slr)
+            .with(&[cause]),
+        [&[], &[], &[]],
+        [octets(body), octet(importance), None, None, None],
+    )
 }
 
 /// A message of the type release complete (05).
-pub fn rlc_parts(dlr: Ref24, slr: Ref24) -> Parts<'static, 6, 0>
-    ensures values { values_seen result ≡ values_of_message (Rlc dlr slr) }
-    ensures types { HasTypes (Rlc dlr slr) }
+pub fn rlc_written(dlr: Ref24, slr: Ref24) -> Written<'static>
+    ensures { IsWritten result (Rlc dlr slr) }
 {
-    Parts {
-        fixed: [
-            low(dlr),
-            middle(dlr),
-            high(dlr),
-            low(slr),
-            middle(slr),
-            high(slr),
-        ],
-        vars: [&[], &[], &[]],
-        options: [None, None, None, None, None],
-    }
+    Written::of(
+        &rlc_shape(),
+        FixedPart::new().with_reference(dlr).with_reference(slr),
+        [&[], &[], &[]],
+        [None, None, None, None, None],
+    )
 }
 
 /// A message of the type data form 1 (06).
-pub fn dt1_parts<'a>(dlr: Ref24, segmenting: u8, body: &'a Octets) -> Parts<'a, 4, 1>
-    ensures values { values_seen result ≡ values_of_message (Dt1 dlr segmenting body.now) }
-    ensures types { HasTypes (Dt1 dlr segmenting body.now) }
+pub fn dt1_written<'a>(dlr: Ref24, segmenting: u8, body: &'a Octets) -> Written<'a>
+    ensures { IsWritten result (Dt1 dlr segmenting body.now) }
 {
-    Parts {
-        fixed: [low(dlr), middle(dlr), high(dlr), segmenting],
-        vars: [body.as_slice(), &[], &[]],
-        options: [None, None, None, None, None],
-    }
+    Written::of(
+        &dt1_shape(),
+        FixedPart::new().with_reference(dlr).with(&[segmenting]),
+        [body.as_slice(), &[], &[]],
+        [None, None, None, None, None],
+    )
 }
 
 /// A message of the type data form 2 (07).
-pub fn dt2_parts<'a>(dlr: Ref24, sequencing: [u8; 2], body: &'a Octets) -> Parts<'a, 5, 1>
-    ensures values { values_seen result ≡ values_of_message (Dt2 dlr sequencing body.now) }
-    ensures types { HasTypes (Dt2 dlr sequencing body.now) }
+pub fn dt2_written<'a>(dlr: Ref24, sequencing: [u8; 2], body: &'a Octets) -> Written<'a>
+    ensures { IsWritten result (Dt2 dlr sequencing body.now) }
 {
-    Parts {
-        fixed: [
-            low(dlr),
-            middle(dlr),
-            high(dlr),
-            sequencing[0],
-            sequencing[1],
-        ],
-        vars: [body.as_slice(), &[], &[]],
-        options: [None, None, None, None, None],
-    }
+    Written::of(
+        &dt2_shape(),
+        FixedPart::new()
+            .with_reference(dlr)
+            .with(&[sequencing[0], sequencing[1]]),
+        [body.as_slice(), &[], &[]],
+        [None, None, None, None, None],
+    )
 }
 
 /// A message of the type data acknowledgement (08).
-pub fn ak_parts(dlr: Ref24, receive: u8, credit: u8) -> Parts<'static, 5, 0>
-    ensures values { values_seen result ≡ values_of_message (Ak dlr receive credit) }
-    ensures types { HasTypes (Ak dlr receive credit) }
+pub fn ak_written(dlr: Ref24, receive: u8, credit: u8) -> Written<'static>
+    ensures { IsWritten result (Ak dlr receive credit) }
 {
-    Parts {
-        fixed: [low(dlr), middle(dlr), high(dlr), receive, credit],
-        vars: [&[], &[], &[]],
-        options: [None, None, None, None, None],
-    }
+    Written::of(
+        &ak_shape(),
+        FixedPart::new()
+            .with_reference(dlr)
+            .with(&[receive, credit]),
+        [&[], &[], &[]],
+        [None, None, None, None, None],
+    )
 }
 
 /// A message of the type unitdata (09).
-pub fn udt_parts<'a>(
+pub fn udt_written<'a>(
     class_octet: u8,
     called: &'a Octets,
     calling: &'a Octets,
     body: &'a Octets,
-) -> Parts<'a, 1, 3>
-    ensures values { values_seen result ≡ values_of_message (Udt class_octet called.now calling.now body.now) }
-    ensures types { HasTypes (Udt class_octet called.now calling.now body.now) }
+) -> Written<'a>
+    ensures { IsWritten result (Udt class_octet called.now calling.now body.now) }
 {
-    Parts {
-        fixed: [class_octet],
-        vars: [called.as_slice(), calling.as_slice(), body.as_slice()],
-        options: [None, None, None, None, None],
-    }
+    Written::of(
+        &udt_shape(),
+        FixedPart::new().with(&[class_octet]),
+        [called.as_slice(), calling.as_slice(), body.as_slice()],
+        [None, None, None, None, None],
+    )
 }
 
 /// A message of the type unitdata service (0A).
-pub fn udts_parts<'a>(
+pub fn udts_written<'a>(
     cause: u8,
     called: &'a Octets,
     calling: &'a Octets,
     body: &'a Octets,
-) -> Parts<'a, 1, 3>
-    ensures values { values_seen result ≡ values_of_message (Udts cause called.now calling.now body.now) }
-    ensures types { HasTypes (Udts cause called.now calling.now body.now) }
+) -> Written<'a>
+    ensures { IsWritten result (Udts cause called.now calling.now body.now) }
 {
-    Parts {
-        fixed: [cause],
-        vars: [called.as_slice(), calling.as_slice(), body.as_slice()],
-        options: [None, None, None, None, None],
-    }
+    Written::of(
+        &udts_shape(),
+        FixedPart::new().with(&[cause]),
+        [called.as_slice(), calling.as_slice(), body.as_slice()],
+        [None, None, None, None, None],
+    )
 }
 
 /// A message of the type expedited data (0B).
-pub fn ed_parts<'a>(dlr: Ref24, body: &'a Octets) -> Parts<'a, 3, 1>
-    ensures values { values_seen result ≡ values_of_message (Ed dlr body.now) }
-    ensures types { HasTypes (Ed dlr body.now) }
+pub fn ed_written<'a>(dlr: Ref24, body: &'a Octets) -> Written<'a>
+    ensures { IsWritten result (Ed dlr body.now) }
 {
-    Parts {
-        fixed: [low(dlr), middle(dlr), high(dlr)],
-        vars: [body.as_slice(), &[], &[]],
-        options: [None, None, None, None, None],
-    }
+    Written::of(
+        &ed_shape(),
+        FixedPart::new().with_reference(dlr),
+        [body.as_slice(), &[], &[]],
+        [None, None, None, None, None],
+    )
 }
 
 /// A message of the type expedited data acknowledgement (0C).
-pub fn ea_parts(dlr: Ref24) -> Parts<'static, 3, 0>
-    ensures values { values_seen result ≡ values_of_message (Ea dlr) }
-    ensures types { HasTypes (Ea dlr) }
+pub fn ea_written(dlr: Ref24) -> Written<'static>
+    ensures { IsWritten result (Ea dlr) }
 {
-    Parts {
-        fixed: [low(dlr), middle(dlr), high(dlr)],
-        vars: [&[], &[], &[]],
-        options: [None, None, None, None, None],
-    }
+    Written::of(
+        &ea_shape(),
+        FixedPart::new().with_reference(dlr),
+        [&[], &[], &[]],
+        [None, None, None, None, None],
+    )
 }
 
 /// A message of the type reset request (0D).
-pub fn rsr_parts(dlr: Ref24, slr: Ref24, cause: u8) -> Parts<'static, 7, 0>
-    ensures values { values_seen result ≡ values_of_message (Rsr dlr slr cause) }
-    ensures types { HasTypes (Rsr dlr slr cause) }
+pub fn rsr_written(dlr: Ref24, slr: Ref24, cause: u8) -> Written<'static>
+    ensures { IsWritten result (Rsr dlr slr cause) }
 {
-    Parts {
-        fixed: [
-            low(dlr),
-            middle(dlr),
-            high(dlr),
-            low(slr),
-            middle(slr),
-            high(slr),
-            cause,
-        ],
-        vars: [&[], &[], &[]],
-        options: [None, None, None, None, None],
-    }
+    Written::of(
+        &rsr_shape(),
+        FixedPart::new()
+            .with_reference(dlr)
+            .with_reference(slr)
+            .with(&[cause]),
+        [&[], &[], &[]],
+        [None, None, None, None, None],
+    )
 }
 
 /// A message of the type reset confirmation (0E).
-pub fn rsc_parts(dlr: Ref24, slr: Ref24) -> Parts<'static, 6, 0>
-    ensures values { values_seen result ≡ values_of_message (Rsc dlr slr) }
-    ensures types { HasTypes (Rsc dlr slr) }
+pub fn rsc_written(dlr: Ref24, slr: Ref24) -> Written<'static>
+    ensures { IsWritten result (Rsc dlr slr) }
 {
-    Parts {
-        fixed: [
-            low(dlr),
-            middle(dlr),
-            high(dlr),
-            low(slr),
-            middle(slr),
-            high(slr),
-        ],
-        vars: [&[], &[], &[]],
-        options: [None, None, None, None, None],
-    }
+    Written::of(
+        &rsc_shape(),
+        FixedPart::new().with_reference(dlr).with_reference(slr),
+        [&[], &[], &[]],
+        [None, None, None, None, None],
+    )
 }
 
 /// A message of the type protocol data unit error (0F).
-pub fn err_parts(dlr: Ref24, cause: u8) -> Parts<'static, 4, 0>
-    ensures values { values_seen result ≡ values_of_message (Error dlr cause) }
-    ensures types { HasTypes (Error dlr cause) }
+pub fn err_written(dlr: Ref24, cause: u8) -> Written<'static>
+    ensures { IsWritten result (Error dlr cause) }
 {
-    Parts {
-        fixed: [low(dlr), middle(dlr), high(dlr), cause],
-        vars: [&[], &[], &[]],
-        options: [None, None, None, None, None],
-    }
+    Written::of(
+        &err_shape(),
+        FixedPart::new().with_reference(dlr).with(&[cause]),
+        [&[], &[], &[]],
+        [None, None, None, None, None],
+    )
 }
 
 /// A message of the type inactivity test (10).
-pub fn it_parts(
+pub fn it_written(
     dlr: Ref24,
     slr: Ref24,
     class_octet: u8,
     sequencing: [u8; 2],
     credit: u8,
-) -> Parts<'static, 10, 0>
-    ensures values { values_seen result ≡ values_of_message (It dlr slr class_octet sequencing credit) }
-    ensures types { HasTypes (It dlr slr class_octet sequencing credit) }
+) -> Written<'static>
+    ensures { IsWritten result (It dlr slr class_octet sequencing credit) }
 {
-    Parts {
-        fixed: [
-            low(dlr),
-            middle(dlr),
-            high(dlr),
-            low(slr),
-            middle(slr),
-            high(slr),
-            class_octet,
-            sequencing[0],
-            sequencing[1],
-            credit,
-        ],
-        vars: [&[], &[], &[]],
-        options: [None, None, None, None, None],
-    }
+    Written::of(
+        &it_shape(),
+        FixedPart::new()
+            .with_reference(dlr)
+            .with_reference(slr)
+            .with(&[class_octet, sequencing[0], sequencing[1], credit]),
+        [&[], &[], &[]],
+        [None, None, None, None, None],
+    )
 }
 
 /// A message of the type extended unitdata (11).
-pub fn xudt_parts<'a>(
+pub fn xudt_written<'a>(
     class_octet: u8,
     hop: u8,
     called: &'a Octets,
@@ -322,19 +288,21 @@ pub fn xudt_parts<'a>(
     body: &'a Octets,
     segmentation: &'a Option<[u8; 4]>,
     importance: &'a Option<u8>,
-) -> Parts<'a, 2, 3>
-    ensures values { values_seen result ≡ values_of_message (Xudt class_octet hop called.now calling.now body.now segmentation.now importance.now) }
-    ensures types { HasTypes (Xudt class_octet hop called.now calling.now body.now segmentation.now importance.now) }
+) -> Written<'a>
+    ensures { let message = Xudt class_octet hop called.now calling.now
+        body.now segmentation.now importance.now
+        in IsWritten result message }
 {
-    Parts {
-        fixed: [class_octet, hop],
-        vars: [called.as_slice(), calling.as_slice(), body.as_slice()],
-        options: [four(segmentation), octet(importance), None, None, None],
-    }
+    Written::of(
+        &xudt_shape(),
+        FixedPart::new().with(&[class_octet, hop]),
+        [called.as_slice(), calling.as_slice(), body.as_slice()],
+        [four(segmentation), octet(importance), None, None, None],
+    )
 }
 
 /// A message of the type extended unitdata service (12).
-pub fn xudts_parts<'a>(
+pub fn xudts_written<'a>(
     cause: u8,
     hop: u8,
     called: &'a Octets,
@@ -342,19 +310,21 @@ pub fn xudts_parts<'a>(
     body: &'a Octets,
     segmentation: &'a Option<[u8; 4]>,
     importance: &'a Option<u8>,
-) -> Parts<'a, 2, 3>
-    ensures values { values_seen result ≡ values_of_message (Xudts cause hop called.now calling.now body.now segmentation.now importance.now) }
-    ensures types { HasTypes (Xudts cause hop called.now calling.now body.now segmentation.now importance.now) }
+) -> Written<'a>
+    ensures { let message = Xudts cause hop called.now calling.now
+        body.now segmentation.now importance.now
+        in IsWritten result message }
 {
-    Parts {
-        fixed: [cause, hop],
-        vars: [called.as_slice(), calling.as_slice(), body.as_slice()],
-        options: [four(segmentation), octet(importance), None, None, None],
-    }
+    Written::of(
+        &xudts_shape(),
+        FixedPart::new().with(&[cause, hop]),
+        [called.as_slice(), calling.as_slice(), body.as_slice()],
+        [four(segmentation), octet(importance), None, None, None],
+    )
 }
 
 /// A message of the type long unitdata (13).
-pub fn ludt_parts<'a>(
+pub fn ludt_written<'a>(
     class_octet: u8,
     hop: u8,
     called: &'a Octets,
@@ -362,19 +332,21 @@ pub fn ludt_parts<'a>(
     body: &'a Octets,
     segmentation: &'a Option<[u8; 4]>,
     importance: &'a Option<u8>,
-) -> Parts<'a, 2, 3>
-    ensures values { values_seen result ≡ values_of_message (Ludt class_octet hop called.now calling.now body.now segmentation.now importance.now) }
-    ensures types { HasTypes (Ludt class_octet hop called.now calling.now body.now segmentation.now importance.now) }
+) -> Written<'a>
+    ensures { let message = Ludt class_octet hop called.now calling.now
+        body.now segmentation.now importance.now
+        in IsWritten result message }
 {
-    Parts {
-        fixed: [class_octet, hop],
-        vars: [called.as_slice(), calling.as_slice(), body.as_slice()],
-        options: [four(segmentation), octet(importance), None, None, None],
-    }
+    Written::of(
+        &ludt_shape(),
+        FixedPart::new().with(&[class_octet, hop]),
+        [called.as_slice(), calling.as_slice(), body.as_slice()],
+        [four(segmentation), octet(importance), None, None, None],
+    )
 }
 
 /// A message of the type long unitdata service (14).
-pub fn ludts_parts<'a>(
+pub fn ludts_written<'a>(
     cause: u8,
     hop: u8,
     called: &'a Octets,
@@ -382,13 +354,15 @@ pub fn ludts_parts<'a>(
     body: &'a Octets,
     segmentation: &'a Option<[u8; 4]>,
     importance: &'a Option<u8>,
-) -> Parts<'a, 2, 3>
-    ensures values { values_seen result ≡ values_of_message (Ludts cause hop called.now calling.now body.now segmentation.now importance.now) }
-    ensures types { HasTypes (Ludts cause hop called.now calling.now body.now segmentation.now importance.now) }
+) -> Written<'a>
+    ensures { let message = Ludts cause hop called.now calling.now
+        body.now segmentation.now importance.now
+        in IsWritten result message }
 {
-    Parts {
-        fixed: [cause, hop],
-        vars: [called.as_slice(), calling.as_slice(), body.as_slice()],
-        options: [four(segmentation), octet(importance), None, None, None],
-    }
+    Written::of(
+        &ludts_shape(),
+        FixedPart::new().with(&[cause, hop]),
+        [called.as_slice(), calling.as_slice(), body.as_slice()],
+        [four(segmentation), octet(importance), None, None, None],
+    )
 }

@@ -2,156 +2,200 @@
 ghost use Rattle.std.specs.Prelude.{◌≡◌, length, IfOk, IsTrue, Ok};
 ghost use Rattle.q713_codec.specs.Reading.{reading_of};
 ghost use Rattle.q713_codec.specs.Writing.{spelling_of, is_in_range, InRange};
+ghost use Rattle.q713_codec.specs.Written.{IsWritten};
 
 use crate::message::Message;
 use crate::parts::{
-    ak_parts, cc_parts, cr_parts, cref_parts, dt1_parts, dt2_parts, ea_parts, ed_parts, err_parts,
-    it_parts, ludt_parts, ludts_parts, rlc_parts, rlsd_parts, rsc_parts, rsr_parts, udt_parts,
-    udts_parts, xudt_parts, xudts_parts,
+    ak_written, cc_written, cr_written, cref_written, dt1_written, dt2_written, ea_written,
+    ed_written, err_written, it_written, ludt_written, ludts_written, rlc_written, rlsd_written,
+    rsc_written, rsr_written, udt_written, udts_written, xudt_written, xudts_written,
 };
-use crate::shapes::{
-    ak_shape, cc_shape, cr_shape, cref_shape, dt1_shape, dt2_shape, ea_shape, ed_shape, err_shape,
-    it_shape, ludt_shape, ludts_shape, rlc_shape, rlsd_shape, rsc_shape, rsr_shape, udt_shape,
-    udts_shape, xudt_shape, xudts_shape,
-};
+use crate::written::Written;
 use relay_base::{Memory, Octets};
 use std::alloc::Global;
 
-/// Uses the shape and the parts of a message.
-macro_rules! with_parts {
-    ($message:expr, $shape:ident, $parts:ident => $result:expr) => {
-        match $message {
-            Message::Cr { slr, class_octet, called, credit, calling, body, hop, importance } => {
-                let $shape = cr_shape();
-                let $parts = cr_parts(*slr, *class_octet, called, credit, calling, body, hop, importance);
-                $result
-            }
-            Message::Cc { dlr, slr, class_octet, credit, called, body, importance } => {
-                let $shape = cc_shape();
-                let $parts = cc_parts(*dlr, *slr, *class_octet, credit, called, body, importance);
-                $result
-            }
-            Message::Cref { dlr, cause, called, body, importance } => {
-                let $shape = cref_shape();
-                let $parts = cref_parts(*dlr, *cause, called, body, importance);
-                $result
-            }
-            Message::Rlsd { dlr, slr, cause, body, importance } => {
-                let $shape = rlsd_shape();
-                let $parts = rlsd_parts(*dlr, *slr, *cause, body, importance);
-                $result
-            }
-            Message::Rlc { dlr, slr } => {
-                let $shape = rlc_shape();
-                let $parts = rlc_parts(*dlr, *slr);
-                $result
-            }
-            Message::Dt1 { dlr, segmenting, body } => {
-                let $shape = dt1_shape();
-                let $parts = dt1_parts(*dlr, *segmenting, body);
-                $result
-            }
-            Message::Dt2 { dlr, sequencing, body } => {
-                let $shape = dt2_shape();
-                let $parts = dt2_parts(*dlr, *sequencing, body);
-                $result
-            }
-            Message::Ak { dlr, receive, credit } => {
-                let $shape = ak_shape();
-                let $parts = ak_parts(*dlr, *receive, *credit);
-                $result
-            }
-            Message::Udt { class_octet, called, calling, body } => {
-                let $shape = udt_shape();
-                let $parts = udt_parts(*class_octet, called, calling, body);
-                $result
-            }
-            Message::Udts { cause, called, calling, body } => {
-                let $shape = udts_shape();
-                let $parts = udts_parts(*cause, called, calling, body);
-                $result
-            }
-            Message::Ed { dlr, body } => {
-                let $shape = ed_shape();
-                let $parts = ed_parts(*dlr, body);
-                $result
-            }
-            Message::Ea { dlr } => {
-                let $shape = ea_shape();
-                let $parts = ea_parts(*dlr);
-                $result
-            }
-            Message::Rsr { dlr, slr, cause } => {
-                let $shape = rsr_shape();
-                let $parts = rsr_parts(*dlr, *slr, *cause);
-                $result
-            }
-            Message::Rsc { dlr, slr } => {
-                let $shape = rsc_shape();
-                let $parts = rsc_parts(*dlr, *slr);
-                $result
-            }
-            Message::Err { dlr, cause } => {
-                let $shape = err_shape();
-                let $parts = err_parts(*dlr, *cause);
-                $result
-            }
-            Message::It { dlr, slr, class_octet, sequencing, credit } => {
-                let $shape = it_shape();
-                let $parts = it_parts(*dlr, *slr, *class_octet, *sequencing, *credit);
-                $result
-            }
-            Message::Xudt { class_octet, hop, called, calling, body, segmentation, importance } => {
-                let $shape = xudt_shape();
-                let $parts = xudt_parts(*class_octet, *hop, called, calling, body, segmentation, importance);
-                $result
-            }
-            Message::Xudts { cause, hop, called, calling, body, segmentation, importance } => {
-                let $shape = xudts_shape();
-                let $parts = xudts_parts(*cause, *hop, called, calling, body, segmentation, importance);
-                $result
-            }
-            Message::Ludt { class_octet, hop, called, calling, body, segmentation, importance } => {
-                let $shape = ludt_shape();
-                let $parts = ludt_parts(*class_octet, *hop, called, calling, body, segmentation, importance);
-                $result
-            }
-            Message::Ludts { cause, hop, called, calling, body, segmentation, importance } => {
-                let $shape = ludts_shape();
-                let $parts = ludts_parts(*cause, *hop, called, calling, body, segmentation, importance);
-                $result
-            }
-        }
-    };
+/// A message as it is written, whatever its type.
+fn written(message: &Message) -> Written<'_>
+    ensures { IsWritten result message.now }
+{
+    match message {
+        Message::Cr {
+            slr,
+            class_octet,
+            called,
+            credit,
+            calling,
+            body,
+            hop,
+            importance,
+        } => cr_written(
+            *slr,
+            *class_octet,
+            called,
+            credit,
+            calling,
+            body,
+            hop,
+            importance,
+        ),
+        Message::Cc {
+            dlr,
+            slr,
+            class_octet,
+            credit,
+            called,
+            body,
+            importance,
+        } => cc_written(*dlr, *slr, *class_octet, credit, called, body, importance),
+        Message::Cref {
+            dlr,
+            cause,
+            called,
+            body,
+            importance,
+        } => cref_written(*dlr, *cause, called, body, importance),
+        Message::Rlsd {
+            dlr,
+            slr,
+            cause,
+            body,
+            importance,
+        } => rlsd_written(*dlr, *slr, *cause, body, importance),
+        Message::Rlc { dlr, slr } => rlc_written(*dlr, *slr),
+        Message::Dt1 {
+            dlr,
+            segmenting,
+            body,
+        } => dt1_written(*dlr, *segmenting, body),
+        Message::Dt2 {
+            dlr,
+            sequencing,
+            body,
+        } => dt2_written(*dlr, *sequencing, body),
+        Message::Ak {
+            dlr,
+            receive,
+            credit,
+        } => ak_written(*dlr, *receive, *credit),
+        Message::Udt {
+            class_octet,
+            called,
+            calling,
+            body,
+        } => udt_written(*class_octet, called, calling, body),
+        Message::Udts {
+            cause,
+            called,
+            calling,
+            body,
+        } => udts_written(*cause, called, calling, body),
+        Message::Ed { dlr, body } => ed_written(*dlr, body),
+        Message::Ea { dlr } => ea_written(*dlr),
+        Message::Rsr { dlr, slr, cause } => rsr_written(*dlr, *slr, *cause),
+        Message::Rsc { dlr, slr } => rsc_written(*dlr, *slr),
+        Message::Err { dlr, cause } => err_written(*dlr, *cause),
+        Message::It {
+            dlr,
+            slr,
+            class_octet,
+            sequencing,
+            credit,
+        } => it_written(*dlr, *slr, *class_octet, *sequencing, *credit),
+        Message::Xudt {
+            class_octet,
+            hop,
+            called,
+            calling,
+            body,
+            segmentation,
+            importance,
+        } => xudt_written(
+            *class_octet,
+            *hop,
+            called,
+            calling,
+            body,
+            segmentation,
+            importance,
+        ),
+        Message::Xudts {
+            cause,
+            hop,
+            called,
+            calling,
+            body,
+            segmentation,
+            importance,
+        } => xudts_written(
+            *cause,
+            *hop,
+            called,
+            calling,
+            body,
+            segmentation,
+            importance,
+        ),
+        Message::Ludt {
+            class_octet,
+            hop,
+            called,
+            calling,
+            body,
+            segmentation,
+            importance,
+        } => ludt_written(
+            *class_octet,
+            *hop,
+            called,
+            calling,
+            body,
+            segmentation,
+            importance,
+        ),
+        Message::Ludts {
+            cause,
+            hop,
+            called,
+            calling,
+            body,
+            segmentation,
+            importance,
+        } => ludts_written(
+            *cause,
+            *hop,
+            called,
+            calling,
+            body,
+            segmentation,
+            importance,
+        ),
+    }
 }
 
 impl Message {
     /// Whether the message may be written: its lengths are those of Q.713, and each pointer is at most 255, in LUDT and LUDTS at
     /// most 65,535.
-    #[tactic(auto, unfolding(crate::specs::Writing::is_in_range))]
     pub fn in_range(&self) -> bool
         ensures { result ≡ is_in_range self.now }
     {
-        with_parts!(self, shape, parts => shape.fits(&parts))
+        written(self).layout().fits()
     }
 }
 
 /// The canonical octets of a message (Q.713): its parameters stand in the order of the table, without gaps, and the optional part
 /// ends with 00; its pointer is 0 where it has no parameter. `read` gives the same message for them.
-#[tactic(auto, unfolding(crate::specs::Writing::spelling_of))]
 pub fn write(alloc: Global, message: &Message) -> Result<Octets, Memory>
     requires { InRange message.now }
     ensures octets { IfOk result (λ o. o ≡ spelling_of message.now) }
     ensures read_back { IfOk result (λ o. reading_of o ≡ Ok message.now) }
 {
-    with_parts!(message, shape, parts => shape.put_parts(alloc, &parts))
+    written(message).layout().put(alloc)
 }
 
 /// How many octets `write` gives.
-#[tactic(auto, unfolding(crate::specs::Writing::spelling_of))]
 pub fn length(message: &Message) -> usize
     requires { InRange message.now }
     ensures { result ≡ length (spelling_of message.now) }
 {
-    with_parts!(message, shape, parts => shape.length(&parts))
+    written(message).layout().length()
 }

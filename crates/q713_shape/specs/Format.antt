@@ -1,5 +1,5 @@
 -- The format of a message type, and the values that a message has in it (Q.713).
-use Rattle.std.specs.Prelude.{ℕ, ◌+◌, ◌-◌, ◌*◌, ◌==◌, ◌||◌, ◌&&◌, nat_lt, nat_le, Bool, List, ◌++◌, length, replicate, Option, Some, None, if◌then◌else◌}
+use Rattle.std.specs.Prelude.{ℕ, ◌+◌, ◌-◌, ◌*◌, ◌==◌, ◌||◌, ◌&&◌, nat_lt, nat_le, Bool, List, [], ◌++◌, length, replicate, Option, Some, None, if◌then◌else◌}
 use Rattle.q713_shape.specs.declared.rules.VarRule.{VarRule}
 
 -- The type octet; for each octet of the fixed part the name of its parameter; the variable parameters; the names of the
@@ -53,3 +53,7 @@ pointer_count format = length format.vars + option_count format.options
 -- the first place behind the pointers
 abbrev pub place_behind_pointers : Format → ℕ
 place_behind_pointers format = 1 + length format.fixed + pointer_width format.wide * pointer_count format
+
+-- a format without the names of its fixed octets, by which nothing is written
+abbrev pub nameless : Format → Format
+nameless format = record format { fixed = [] }

@@ -1,9 +1,10 @@
 -- What a clause sees of a shape and of parts.
-use Rattle.std.specs.Prelude.{ℕ, List, map, Option}
+use Rattle.std.specs.Prelude.{ℕ, List, [], map, Option}
 use Rattle.std.specs.Option.{option_map}
 use Rattle.std.specs.Borrow.{Bor}
 use Rattle.q713_shape.specs.declared.shape.Shape.{Shape}
 use Rattle.q713_shape.specs.declared.parts.Parts.{Parts}
+use Rattle.q713_shape.specs.declared.layout.Layout.{Layout}
 use Rattle.q713_shape.specs.Format.{Format, Values}
 use Rattle.q713_shape.specs.Rules.{names_of}
 
@@ -28,3 +29,10 @@ values_seen parts = record {
   vars = slices parts.vars;
   options = optional_slices parts.options;
 }
+
+-- a layout has no names of fixed octets
+abbrev pub layout_format : Layout → Format
+layout_format l = record { kind = l.kind; fixed = []; vars = l.rules.now; options = names_of l.names; wide = l.wide }
+
+abbrev pub layout_values : Layout → Values
+layout_values l = record { fixed = l.fixed.now; vars = slices l.vars; options = optional_slices l.options }

@@ -1,18 +1,27 @@
 //! How many octets the parts of a message have, and whether they may have them.
 ghost use Rattle.std.specs.Prelude.{◌≡◌, ◌+◌, ◌*◌, ◌≤◌, ◌++◌, length, IsTrue};
 ghost use Rattle.std.specs.List.{concat};
-ghost use Rattle.q713_shape.specs.Format.{pointer_width, is_length_of, is_option_length};
+ghost use Rattle.q713_shape.specs.Format.{pointer_width, option_count, is_length_of, is_option_length};
+ghost use Rattle.q713_shape.specs.Rules.{names_of};
 ghost use Rattle.q713_shape.specs.Parts.{slices, optional_slices};
 ghost use Rattle.q713_shape.specs.Writing.{variable, variables, all_given, given, have_lengths, have_option_lengths, is_option};
 ghost use Rattle.std.specs.Option.{option_map};
 
-use crate::rules::VarRule;
+use crate::rules::{OptionRule, VarRule};
 
 /// How many octets a pointer has.
 pub fn pointer_octets(wide: bool) -> usize
     ensures { result ≡ pointer_width wide }
 {
     if wide { 2 } else { 1 }
+}
+
+/// How many octets the pointers have: one for each variable parameter, and one for the optional part where there is one.
+pub fn pointers_len(rules: &[VarRule], options: &OptionRule, wide: bool) -> usize
+    requires { length rules.now ≤ 3 }
+    ensures { result ≡ pointer_width wide * (length rules.now + option_count (names_of options.now)) }
+{
+    pointer_octets(wide) * (rules.len() + options.count())
 }
 
 /// Whether a length is one that the optional parameter of this name may have.

@@ -3,13 +3,12 @@ ghost use Rattle.std.specs.Prelude.{◌≡◌, ◌+◌, ◌*◌, ◌≤◌, ◌+
 ghost use Rattle.std.specs.List.{concat, list_all};
 ghost use Rattle.q713_shape.specs.Format.{pointer_width, option_count, pointer_count};
 ghost use Rattle.q713_shape.specs.Rules.{names_of, has_few_names};
-ghost use Rattle.q713_shape.specs.Parts.{optional_slices, format_of, values_seen};
+ghost use Rattle.q713_shape.specs.Parts.{optional_slices, layout_format, layout_values};
 ghost use Rattle.q713_shape.specs.Writing.{number_octets, optional_part, optional_skip_of, option_skip, are_options as are_options_of, fits_pointer, are_in_range, octets_of};
 
-use crate::lengths::{are_lengths, are_option_lengths, options_len, pointer_octets, variables_len};
-use crate::parts::Parts;
+use crate::layout::Layout;
+use crate::lengths::{are_lengths, are_option_lengths, options_len, pointers_len, variables_len};
 use crate::rules::OptionRule;
-use crate::shape::Shape;
 use crate::writing::{fits, pointers_fit, put_number, put_options, put_pointers, put_variables};
 use relay_base::{Memory, Octets};
 use std::alloc::Global;
@@ -103,60 +102,53 @@ fn put_optional_part(
     Ok(())
 }
 
-impl<const F: usize, const V: usize> Shape<F, V> {
-    /// How many octets the pointers have.
-    pub(crate) fn pointers_len(&self) -> usize
-        ensures { result ≡ pointer_width self.now.wide * pointer_count (format_of self.now) }
+impl Layout<'_> {
+    /// Whether it may be written: each length is one that the rules and Q.713 allow, and each pointer fits its octets.
+    pub fn fits(&self) -> bool
+        ensures { result ≡ are_in_range (layout_format self.now) (layout_values self.now) }
     {
-        pointer_octets(self.wide) * (V + self.options.count())
-    }
-
-    /// Whether parts may be written: each length is one that the shape and Q.713 allow, and each pointer fits its octets.
-    pub fn fits(&self, parts: &Parts<'_, F, V>) -> bool
-        ensures { result ≡ are_in_range (format_of self.now) (values_seen parts.now) }
-    {
-        if !are_lengths(&self.vars, &parts.vars) {
+        if !are_lengths(self.rules, &self.vars) {
             return false;
         }
-        if !are_options(&self.options, &parts.options) {
+        if !are_options(&self.names, &self.options) {
             return false;
         }
-        let before = variables_len(&self.vars, &parts.vars);
-        pointers_fit(&self.vars, &parts.vars, self.options.count(), self.wide)
-            && optional_pointer_fits(before, &self.options, &parts.options, self.wide)
+        let before = variables_len(self.rules, &self.vars);
+        pointers_fit(self.rules, &self.vars, self.names.count(), self.wide)
+            && optional_pointer_fits(before, &self.names, &self.options, self.wide)
     }
 
-    /// How many octets parts have that are written.
-    pub fn length(&self, parts: &Parts<'_, F, V>) -> usize
-        requires { IsTrue (are_in_range (format_of self.now) (values_seen parts.now)) }
-        ensures { result ≡ length (octets_of (format_of self.now) (values_seen parts.now)) }
+    /// How many octets it has.
+    pub fn length(&self) -> usize
+        requires { IsTrue (are_in_range (layout_format self.now) (layout_values self.now)) }
+        ensures { result ≡ length (octets_of (layout_format self.now) (layout_values self.now)) }
     {
-        1 + F
-            + self.pointers_len()
-            + variables_len(&self.vars, &parts.vars)
-            + optional_len(&self.options, &parts.options)
+        1 + self.fixed.len()
+            + pointers_len(self.rules, &self.names, self.wide)
+            + variables_len(self.rules, &self.vars)
+            + optional_len(&self.names, &self.options)
     }
 
-    /// The octets of a message of this type with these parts (Q.713): the type, the fixed part, the pointers, the variable
-    /// parameters and the optional part, which ends with 00. What it allocates is what it gives.
-    pub fn put_parts(&self, alloc: Global, parts: &Parts<'_, F, V>) -> Result<Octets, Memory>
-        requires { IsTrue (are_in_range (format_of self.now) (values_seen parts.now)) }
-        ensures { IfOk result (λ o. o ≡ octets_of (format_of self.now) (values_seen parts.now)) }
+    /// Its octets (Q.713): the type, the fixed part, the pointers, the variable parameters and the optional part, which ends
+    /// with 00. What it allocates is what it gives.
+    pub fn put(&self, alloc: Global) -> Result<Octets, Memory>
+        requires { IsTrue (are_in_range (layout_format self.now) (layout_values self.now)) }
+        ensures { IfOk result (λ o. o ≡ octets_of (layout_format self.now) (layout_values self.now)) }
     {
-        let before = variables_len(&self.vars, &parts.vars);
-        let mut out = Octets::with_capacity(alloc, self.length(parts))?;
+        let before = variables_len(self.rules, &self.vars);
+        let mut out = Octets::with_capacity(alloc, self.length())?;
         out.push(self.kind)?;
-        out.extend(&parts.fixed)?;
+        out.extend(self.fixed)?;
         put_pointers(
             &mut out,
+            self.rules,
             &self.vars,
-            &parts.vars,
-            self.options.count(),
+            self.names.count(),
             self.wide,
         )?;
-        put_optional_pointer(&mut out, before, &self.options, &parts.options, self.wide)?;
-        put_variables(&mut out, &self.vars, &parts.vars)?;
-        put_optional_part(&mut out, &self.options, &parts.options)?;
+        put_optional_pointer(&mut out, before, &self.names, &self.options, self.wide)?;
+        put_variables(&mut out, self.rules, &self.vars)?;
+        put_optional_part(&mut out, &self.names, &self.options)?;
         Ok(out)
     }
 }

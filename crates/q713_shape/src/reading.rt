@@ -7,7 +7,7 @@ ghost use Rattle.q713_shape.specs.Rules.{names_of, has_few_names};
 ghost use Rattle.q713_shape.specs.Parts.{slices, optional_slices, format_of, values_seen};
 ghost use Rattle.q713_shape.specs.Taking.{taken_with};
 
-use crate::lengths::{is_option_len, pointer_octets};
+use crate::lengths::{is_option_len, pointer_octets, pointers_len};
 use crate::parts::Parts;
 use crate::rules::{OptionRule, VarRule};
 use crate::shape::Shape;
@@ -176,7 +176,7 @@ impl<const F: usize, const V: usize> Shape<F, V> {
         if bytes.is_empty() {
             return Err(ReadFault::Empty);
         }
-        if bytes.len() < 1 + F + self.pointers_len() {
+        if bytes.len() < 1 + F + pointers_len(&self.vars, &self.options, self.wide) {
             return Err(ReadFault::Short);
         }
         let mut fixed = [0; F];
