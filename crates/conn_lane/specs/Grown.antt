@@ -6,7 +6,7 @@ use Rattle.plant_core.specs.Plant.{PlantState}
 use Rattle.plant_core.specs.declared.entry.Asked.{Asked}
 use Rattle.plant_core.specs.declared.entry.Entry.{Entry}
 use Rattle.plant_core.specs.declared.terms.LaneHead.{LaneHead}
-use Rattle.data_lane.specs.Legal.{answer_in}
+use Rattle.plant_core.specs.Asking.{answer_in}
 use Rattle.section_model.specs.Opening.{wish_of}
 use Rattle.section_coupling.specs.Duos.{taken_after}
 use Rattle.conn_lane.specs.Keeping.{needed}

@@ -6,7 +6,7 @@ use Rattle.plant_core.specs.Plant.{PlantState}
 use Rattle.plant_core.specs.declared.entry.Asked.{Asked}
 use Rattle.plant_core.specs.declared.entry.Entry.{Entry}
 use Rattle.plant_core.specs.declared.terms.LaneHead.{LaneHead}
-use Rattle.data_lane.specs.Legal.{asked_at}
+use Rattle.plant_core.specs.Asking.{asked_at}
 use Rattle.section_model.specs.Opening.{wish_of, question_of}
 use Rattle.section_model.specs.Lane.{Lane, IsConnectionJournal}
 use Rattle.conn_lane.specs.Keeping.{Keeping}

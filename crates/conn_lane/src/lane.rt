@@ -2,8 +2,7 @@
 ghost use Rattle.std.specs.Prelude.{◌≡◌, ◌≤◌, ◌<◌, ◌^◌, [], length, true, false, IfOk, IfSome, OnOk, OnErr};
 ghost use Rattle.plant_core.specs.declared.terms.Terms.{Terms};
 ghost use Rattle.std.specs.Option.{option_map};
-ghost use Rattle.connectionless.specs.Asking.{seen_ask};
-ghost use Rattle.data_lane.specs.Legal.{answer_to, asked_at, answer_in};
+ghost use Rattle.plant_core.specs.Asking.{seen_ask, answer_to, asked_at, answer_in};
 ghost use Rattle.section_model.specs.Opening.{wish_of, question_of, slots_needed};
 ghost use Rattle.relay_base.specs.declared.words.Event.TheVariants.{Tick};
 ghost use Rattle.section_model.specs.Lane.{stray_answer, is_tick};

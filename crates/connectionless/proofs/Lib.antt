@@ -1,3 +1,2 @@
-pub mod AddressLengths
 pub mod Ranges
 pub mod Routable

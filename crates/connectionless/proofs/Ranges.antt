@@ -3,9 +3,9 @@ use Rattle.std.proofs.Common.{◌≡◌, ℕ, ◌+◌, ◌≤◌, List, [], ◌�
 use Rattle.std.specs.Prelude.{◌&&◌, not, nat_le, IsTrue, Some, None}
 use Rattle.std.proofs.lemmas.Bool.{leb-true}
 use Rattle.std.proofs.lemmas.Bool.Decides.{nat_tests}
-use Rattle.connectionless.specs.Routed.{called_onward}
+use Rattle.plant_core.specs.Rewriting.{called_onward}
 use Rattle.connectionless.specs.Given.{Given, IsInRange, IsShort, is_cut}
-use Rattle.connectionless.proofs.AddressLengths.{length-called_onward}
+use Rattle.plant_core.proofs.AddressLengths.{length-called_onward}
 use Rattle.plant_core.specs.declared.answer.Rewrite.{Rewrite}
 use Rattle.q713_shape.specs.Writing.{are_in_range}
 use Rattle.q713_codec.specs.Writing.{is_in_range}

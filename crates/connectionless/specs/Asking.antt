@@ -1,5 +1,5 @@
 -- What a unit asks of routing, or why it is lost (Q.714, connectionless service).
-use Rattle.std.specs.Prelude.{ℕ, ◌==◌, ◌||◌, ◌&&◌, nat_lt, not, Bool, List, [], ◌∷◌, length, slice_index, if◌then◌else◌, Option, Some, None, Ok, Err}
+use Rattle.std.specs.Prelude.{ℕ, ◌&&◌, nat_lt, not, Bool, List, [], ◌∷◌, if◌then◌else◌, Option, Some, None, Ok, Err}
 use Rattle.std.specs.declared.result.Result.{Result}
 use Rattle.relay_base.specs.declared.words.Event.{Event}
 use Rattle.relay_base.specs.declared.words.Event.TheVariants.{Message as Arrived, Asked as Requested, Tick}
@@ -10,25 +10,16 @@ use Rattle.relay_base.specs.declared.words.Lost.TheVariants.{Long, Read, Address
 use Rattle.relay_base.specs.declared.words.ReadFault.{ReadFault}
 use Rattle.relay_base.specs.declared.words.Output.{Output}
 use Rattle.relay_base.specs.declared.words.Output.TheVariants.{Lost as Dropped}
-use Rattle.sccp_address.specs.Form.{Form, seen}
+use Rattle.sccp_address.specs.Form.{Form}
 use Rattle.sccp_address.specs.Parsing.{address_of}
 use Rattle.sccp_address.specs.declared.address.AddressFault.{AddressFault}
-use Rattle.plant_core.specs.declared.answer.Ask.{Ask}
-use Rattle.plant_core.specs.declared.answer.Origin.{Origin}
 use Rattle.plant_core.specs.declared.answer.Origin.TheVariants.{Network, User as FromUser}
+use Rattle.plant_core.specs.Asking.{Question}
+use Rattle.q713_codec.specs.Longest.{is_too_long}
 use Rattle.q713_codec.specs.declared.message.Message.{Message}
 use Rattle.q713_codec.specs.Reading.{reading_of}
 use Rattle.connectionless.specs.Unitdata.{Unitdata, unitdata_of, class_of}
 use Rattle.connectionless.specs.Given.{is_unit_request}
-
--- What routing is asked: a called address, a hop counter, and who asks.
-pub record Question : Type 0 where
-  pub called : Form
-  pub hop : Option ℕ
-  pub origin : Origin
-
-abbrev pub seen_ask : Ask → Question
-seen_ask ask = record { called = seen ask.called; hop = ask.hop; origin = ask.origin }
 
 -- a unit whose class is above 1
 abbrev pub is_of_wrong_class : Unitdata → Bool
@@ -41,10 +32,6 @@ asked_by (Ok a) x = if is_of_wrong_class x then Err Class else Ok (record { call
 -- what a unit or a service message from the network asks, or the first reason to lose it
 unfoldable pub question_of : Unitdata → Result Question Lost
 question_of x = asked_by (address_of x.called) x
-
--- longer than a message may be that isn't LUDT or LUDTS
-abbrev pub is_too_long : List ℕ → Bool
-is_too_long bytes = nat_lt 268 (length bytes) && not (slice_index bytes 0 == 0x13 || slice_index bytes 0 == 0x14)
 
 -- the message that octets from the network are, or why they are lost
 abbrev pub message_by : Result Message ReadFault → Result Message Lost

@@ -16,7 +16,7 @@ use Rattle.connectionless.specs.declared.unitdata.Kind.TheVariants.{Extended}
 use Rattle.connectionless.specs.declared.given.GivenView.{GivenView}
 use Rattle.connectionless.specs.Unitdata.{Unitdata, basic, with_hop}
 use Rattle.connectionless.specs.Leaving.{unit_octets}
-use Rattle.connectionless.specs.Routed.{called_onward}
+use Rattle.plant_core.specs.Rewriting.{called_onward}
 
 -- The unit that a user gives, with its calling address.
 pub record Given : Type 0 where
@@ -38,10 +38,6 @@ is_address octets = nat_le (length octets) 40 && is_ok (address_of octets)
 abbrev pub is_optional_address : Option (List ℕ) → Bool
 is_optional_address None = true
 is_optional_address (Some octets) = is_address octets
-
--- the address of a subsystem alone
-abbrev pub subsystem_address : ℕ → List ℕ
-subsystem_address ssn = 0x42 ∷ ssn ∷ []
 
 -- a request that is a unit in its ranges: class 0 or 1, at most 40 octets of an address, and at most 2,560 of data
 abbrev pub is_unit_request : Request → Bool

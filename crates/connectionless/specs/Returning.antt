@@ -1,14 +1,12 @@
 -- The return of a unit (Q.714, return on error), and what else comes of a refusal.
-use Rattle.std.specs.Prelude.{ℕ, ◌/◌, ◌%◌, ◌==◌, ◌&&◌, nat_le, not, Bool, true, false, List, [], ◌∷◌, if◌then◌else◌, Option, Some, None, Ok, Err, unwrap_or}
+use Rattle.std.specs.Prelude.{ℕ, ◌==◌, ◌&&◌, nat_le, not, Bool, true, false, List, if◌then◌else◌, Option, Some, None, Ok, Err, unwrap_or}
 use Rattle.std.specs.declared.result.Result.{Result}
 use Rattle.relay_base.specs.declared.words.Output.{Output}
-use Rattle.relay_base.specs.declared.words.Output.TheVariants.{Sent, Lost as Dropped}
+use Rattle.relay_base.specs.declared.words.Output.TheVariants.{Lost as Dropped}
 use Rattle.relay_base.specs.declared.words.Lost.TheVariants.{Cause}
 use Rattle.sccp_address.specs.Form.{Form}
 use Rattle.sccp_address.specs.Parsing.{address_of}
 use Rattle.sccp_address.specs.declared.address.AddressFault.{AddressFault}
-use Rattle.q713_codec.specs.Writing.{spelling_of}
-use Rattle.q713_codec.specs.declared.message.Message.TheVariants.{Udt}
 use Rattle.reassembly.specs.declared.piece.Piece.{Piece}
 use Rattle.connectionless.specs.declared.unitdata.Kind.TheVariants.{Extended}
 use Rattle.connectionless.specs.Unitdata.{Unitdata, with_hop}
@@ -43,15 +41,6 @@ asks_return x = not x.is_service && nat_le 128 x.first
 unfoldable pub refusal_output : ℕ → ℕ → ℕ → ℕ → Unitdata → Output
 refusal_output own opc sls cause x =
     if asks_return x then return_output own opc sls cause x else Dropped (Cause cause)
-
--- The origin is told by management that a local subsystem is prohibited (Q.714, subsystem prohibited test).
-abbrev pub prohibited_octets : ℕ → ℕ → List ℕ
-prohibited_octets own ssn =
-    spelling_of (Udt 0 (0x42 ∷ 0x01 ∷ []) (0x42 ∷ 0x01 ∷ []) (0x02 ∷ ssn ∷ own % 256 ∷ own / 256 ∷ 0x00 ∷ []))
-
-unfoldable pub status_outputs : ℕ → ℕ → ℕ → Option ℕ → List Output
-status_outputs own opc sls None = []
-status_outputs own opc sls (Some ssn) = Sent opc sls (prohibited_octets own ssn) ∷ []
 
 -- the unit that a segment is
 abbrev pub unit_in : Piece → Unitdata

@@ -12,7 +12,7 @@ use Rattle.sccp_address.specs.declared.address.AddressFault.{AddressFault}
 use Rattle.plant_core.specs.declared.answer.Answer.{Answer}
 use Rattle.plant_core.specs.declared.answer.Answer.TheVariants.{Local, Forward, Refused}
 use Rattle.plant_core.specs.declared.answer.Rewrite.{Rewrite}
-use Rattle.plant_core.specs.Rewriting.{address_after}
+use Rattle.plant_core.specs.Rewriting.{called_onward}
 use Rattle.plant_core.specs.Causes.{return_code}
 use Rattle.connectionless.specs.declared.unitdata.Kind.{Kind}
 use Rattle.connectionless.specs.declared.unitdata.Kind.TheVariants.{Basic, Extended, Long}
@@ -22,7 +22,8 @@ use Rattle.connectionless.specs.declared.segment.Segment.{Segment}
 use Rattle.q713_codec.specs.declared.message.Message.{Message}
 use Rattle.connectionless.specs.Unitdata.{Unitdata, unitdata_of, class_of}
 use Rattle.connectionless.specs.Leaving.{leaving_octets, sent_or}
-use Rattle.connectionless.specs.Returning.{refusal_output, status_outputs}
+use Rattle.connectionless.specs.Returning.{refusal_output}
+use Rattle.scmg_messages.specs.Messages.{status_outputs}
 
 -- What comes of a unit: outputs, and a segment where it is to be put together with others.
 pub record Outcome : Type 0 where
@@ -66,14 +67,6 @@ delivery_by (Some segmentation) opc sls ssn x = record { outs = []; next = Gathe
 -- to a local subsystem
 unfoldable pub delivery : ℕ → ℕ → ℕ → Unitdata → Outcome
 delivery opc sls ssn x = delivery_by (segmentation_in x) opc sls ssn x
-
--- the octets of a called address as it goes on
-abbrev pub onward_by : Result Form AddressFault → Rewrite → List ℕ → List ℕ
-onward_by (Ok a) rewrite octets = address_spelling (address_after a rewrite)
-onward_by (Err fault) rewrite octets = octets
-
-unfoldable pub called_onward : Rewrite → List ℕ → List ℕ
-called_onward rewrite octets = onward_by (address_of octets) rewrite octets
 
 -- a calling address that routes on its subsystem number and names no point gets the point of the origin
 abbrev pub with_origin_by : Result Form AddressFault → ℕ → List ℕ → List ℕ

@@ -7,22 +7,15 @@ ghost use Rattle.q713_codec.specs.Reading.{seen};
 ghost use Rattle.connectionless.specs.Unitdata.{seen_unit};
 ghost use Rattle.connectionless.specs.Routed.{IsRoutable};
 ghost use Rattle.connectionless.specs.Given.{is_unit_request};
-ghost use Rattle.connectionless.specs.Asking.{is_too_long, question_of, message_question, message_in, seen_ask, user_question};
+ghost use Rattle.connectionless.specs.Asking.{question_of, message_question, message_in, user_question};
+ghost use Rattle.plant_core.specs.Asking.{seen_ask};
 
 use crate::given::is_unit_request;
-use crate::leaving::LONGEST;
 use crate::unitdata::{UnitView, unit_of};
 use plant_core::{Ask, Origin};
-use q713_codec::{View, read};
+use q713_codec::{View, is_too_long, read};
 use relay_base::{Lost, Request};
 use sccp_address::parse;
-
-/// Whether octets are longer than a message may be that isn't LUDT or LUDTS.
-fn is_too_long(bytes: &[u8]) -> bool
-    ensures { result ≡ is_too_long bytes.now }
-{
-    bytes.len() > LONGEST && !(bytes[0] == 0x13 || bytes[0] == 0x14)
-}
 
 /// What a unit or a service message asks of routing, or the first reason to lose it.
 #[tactic(auto, unfolding(crate::specs::Asking::question_of))]

@@ -2,30 +2,19 @@
 ghost use Rattle.std.specs.Prelude.{◌≡◌, IfOk, IsOk};
 ghost use Rattle.sccp_address.specs.Parsing.{address_of};
 ghost use Rattle.connectionless.specs.Unitdata.{seen_unit};
-ghost use Rattle.connectionless.specs.Routed.{called_onward, calling_with_origin, calling_by, forward_output};
+ghost use Rattle.connectionless.specs.Routed.{calling_with_origin, calling_by, forward_output};
+ghost use Rattle.plant_core.specs.Rewriting.{called_onward};
 
 use crate::leaving::leaving_octets;
 use crate::returning::refusal_output;
 use crate::unitdata::UnitView;
-use plant_core::{Rewrite, rewritten};
+use plant_core::{Rewrite, called_onward};
 use relay_base::{Memory, Octets, Output, Pc, Sls};
 use sccp_address::{Address, parse, spell};
 use std::alloc::Global;
 
 /// The return cause for what can't be sent on.
 const UNQUALIFIED: u8 = 7;
-
-/// The octets of a called address as it goes on.
-#[tactic(auto, unfolding(crate::specs::Routed::called_onward))]
-pub fn called_onward(alloc: Global, called: &[u8], rewrite: &Rewrite) -> Result<Octets, Memory>
-    requires { IsOk (address_of called.now) }
-    ensures { IfOk result (λ octets. octets ≡ called_onward rewrite.now called.now) }
-{
-    match parse(called) {
-        Ok(address) => rewritten(alloc, &address, rewrite),
-        Err(_) => unreachable!(),
-    }
-}
 
 /// The octets of a calling address, with the point of the origin where it routes on its subsystem number and names none.
 #[tactic(auto, unfolding(crate::specs::Routed::calling_with_origin))]

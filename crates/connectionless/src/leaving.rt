@@ -1,17 +1,13 @@
 //! What leaves the node.
-ghost use Rattle.std.specs.Prelude.{◌≡◌, ◌++◌, IfOk, OnOk, OnErr, IsTrue};
+ghost use Rattle.std.specs.Prelude.{◌≡◌, IfOk, IsTrue};
 ghost use Rattle.q713_codec.specs.Writing.{is_in_range};
 ghost use Rattle.connectionless.specs.Unitdata.{seen_unit, message_of};
 ghost use Rattle.connectionless.specs.Leaving.{leaving_by, leaving_octets, unit_octets};
 
 use crate::unitdata::{Kind, UnitView, message_of};
-use q713_codec::{Message, length, write};
-use relay_base::{Memory, Octets, Outs};
+use q713_codec::{LONGEST, Message, length, write};
+use relay_base::{Memory, Octets};
 use std::alloc::Global;
-use std::mem;
-
-/// The longest message that isn't LUDT or LUDTS, in octets.
-pub const LONGEST: usize = 268;
 
 /// The octets of a message that may leave.
 fn leaving_by(alloc: Global, kind: Kind, message: &Message) -> Result<Option<Octets>, Memory>
@@ -43,17 +39,4 @@ pub fn octets_of(alloc: Global, unit: &UnitView<'_>) -> Result<Octets, Memory>
 {
     let message = message_of(alloc, unit)?;
     write(alloc, &message)
-}
-
-/// Puts outputs at the end. After `Memory` the list is as before.
-pub fn append(alloc: Global, outs: &mut Outs, more: Outs) -> Result<(), Memory>
-    ensures ok { OnOk result (outs.new ≡ outs.old ++ more) }
-    ensures err { OnErr result (outs.new ≡ outs.old) }
-{
-    let mut items = mem::replace(outs, Outs::new(alloc)).into_vec();
-    let mut added = more.into_vec();
-    let appended = items.append(&mut added);
-    *outs = Outs::from(items);
-    appended?;
-    Ok(())
 }

@@ -14,8 +14,7 @@ mod unitdata;
 mod user;
 
 pub use asking::{message_ask, message_in, user_ask};
-pub use forwarding::called_onward;
-pub use returning::{put_status, return_outs};
+pub use returning::return_outs;
 pub use segment::{Next, Segment};
 pub use unit::unit_outs;
 pub use user::user_outs;

@@ -4,8 +4,9 @@ ghost use Rattle.std.specs.List.{range_with_len};
 ghost use Rattle.connectionless.specs.Given.{seen_given, IsShort, return_bit, is_cut, segment_size, segment_count, segmentation_octets, whole_output, segment_output, sending_to};
 
 use crate::given::GivenView;
-use crate::leaving::{LONGEST, octets_of};
+use crate::leaving::octets_of;
 use crate::unitdata::{Kind, UnitView};
+use q713_codec::LONGEST;
 use relay_base::{Memory, Output, Outs, Pc, Ref24};
 use std::alloc::Global;
 

@@ -1,12 +1,12 @@
 //! The return of a unit, and what else comes of a refusal (Q.714, return on error).
 ghost use Rattle.std.specs.Prelude.{◌≡◌, ◌++◌, ◌∷◌, [], IfOk, OnOk, OnErr};
 ghost use Rattle.connectionless.specs.Unitdata.{seen_unit};
-ghost use Rattle.connectionless.specs.Returning.{return_point, return_output, asks_return, refusal_output, prohibited_octets, status_outputs, unit_in};
+ghost use Rattle.connectionless.specs.Returning.{return_point, return_output, asks_return, refusal_output, unit_in};
 
-use crate::leaving::{leaving_octets, octets_of};
+use crate::leaving::leaving_octets;
 use crate::unitdata::{Kind, UnitView};
 use reassembly::Piece;
-use relay_base::{Lost, Memory, Octets, Output, Outs, Pc, Sls, Ssn};
+use relay_base::{Lost, Memory, Output, Outs, Pc, Sls};
 use sccp_address::parse;
 use std::alloc::Global;
 
@@ -75,51 +75,6 @@ pub fn refusal_output(
         return Ok(Output::Lost(Lost::Cause(cause)));
     }
     return_output(alloc, own, opc, sls, cause, unit)
-}
-
-/// The octets of the message of management that says that a local subsystem is prohibited.
-#[tactic(auto, unfolding(crate::specs::Unitdata::message_of))]
-fn prohibited_octets(alloc: Global, own: Pc, ssn: Ssn) -> Result<Octets, Memory>
-    ensures { IfOk result (λ octets. octets ≡ prohibited_octets own ssn) }
-{
-    let management = [0x42, 0x01];
-    let low = (own.number() % 256) as u8;
-    let high = (own.number() / 256) as u8;
-    let unit = UnitView {
-        kind: Kind::Basic,
-        is_service: false,
-        first: 0,
-        hop: None,
-        called: &management,
-        calling: &management,
-        body: &[0x02, ssn.number() as u8, low, high, 0x00],
-        segmentation: None,
-        importance: None,
-    };
-    octets_of(alloc, &unit)
-}
-
-/// Tells the origin of a unit that a local subsystem is prohibited, where one is named.
-#[tactic(auto, unfolding(crate::specs::Returning::status_outputs))]
-pub fn put_status(
-    alloc: Global,
-    outs: &mut Outs,
-    own: Pc,
-    opc: Pc,
-    sls: Sls,
-    local: Option<Ssn>,
-) -> Result<(), Memory>
-    ensures { OnOk result (outs.new ≡ outs.old ++ status_outputs own opc sls local) }
-{
-    let Some(ssn) = local else {
-        return Ok(());
-    };
-    let bytes = prohibited_octets(alloc, own, ssn)?;
-    outs.push(Output::Sent {
-        point: opc,
-        sls,
-        bytes,
-    })
 }
 
 /// What comes of a segment whose reassembly fails, or has no room, with a return cause (Q.713): the return of the segment as XUDTS

@@ -7,13 +7,13 @@ ghost use Rattle.connectionless.specs.Routed.{unit_outcome, outcome_of, IsRoutab
 
 use crate::delivery::deliver;
 use crate::forwarding::{Onward, forward_output};
-use crate::leaving::append;
-use crate::returning::{put_status, refusal_output};
+use crate::returning::refusal_output;
 use crate::segment::Next;
 use crate::unitdata::{UnitView, unit_of};
 use plant_core::{Answer, return_cause};
 use q713_codec::View;
 use relay_base::{Memory, Outs, Pc, Sls};
+use scmg_messages::put_status;
 use std::alloc::Global;
 
 /// What comes of a unit by the answer to it.
@@ -74,6 +74,6 @@ pub fn unit_outs(
         unreachable!()
     };
     let (more, next) = outcome(alloc, own, opc, sls, &unit, answer)?;
-    append(alloc, outs, more)?;
+    outs.append(more)?;
     Ok(next)
 }

@@ -1,14 +1,13 @@
 //! What comes of a unit that a user gives.
 ghost use Rattle.std.specs.Prelude.{◌≡◌, ◌++◌, IfOk, IsTrue, OnOk, OnErr};
-ghost use Rattle.connectionless.specs.Routed.{called_onward};
+ghost use Rattle.plant_core.specs.Rewriting.{called_onward};
 ghost use Rattle.connectionless.specs.Given.{is_unit_request, given_of, given_outcome, refused_by, sending_of, sending_to, told_output, reference_after, seen_given, IsInRange};
 
-use crate::forwarding::called_onward;
 use crate::given::{GivenView, given_in};
-use crate::leaving::append;
 use crate::outgoing::OutgoingUnit;
-use plant_core::{Answer, Rewrite, return_cause};
+use plant_core::{Answer, Rewrite, called_onward, return_cause};
 use relay_base::{BoxedOctets, Lost, Memory, Output, Outs, Pc, Ref24, Request, Ssn, Tell};
+use sccp_address::subsystem_address;
 use std::alloc::Global;
 
 /// What a user of this node is told of another user's unit.
@@ -115,9 +114,9 @@ pub fn user_outs(
     ensures cut { IfOk result (λ cut. cut ≡ (sending_of (given_of ssn request.now) answer.now (reference_after lane count)).is_cut) }
     ensures err { OnErr result (outs.new ≡ outs.old) }
 {
-    let own = [0x42, ssn.number() as u8];
+    let own = subsystem_address(ssn);
     let given = given_in(ssn, &own, request);
     let (more, is_cut) = outcome(alloc, &given, answer, reference_after(lane, count))?;
-    append(alloc, outs, more)?;
+    outs.append(more)?;
     Ok(is_cut)
 }

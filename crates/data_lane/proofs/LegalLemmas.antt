@@ -9,9 +9,10 @@ use Rattle.plant_core.specs.declared.entry.Entry.{Entry}
 use Rattle.plant_core.specs.declared.terms.LaneHead.{LaneHead}
 use Rattle.reassembly.specs.Laws.{IsWithinBounds}
 use Rattle.reassembly.specs.Reassembly.{Reassemblies}
-use Rattle.connectionless.specs.Asking.{Question, matter_of}
+use Rattle.connectionless.specs.Asking.{matter_of}
+use Rattle.plant_core.specs.Asking.{Question, asked_at, answer_in}
 use Rattle.data_lane.specs.declared.effect.Effect.{Effect}
-use Rattle.data_lane.specs.Legal.{State, at_first, Step, step_of, step_by, joined, worked, effect_by, ticks_of, IsLegalEntry, LegalFrom, entry_after, state_after, question_of, asked_at, asked_of, answer_in}
+use Rattle.data_lane.specs.Legal.{State, at_first, Step, step_of, step_by, joined, worked, effect_by, ticks_of, IsLegalEntry, LegalFrom, entry_after, state_after, question_of, asked_of}
 use Rattle.data_lane.specs.Lane.{reduced, IsLane}
 use Rattle.data_lane.proofs.CountLemmas.{reduced-add, effect-reduced}
 

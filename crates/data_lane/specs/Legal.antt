@@ -1,13 +1,13 @@
 -- A legal data journal: what each event asks of routing, and what comes of it by the answer and by what the entries before it left.
-use Rattle.std.specs.Prelude.{◌≡◌, ℕ, ◌+◌, ◌/◌, ◌%◌, ◌==◌, Bool, true, false, List, [], ◌∷◌, ◌++◌, map, slice_index, if◌then◌else◌, Option, Some, None, option_map, is_some}
+use Rattle.std.specs.Prelude.{◌≡◌, ℕ, ◌+◌, ◌/◌, ◌%◌, ◌==◌, Bool, true, false, List, [], ◌∷◌, ◌++◌, map, slice_index, if◌then◌else◌, Option, Some, None, is_some}
 use Rattle.relay_base.specs.declared.words.Event.{Event}
 use Rattle.relay_base.specs.declared.words.Stamp.{Stamp}
 use Rattle.relay_base.specs.declared.words.Output.{Output}
 use Rattle.relay_base.specs.declared.words.Output.TheVariants.{Told, Lost as Dropped}
 use Rattle.relay_base.specs.declared.words.Lost.TheVariants.{Segment as SegmentLost}
 use Rattle.relay_base.specs.declared.words.Tell.TheVariants.{Unit as UnitTold}
-use Rattle.plant_core.specs.Plant.{RoutingData, PlantState}
-use Rattle.plant_core.specs.Routing.{route_of}
+use Rattle.plant_core.specs.Plant.{PlantState}
+use Rattle.plant_core.specs.Asking.{Question, asked_at, answer_in}
 use Rattle.plant_core.specs.declared.answer.Answer.{Answer}
 use Rattle.plant_core.specs.declared.entry.Asked.{Asked}
 use Rattle.plant_core.specs.declared.entry.Entry.{Entry}
@@ -25,7 +25,7 @@ use Rattle.connectionless.specs.Unitdata.{unitdata_of}
 use Rattle.connectionless.specs.Returning.{refusal_output, unit_in}
 use Rattle.connectionless.specs.Routed.{Outcome, outcome_of}
 use Rattle.connectionless.specs.Given.{Sending, given_of, sending_of, reference_after}
-use Rattle.connectionless.specs.Asking.{Question, Matter, from_network, from_user, settled, of_tick, matter_of, question_in}
+use Rattle.connectionless.specs.Asking.{Matter, from_network, from_user, settled, of_tick, matter_of, question_in}
 use Rattle.data_lane.specs.declared.effect.Effect.{Effect}
 use Rattle.data_lane.specs.declared.effect.Work.{Work}
 use Rattle.data_lane.specs.declared.effect.Work.TheVariants as work
@@ -34,19 +34,9 @@ use Rattle.data_lane.specs.declared.effect.Work.TheVariants as work
 abbrev pub question_of : Event → Option Question
 question_of e = question_in (matter_of e)
 
-abbrev pub answer_to : RoutingData → Question → Answer
-answer_to routing q = route_of routing q.called q.hop q.origin
-
--- the routing for what is asked, at this edition of the routing data
-abbrev pub asked_at : ℕ → RoutingData → Option Question → Option Asked
-asked_at edition routing asks = option_map (λ q. record { edition = edition; answer = answer_to routing q }) asks
-
 -- the routing that an event asks, at the edition of these routing data
 abbrev pub asked_of : PlantState → Event → Option Asked
 asked_of plant e = asked_at plant.edition plant.routing (question_of e)
-
-abbrev pub answer_in : Option Asked → Option Answer
-answer_in asked = option_map (λ a. a.answer) asked
 
 -- What comes of an event before the reassemblies have it.
 

@@ -2,16 +2,17 @@
 ghost use Rattle.std.specs.Prelude.{◌≡◌, [], ◌∷◌, IfOk};
 ghost use Rattle.relay_base.specs.declared.words.Output.TheVariants.{Lost as Dropped};
 ghost use Rattle.q713_codec.specs.Reading.{seen};
-ghost use Rattle.connectionless.specs.Asking.{Matter, matter_by_question, matter_by_message, matter_by_request, message_question, message_in, user_question, seen_ask, question_in, matter_of};
+ghost use Rattle.connectionless.specs.Asking.{Matter, matter_by_question, matter_by_message, matter_by_request, message_question, message_in, user_question, question_in, matter_of};
+ghost use Rattle.plant_core.specs.Asking.{asked_at, answer_in};
 ghost use Rattle.data_lane.specs.declared.effect.Work.TheVariants as work;
-ghost use Rattle.data_lane.specs.Legal.{answer_to, asked_at, asked_of, answer_in, piece_of, work_of, effect_with, effect_by};
+ghost use Rattle.data_lane.specs.Legal.{asked_of, piece_of, work_of, effect_with, effect_by};
 
 use connectionless::{Next, Segment, message_ask, message_in, unit_outs, user_ask, user_outs};
-use plant_core::{Ask, Asked, LaneHead, Plant};
+use plant_core::{Asked, LaneHead, Plant};
 use q713_codec::View;
 use reassembly::Piece;
 use relay_base::{Event, Lost, Memory, Output, Outs, Pc, Request, Sls, Ssn};
-use routing_control::route;
+use routing_control::asked;
 use std::alloc::Global;
 
 /// What is left to do with the reassemblies.
@@ -50,16 +51,6 @@ impl Effect {
         let mut outs = Outs::new(alloc);
         outs.push(Output::Lost(lost))?;
         Ok(Effect::with(outs, Work::Nothing))
-    }
-}
-
-/// The answer of the routing data, at their edition.
-fn asked(plant: &Plant, ask: &Ask<'_>) -> Asked
-    ensures { result ≡ record { edition = plant.now.edition; answer = answer_to plant.now.routing (seen_ask ask.now) } }
-{
-    Asked {
-        edition: plant.edition(),
-        answer: route(plant, &ask.called, ask.hop, ask.origin),
     }
 }
 

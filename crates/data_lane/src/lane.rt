@@ -9,7 +9,7 @@ use crate::gathering::work_off;
 use plant_core::{Entry, EntryList, LaneHead, Plant, fitted};
 use reassembly::Bench;
 use relay_base::{Event, Memory, Pc, Stamp};
-use std::alloc::{AllocError, Global};
+use std::alloc::Global;
 use std::marker::Model;
 use std::mem;
 
@@ -37,12 +37,6 @@ impl Model for DataLane {
     ghost view = { λ l. record { head = l.head; number = l.number; journal = l.journal } };
 
     ghost invariant = { λ l. IsLane l.head l.number l.journal l.cut l.bench };
-}
-
-fn copy_of(event: &Event) -> Result<Event, AllocError>
-    ensures { IfOk result (λ copy. copy ≡ event.now) }
-{
-    event.clone()
 }
 
 /// The ticks of a reassembly, at least one.
@@ -130,7 +124,7 @@ impl DataLane {
         let (asked, effect) = context.effect_of(event)?;
         let entry = Entry {
             stamp,
-            event: copy_of(event)?,
+            event: event.copied()?,
             asked,
             outs: effect.outs,
         };

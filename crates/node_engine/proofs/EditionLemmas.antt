@@ -5,8 +5,7 @@ use Rattle.std.specs.List.{AllByRecursion}
 use Rattle.std.proofs.lemmas.Bool.Decides.{nat_tests}
 use Rattle.std.proofs.lemmas.List.{take-append-le, take_all}
 use Rattle.std.proofs.lemmas.List.Sums.{sum_by-append}
-use Rattle.connectionless.specs.Asking.{Question}
-use Rattle.data_lane.specs.Legal.{answer_to, asked_at}
+use Rattle.plant_core.specs.Asking.{Question, answer_to, asked_at}
 use Rattle.plant_core.specs.declared.change.Change.{Change}
 use Rattle.plant_core.specs.declared.entry.Asked.{Asked}
 use Rattle.plant_core.specs.declared.entry.ControlEntry.{ControlEntry}

@@ -4,7 +4,7 @@ use Rattle.std.proofs.lemmas.List.{map-append}
 use Rattle.std.specs.List.{AllByRecursion}
 use Rattle.relay_base.specs.declared.words.Event.{Event}
 use Rattle.relay_base.specs.declared.words.Stamp.{Stamp}
-use Rattle.connectionless.specs.Asking.{Question}
+use Rattle.plant_core.specs.Asking.{Question}
 use Rattle.plant_core.specs.Plant.{RoutingData}
 use Rattle.plant_core.specs.declared.change.Change.{Change}
 use Rattle.plant_core.specs.declared.entry.Entry.{Entry}

@@ -1,8 +1,7 @@
 -- Which edition of the routing data answers what an event asks.
 use Rattle.std.specs.Prelude.{◌≡◌, ◌≤◌, ◌&&◌, ℕ, nat_lt, nat_le, List, [], ◌∷◌, Option, Some, None, is_some, take, count_by}
 use Rattle.std.specs.List.{flat_map}
-use Rattle.connectionless.specs.Asking.{Question}
-use Rattle.data_lane.specs.Legal.{answer_to}
+use Rattle.plant_core.specs.Asking.{Question, answer_to}
 use Rattle.node_head.specs.declared.head.Head.{Head}
 use Rattle.plant_core.specs.Plant.{RoutingData}
 use Rattle.plant_core.specs.declared.change.Change.{Change}

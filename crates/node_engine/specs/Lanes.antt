@@ -3,7 +3,7 @@ use Rattle.std.specs.Prelude.{ℕ, ◌+◌, Bool, List, [], ◌∷◌, Option}
 use Rattle.std.specs.List.{AllByRecursion}
 use Rattle.std.specs.List.Sorted.{IsNonDecreasing}
 use Rattle.relay_base.specs.declared.words.Event.{Event}
-use Rattle.connectionless.specs.Asking.{Question}
+use Rattle.plant_core.specs.Asking.{Question}
 use Rattle.section_model.specs.Opening.{wish_of}
 use Rattle.section_model.specs.Opening.{question_of as question_of_wish}
 use Rattle.data_lane.specs.Legal.{question_of as question_of_unit}

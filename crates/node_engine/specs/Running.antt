@@ -4,14 +4,14 @@ use Rattle.std.specs.List.{AllByRecursion}
 use Rattle.std.specs.List.Sorted.{IsNonDecreasing}
 use Rattle.relay_base.specs.declared.words.Event.{Event}
 use Rattle.relay_base.specs.declared.words.Stamp.{Stamp}
-use Rattle.connectionless.specs.Asking.{Question}
+use Rattle.plant_core.specs.Asking.{Question, asked_at}
 use Rattle.plant_core.specs.Plant.{RoutingData}
 use Rattle.plant_core.specs.declared.change.Change.{Change}
 use Rattle.plant_core.specs.declared.entry.Entry.{Entry}
 use Rattle.plant_core.specs.declared.entry.ControlEntry.{ControlEntry}
 use Rattle.plant_core.specs.declared.entry.ControlEvent.{ControlEvent}
 use Rattle.plant_core.specs.declared.entry.ControlEvent.TheVariants.{Plain, Change as Changing}
-use Rattle.data_lane.specs.Legal.{asked_at, LaneState, IsDataJournal}
+use Rattle.data_lane.specs.Legal.{LaneState, IsDataJournal}
 use Rattle.data_lane.specs.Legal.{question_of as question_of_unit}
 use Rattle.conn_lane.specs.Lanes.{ConnLaneState, IsConnJournal}
 use Rattle.node_head.specs.declared.head.Head.{Head}

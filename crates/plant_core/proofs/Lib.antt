@@ -1,1 +1,2 @@
+pub mod AddressLengths
 pub mod StatusLemmas

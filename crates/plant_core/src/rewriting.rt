@@ -3,11 +3,11 @@ ghost use Rattle.std.specs.Prelude.{◌≡◌, IfOk, Ok};
 ghost use Rattle.sccp_address.specs.Form.{seen};
 ghost use Rattle.sccp_address.specs.Parsing.{address_of, IsInForm};
 ghost use Rattle.sccp_address.specs.Spelling.{address_spelling};
-ghost use Rattle.plant_core.specs.Rewriting.{address_after};
+ghost use Rattle.plant_core.specs.Rewriting.{address_after, called_onward};
 
 use crate::answer::Rewrite;
 use relay_base::{Memory, Octets};
-use sccp_address::{Address, spell};
+use sccp_address::{Address, parse, spell};
 use std::alloc::Global;
 
 /// The octets of a called address, in form, as it leaves.
@@ -27,5 +27,16 @@ pub fn rewritten(alloc: Global, called: &Address<'_>, rewrite: &Rewrite) -> Resu
             };
             spell(alloc, &leaving)
         }
+    }
+}
+
+/// The octets of a called address as it goes on; those that are no address stay as they are.
+#[tactic(auto, unfolding(crate::specs::Rewriting::called_onward))]
+pub fn called_onward(alloc: Global, called: &[u8], rewrite: &Rewrite) -> Result<Octets, Memory>
+    ensures { IfOk result (λ octets. octets ≡ called_onward rewrite.now called.now) }
+{
+    match parse(called) {
+        Ok(address) => rewritten(alloc, &address, rewrite),
+        Err(_) => Octets::from_slice(alloc, called),
     }
 }

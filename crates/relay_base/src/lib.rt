@@ -1,6 +1,8 @@
 //! The words that every part of the relay speaks: numbers, octets, events, outputs, and the traits of the outside.
 #![tactic(auto)]
 
+pub mod causes;
+mod decimal;
 mod digits;
 mod errors;
 mod lists;
@@ -10,6 +12,7 @@ mod outside;
 mod stream;
 mod words;
 
+pub use decimal::number_of;
 pub use digits::Digits;
 pub use errors::{Failed, Memory, ReadAllFault};
 pub use lists::{Outs, PcList, PlainList, SsnList, StampedList};

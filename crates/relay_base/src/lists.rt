@@ -42,6 +42,18 @@ impl<T> PlainList<T> {
         Ok(())
     }
 
+    /// Puts the items of another list at the end.
+    pub fn append(&mut self, more: PlainList<T>) -> Result<(), Memory>
+    where
+        T: Drop,
+        ensures ok { OnOk result (self.new ≡ self.old ++ more) }
+        ensures err { OnErr result (self.new ≡ self.old) }
+    {
+        let mut added = more.into_vec();
+        self.items.append(&mut added)?;
+        Ok(())
+    }
+
     /// Takes the last item away.
     pub fn pop(&mut self) -> Option<T>
         ensures last { IfSome result (λ item. self.old ≡ self.new ++ item ∷ []) }

@@ -1,4 +1,7 @@
 //! Events, requests, and what comes of them.
+ghost use Rattle.std.specs.Prelude.{◌≡◌, IfOk};
+
+use crate::errors::Memory;
 use crate::numbers::{Pc, Ref24, Sls, Ssn};
 use crate::octets::{BoxedOctets, Octets};
 
@@ -16,6 +19,15 @@ pub enum Event {
     Message { opc: Pc, sls: Sls, bytes: Octets },
     Asked { ssn: Ssn, request: Request },
     Tick,
+}
+
+impl Event {
+    /// A copy of the event.
+    pub fn copied(&self) -> Result<Event, Memory>
+        ensures { IfOk result (λ copy. copy ≡ self.now) }
+    {
+        Ok(self.clone()?)
+    }
 }
 
 /// What a user asks for.

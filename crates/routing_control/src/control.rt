@@ -2,10 +2,11 @@
 ghost use Rattle.std.specs.Prelude.{◌≡◌, None};
 ghost use Rattle.sccp_address.specs.Form.{seen};
 ghost use Rattle.plant_core.specs.declared.answer.Answer.TheVariants.{Refused};
+ghost use Rattle.plant_core.specs.Asking.{seen_ask, answer_to};
 ghost use Rattle.plant_core.specs.Routing.{own_answer, entity_answer, either_answer, row_answer, title_answer, route_of};
 
 use gtt_table::{Entity, Look, Row};
-use plant_core::{Answer, Ask, Origin, Plant, Rewrite, RouteCause};
+use plant_core::{Answer, Ask, Asked, Origin, Plant, Rewrite, RouteCause};
 use relay_base::Ssn;
 use sccp_address::{Address, Title, selector};
 
@@ -107,4 +108,15 @@ pub fn route(plant: &Plant, called: &Address<'_>, hop: Option<u8>, origin: Origi
         hop,
         origin,
     })
+}
+
+/// The answer of the routing data to what is asked, at their edition.
+pub fn asked(plant: &Plant, ask: &Ask<'_>) -> Asked
+    ensures edition { result.edition ≡ plant.now.edition }
+    ensures answer { result.answer ≡ answer_to plant.now.routing (seen_ask ask.now) }
+{
+    Asked {
+        edition: plant.edition(),
+        answer: route(plant, &ask.called, ask.hop, ask.origin),
+    }
 }

@@ -3,4 +3,4 @@
 
 mod control;
 
-pub use control::route;
+pub use control::{asked, route};

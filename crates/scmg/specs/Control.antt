@@ -29,10 +29,10 @@ use Rattle.scmg.specs.declared.timed.Coordination.{Coordination}
 use Rattle.scmg.specs.declared.effect.Act.{Act}
 use Rattle.scmg.specs.declared.effect.Act.TheVariants.{Nothing, Publish, Remember, Forget, Begin, End, Tick}
 use Rattle.scmg.specs.declared.effect.Effect.{Effect}
-use Rattle.scmg.specs.declared.message.Format.{Format}
-use Rattle.scmg.specs.declared.message.Format.TheVariants.{Allowed, Prohibited, StatusTest as Tested, OutOfServiceRequest, OutOfServiceGrant}
-use Rattle.scmg.specs.declared.message.Notice.{Notice}
-use Rattle.scmg.specs.Messages.{sent, notice_in, data_in}
+use Rattle.scmg_messages.specs.declared.message.Format.{Format}
+use Rattle.scmg_messages.specs.declared.message.Format.TheVariants.{Allowed, Prohibited, StatusTest as Tested, OutOfServiceRequest, OutOfServiceGrant}
+use Rattle.scmg_messages.specs.declared.message.Notice.{Notice}
+use Rattle.scmg_messages.specs.Messages.{sent, notice_in, data_in}
 
 -- What the control lane keeps: the routing data; the status tests, in the order in which they began; the coordinated changes that were
 -- asked for, by rising subsystem; and the requests to go out of service that a user may still grant.

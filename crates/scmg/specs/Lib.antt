@@ -1,4 +1,3 @@
 pub mod Control
 pub mod Lane
-pub mod Messages
 pub mod Tests

@@ -1,16 +1,16 @@
 //! What comes of an event of the control lane.
 ghost use Rattle.std.specs.Prelude.{◌≡◌, ◌++◌, [], ◌∷◌, map, filter, IfOk};
 ghost use Rattle.std.specs.BTreeMap.{values};
-ghost use Rattle.scmg.specs.Messages.{data_in};
+ghost use Rattle.scmg_messages.specs.Messages.{data_in};
 ghost use Rattle.scmg.specs.Control.{is_due_coordination, test_sent, by_subsystem, denied, only, one, quiet, dropped, refused, is_by_operator, refusal, is_replicate, replicate_of, publishes, changes, announced, tested, asked_out, granted, hears_notice, hears_data, hears, coordinates_with, grants, asks, ticks, effect_of, change_of};
 
 use crate::head::ControlHead;
 use crate::kept::Kept;
 use crate::known::made_known;
-use crate::message::{Format, Notice, data_in, notice_in, sent};
 use crate::timed::{Coordination, StatusTest};
 use plant_core::{Change, ControlEvent, RemoteSubsystem, Replicate, Verdict};
 use relay_base::{Event, Lost, Memory, Output, Outs, Pc, Reason, Request, Ssn, Tell};
+use scmg_messages::{Format, Notice, data_in, notice_in, sent};
 use std::alloc::Global;
 use std::collections::BTreeMap;
 

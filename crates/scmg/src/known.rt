@@ -3,9 +3,9 @@ ghost use Rattle.std.specs.Prelude.{◌≡◌, ◌++◌, IfOk};
 ghost use Rattle.scmg.specs.Control.{is_told, told_all, service_format, to_concerned, service_known, made_known};
 
 use crate::head::ControlHead;
-use crate::message::{Format, sent};
 use plant_core::{Change, Plant};
 use relay_base::{Memory, Output, Outs, Ssn, Tell};
+use scmg_messages::{Format, sent};
 use std::alloc::{AllocError, Global};
 
 fn copy_of(tell: &Tell) -> Result<Tell, AllocError>

@@ -6,7 +6,6 @@ mod head;
 mod kept;
 mod known;
 mod lane;
-mod message;
 mod publish;
 mod status_tests;
 mod timed;

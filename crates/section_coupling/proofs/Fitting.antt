@@ -12,7 +12,7 @@ use Rattle.q713_shape.specs.Writing.{given, all_given, ended, is_option, are_in_
 use Rattle.q713_codec.specs.Messages.{in_one}
 use Rattle.q713_codec.specs.Writing.{spelling_of, is_in_range, InRange}
 use Rattle.q713_codec.specs.declared.message.Message.TheVariants.{Cr}
-use Rattle.connectionless.specs.Routed.{called_onward}
+use Rattle.plant_core.specs.Rewriting.{called_onward}
 use Rattle.section_model.specs.Line.{credit_of}
 use Rattle.section_model.specs.Opening.{Wanted, onward, fits}
 use Rattle.section_coupling.specs.Sizes.{option_size, octet_size, options_size, part_size, are_fitting}

@@ -6,8 +6,8 @@ use Rattle.plant_core.specs.declared.answer.Answer.{Answer}
 use Rattle.plant_core.specs.declared.answer.Answer.TheVariants.{Local, Forward}
 use Rattle.plant_core.specs.declared.terms.Terms.{Terms}
 use Rattle.q713_codec.specs.Writing.{InRange}
-use Rattle.connectionless.specs.Routed.{called_onward}
-use Rattle.connectionless.proofs.AddressLengths.{length-called_onward}
+use Rattle.plant_core.specs.Rewriting.{called_onward}
+use Rattle.plant_core.proofs.AddressLengths.{length-called_onward}
 use Rattle.section_model.specs.Line.{credit_of}
 use Rattle.section_model.specs.Lengths.{IsAddress, IsData}
 use Rattle.section_model.specs.Opening.{Wanted, by_cr, onward, fits, refused, not_opened, opened_onward, opened_by_cr, opened, slots_needed}

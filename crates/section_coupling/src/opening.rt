@@ -6,8 +6,8 @@ ghost use Rattle.relay_base.specs.declared.words.Tell.TheVariants as tell;
 ghost use Rattle.q713_codec.specs.Writing.{spelling_of, InRange};
 ghost use Rattle.plant_core.specs.declared.answer.Answer.TheVariants.{Forward};
 ghost use Rattle.plant_core.specs.Causes.{refusal_code};
-ghost use Rattle.connectionless.specs.Returning.{status_outputs};
-ghost use Rattle.connectionless.specs.Routed.{called_onward};
+ghost use Rattle.scmg_messages.specs.Messages.{status_outputs};
+ghost use Rattle.plant_core.specs.Rewriting.{called_onward};
 ghost use Rattle.section_model.specs.Ends.{section_of};
 ghost use Rattle.section_model.specs.Line.{credit_of};
 ghost use Rattle.section_model.specs.Opening.{wish_of, offered, fits, by_cr, by_user, new_section, new_user, asked_section, asking_section, onward, refused, not_opened, opened_locally, opened_onward, opened_by_cr, opened_out, opened_by_user, opened};
@@ -24,11 +24,10 @@ use crate::timers::Timers;
 use crate::unheard::sent;
 use crate::wire::Wire;
 use crate::wish::{Calling, Incoming, Outgoing, WantedView, WishView, wish_of};
-use connectionless::{called_onward, put_status};
-use plant_core::{Answer, Rewrite, RouteCause, Terms, refusal_cause};
+use plant_core::{Answer, Rewrite, RouteCause, Terms, called_onward, refusal_cause};
 use q713_codec::Message;
 use relay_base::{BoxedOctets, Event, Memory, Octets, Output, Outs, Pc, Ref24, Ssn, Tell};
-use sccp_address::parse;
+use scmg_messages::put_status;
 use section_class2::Line;
 use section_class3::Windows;
 use section_grid::{Kept, SectionState, UserState, WireHead};
@@ -174,17 +173,6 @@ fn told_calling(alloc: Global, calling: &Calling<'_>) -> Result<Option<BoxedOcte
     }
 }
 
-/// The octets of a called address as it goes on; those that are no address stay as they are.
-#[tactic(auto, unfolding(connectionless::specs::Routed::called_onward))]
-fn called_octets(alloc: Global, called: &[u8], rewrite: &Rewrite) -> Result<Octets, Memory>
-    ensures { IfOk result (λ o. o ≡ called_onward rewrite.now called.now) }
-{
-    match parse(called) {
-        Ok(_) => called_onward(alloc, called, rewrite),
-        Err(_) => Octets::from_slice(alloc, called),
-    }
-}
-
 /// Where CR goes on to: the point, with the called address and the hop counter as they leave.
 #[derive(Clone, Copy)]
 struct Route<'a> {
@@ -217,7 +205,7 @@ fn onward(
     Ok(Message::Cr {
         slr: mine,
         class_octet: wanted.class,
-        called: called_octets(alloc, wanted.called, to.rewrite)?,
+        called: called_onward(alloc, wanted.called, to.rewrite)?,
         credit: credit_in_cr(terms, wanted),
         calling: calling_octets(alloc, &wanted.calling)?,
         body: Octets::from_optional(alloc, wanted.body)?,

@@ -6,7 +6,7 @@ ghost use Rattle.sccp_address.specs.Form.{seen as seen_address, seen_title};
 ghost use Rattle.sccp_address.specs.Spelling.{address_spelling, title_octets, lead_octets};
 ghost use Rattle.q713_shape.specs.Writing.{is_option};
 ghost use Rattle.section_model.specs.Opening.{Wanted, wish_of, fits, by_cr, by_user, slots_needed};
-ghost use Rattle.connectionless.specs.Routed.{called_onward};
+ghost use Rattle.plant_core.specs.Rewriting.{called_onward};
 ghost use Rattle.section_coupling.specs.Sizes.{option_size, octet_size, options_size, are_fitting};
 ghost use Rattle.section_coupling.specs.Openings.{seen_calling, seen_wanted, seen_outgoing};
 
@@ -119,7 +119,7 @@ fn octet_size(octet: Option<u8>) -> usize
 }
 
 /// How many octets a called address has as it goes on.
-#[tactic(auto, unfolding(connectionless::specs::Routed::called_onward))]
+#[tactic(auto, unfolding(plant_core::specs::Rewriting::called_onward))]
 fn onward_length(called: &[u8], rewrite: &Rewrite) -> usize
     ensures { result ≡ length (called_onward rewrite.now called.now) }
 {

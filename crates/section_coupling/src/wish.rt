@@ -4,7 +4,7 @@ ghost use Rattle.std.specs.Option.{option_map};
 ghost use Rattle.plant_core.specs.declared.terms.Terms.{Terms};
 ghost use Rattle.sccp_address.specs.Parsing.{address_of};
 ghost use Rattle.q713_codec.specs.Reading.{seen};
-ghost use Rattle.connectionless.specs.Asking.{seen_ask};
+ghost use Rattle.plant_core.specs.Asking.{seen_ask};
 ghost use Rattle.section_model.specs.UserEnd.{given};
 ghost use Rattle.section_model.specs.Opening.{wish_of_message, wish_of_request, wish_of, may_be_wanted, question_of, asked_for, by_cr};
 ghost use Rattle.section_coupling.specs.Openings.{is_wish, seen_calling, seen_wanted, seen_wish, UserWithin};

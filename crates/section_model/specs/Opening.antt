@@ -24,9 +24,9 @@ use Rattle.q713_codec.specs.declared.message.Message.{Message}
 use Rattle.q713_codec.specs.declared.message.Message.TheVariants.{Cr, Cref}
 use Rattle.q713_codec.specs.Reading.{reading_of}
 use Rattle.q713_codec.specs.Writing.{spelling_of, is_in_range}
-use Rattle.connectionless.specs.Asking.{Question}
-use Rattle.connectionless.specs.Routed.{called_onward}
-use Rattle.connectionless.specs.Returning.{status_outputs}
+use Rattle.plant_core.specs.Asking.{Question}
+use Rattle.plant_core.specs.Rewriting.{called_onward}
+use Rattle.scmg_messages.specs.Messages.{status_outputs}
 use Rattle.section_model.specs.declared.cell.SectionState.TheVariants as section
 use Rattle.section_model.specs.declared.cell.UserState.{UserState}
 use Rattle.section_model.specs.declared.cell.UserState.TheVariants as user

@@ -13,7 +13,7 @@ use Rattle.plant_core.specs.declared.terms.Ticks.{Ticks}
 use Rattle.plant_core.specs.declared.answer.Answer.{Answer}
 use Rattle.plant_core.specs.Plant.{RoutingData, start_of}
 use Rattle.plant_core.specs.Routing.{route_of}
-use Rattle.connectionless.specs.Asking.{Question}
+use Rattle.plant_core.specs.Asking.{Question}
 use Rattle.section_model.specs.Opening.{Opened, wish_of, question_of, slots_needed, opened}
 use Rattle.section_model.specs.Lane.{Lane, enough, outputs_along}
 use Rattle.section_rows.specs.Text.{hex}

@@ -12,8 +12,8 @@ use Rattle.sccp_address.specs.Digits.{digits_in}
 use Rattle.sccp_address.specs.Titles.{title_at}
 use Rattle.sccp_address.specs.Parsing.{point_at, ssn_at, address_of}
 use Rattle.sccp_address.specs.Spelling.{title_octets, address_spelling}
-use Rattle.connectionless.specs.Routed.{called_onward}
-use Rattle.connectionless.specs.Returning.{status_outputs}
+use Rattle.plant_core.specs.Rewriting.{called_onward}
+use Rattle.scmg_messages.specs.Messages.{status_outputs}
 use Rattle.section_model.specs.Parameters.{arrival_of, arrival_in}
 use Rattle.section_model.specs.Table.{section_row, user_row}
 use Rattle.section_model.specs.Line.{line_hears, line_fires, line_takes}

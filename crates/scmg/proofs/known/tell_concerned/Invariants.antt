@@ -1,5 +1,5 @@
 use Rattle.std.proofs.Common.{◌≡◌, ◌++◌, map, drop}
-use Rattle.scmg.specs.Messages.{sent}
+use Rattle.scmg_messages.specs.Messages.{sent}
 use Rattle.scmg.proofs.known.tell_concerned.Given as goal
 
 -- with those to come, the outputs are all

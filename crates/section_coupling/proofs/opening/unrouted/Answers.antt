@@ -1,5 +1,5 @@
 use Rattle.std.proofs.Common.{◌∷◌, ◌++◌, ap, ◌∙◌}
-use Rattle.connectionless.specs.Returning.{status_outputs}
+use Rattle.scmg_messages.specs.Messages.{status_outputs}
 use Rattle.section_model.specs.Opening.{not_opened, refused}
 use Rattle.section_coupling.specs.Openings.{seen_incoming}
 use Rattle.section_coupling.proofs.opening.unrouted.Goals as goal

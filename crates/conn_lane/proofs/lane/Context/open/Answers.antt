@@ -1,5 +1,5 @@
 use Rattle.std.proofs.Common.{refl, subst, ap, ◌∙◌, ◌++◌}
-use Rattle.data_lane.specs.Legal.{answer_in}
+use Rattle.plant_core.specs.Asking.{answer_in}
 use Rattle.conn_lane.specs.Seated.{AreOrderly}
 use Rattle.conn_lane.specs.Views.{news}
 use Rattle.conn_lane.proofs.LaneGrows.{opens_answered, open_untimed, open_orderly, open_comes}

@@ -9,9 +9,9 @@ invariant_of-self-2 c =
     let lane = c.self.inside in
     let after = c.write-written.new.bench in
     let effect = c.in_ok-asked.effect in
-    let entry = entry_with lane.head lane.bench c.args.stamp c.in_ok-copy_of.field-0 c.in_ok-asked.asked effect in
+    let entry = entry_with lane.head lane.bench c.args.stamp c.in_ok-copied.field-0 c.in_ok-asked.asked effect in
     let written : IsWritten lane.head lane.number c.args.plant.now c.args.event.now lane.cut lane.bench after effect entry = record {
-      of_event = c.in_ok-copy_of.ensures;
+      of_event = c.in_ok-copied.ensures;
       asked = c.in_ok-asked.ensures.asked;
       by = c.in_ok-asked.ensures.effect;
       outs = refl;
@@ -28,12 +28,12 @@ invariant_of-self-2 c =
 pub returns-clause-ok : goal.returns-clause-ok
 returns-clause-ok c =
     let lane = c.self.inside in
-    let entry = entry_with lane.head lane.bench c.args.stamp c.in_ok-copy_of.field-0 c.in_ok-asked.asked c.in_ok-asked.effect in
+    let entry = entry_with lane.head lane.bench c.args.stamp c.in_ok-copied.field-0 c.in_ok-asked.asked c.in_ok-asked.effect in
     record {
       entry = entry;
       journal = c.from.ensures ∙ c.in_ok-written.ensures.entry ∙ ap (λ l. l ++ entry ∷ []) (c.into_vec-journal.ensures ∙ c.replace.ensures.value) ∙ ap (λ (l : LaneState). l.journal ++ entry ∷ []) c.self.view_is;
       stamped = refl;
-      of_event = c.in_ok-copy_of.ensures;
+      of_event = c.in_ok-copied.ensures;
       answered = c.in_ok-asked.ensures.asked;
       head = ap (λ (l : LaneState). l.head) c.self.view_is;
       number = ap (λ (l : LaneState). l.number) c.self.view_is;

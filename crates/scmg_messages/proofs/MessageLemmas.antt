@@ -3,7 +3,7 @@ use Rattle.std.proofs.Common.{◌≡◌, ℕ, [], ◌∷◌, refl}
 use Rattle.q713_shape.specs.Writing.{octets_of}
 use Rattle.q713_codec.specs.Writing.{spelling_of}
 use Rattle.q713_codec.specs.declared.message.Message.TheVariants.{Udt}
-use Rattle.scmg.specs.Messages.{management}
+use Rattle.scmg_messages.specs.Messages.{management}
 
 -- those before the five octets of data are the same in every one
 pub notice_octets : (code ssn low high : ℕ) → spelling_of (Udt 0 management management (code ∷ ssn ∷ low ∷ high ∷ 0x00 ∷ []))

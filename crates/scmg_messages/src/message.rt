@@ -1,27 +1,28 @@
-//! Messages of management (Q.713, SCMG messages).
-ghost use Rattle.std.specs.Prelude.{◌≡◌, IfOk};
+//! Messages of SCCP management (Q.713, 5): written, and read.
+ghost use Rattle.std.specs.Prelude.{◌≡◌, ◌++◌, IfOk, OnOk};
 ghost use Rattle.std.specs.Option.{option_map};
-ghost use Rattle.sccp_address.specs.Parsing.{address_of};
-ghost use Rattle.scmg.specs.Messages.{code_of, octets_of, sent, format_of, notice_in, is_for_management, data_in};
+ghost use Rattle.scmg_messages.specs.Messages.{code_of, octets_of, sent, status_outputs, format_of, notice_in, is_for_management, data_in};
 
-use q713_codec::{View, read};
-use relay_base::{Memory, Octets, Output, Pc, Sls, Ssn};
+use q713_codec::{LONGEST, View, read};
+use relay_base::{Memory, Octets, Output, Outs, Pc, Sls, Ssn};
 use sccp_address::parse;
 use std::alloc::Global;
-
-/// The most octets of a UDT.
-const LONGEST: usize = 268;
 
 /// What stands before the five octets of data: the type, class 0 and the pointers of UDT, and its addresses, which are those of subsystem 1.
 const BEFORE_DATA: [u8; 12] = [9, 0, 3, 5, 7, 2, 0x42, 1, 2, 0x42, 1, 5];
 
-/// SSA, SSP, SST, SOR and SOG.
+/// What a message of management is about.
 #[derive(Clone, Copy)]
 pub enum Format {
+    /// SSA, subsystem allowed.
     Allowed,
+    /// SSP, subsystem prohibited.
     Prohibited,
+    /// SST, subsystem status test.
     StatusTest,
+    /// SOR, subsystem out of service request.
     OutOfServiceRequest,
+    /// SOG, subsystem out of service grant.
     OutOfServiceGrant,
 }
 
@@ -85,6 +86,29 @@ pub fn sent(alloc: Global, to: Pc, format: Format, ssn: Ssn, point: Pc) -> Resul
     })
 }
 
+/// Tells the origin of a message, with its link selection, that a local subsystem is prohibited, where one is named.
+#[tactic(auto, unfolding(crate::specs::Messages::status_outputs))]
+pub fn put_status(
+    alloc: Global,
+    outs: &mut Outs,
+    own: Pc,
+    opc: Pc,
+    sls: Sls,
+    local: Option<Ssn>,
+) -> Result<(), Memory>
+    ensures { OnOk result (outs.new ≡ outs.old ++ status_outputs own opc sls local) }
+{
+    let Some(ssn) = local else {
+        return Ok(());
+    };
+    let bytes = octets_of(alloc, Format::Prohibited, ssn, own)?;
+    outs.push(Output::Sent {
+        point: opc,
+        sls,
+        bytes,
+    })
+}
+
 /// What data say; None where they have fewer than five octets, or a format that isn't known.
 pub fn notice_in(told: &[u8]) -> Option<Notice>
     ensures { result ≡ notice_in told.now }
@@ -101,9 +125,9 @@ pub fn notice_in(told: &[u8]) -> Option<Notice>
     })
 }
 
-/// Whether a called address routes on the subsystem number of management.
-fn is_for_management(called: &[u8]) -> bool
-    ensures { result ≡ is_for_management (address_of called.now) }
+/// Whether a called address routes on the subsystem number of management, which is 1.
+pub fn is_for_management(called: &[u8]) -> bool
+    ensures { result ≡ is_for_management called.now }
 {
     match parse(called) {
         Ok(address) => match address.ssn {

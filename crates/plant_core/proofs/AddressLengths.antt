@@ -15,8 +15,7 @@ use Rattle.sccp_address.specs.declared.address.AddressFault.TheVariants.{Short, 
 use Rattle.sccp_address.proofs.DigitLemmas.{length-halves, length-digit_octets}
 use Rattle.plant_core.specs.declared.answer.Rewrite.{Rewrite}
 use Rattle.plant_core.specs.declared.answer.Rewrite.TheVariants.{Keep, Set}
-use Rattle.plant_core.specs.Rewriting.{taken_ssn, address_after}
-use Rattle.connectionless.specs.Routed.{onward_by, called_onward}
+use Rattle.plant_core.specs.Rewriting.{taken_ssn, address_after, onward_by, called_onward}
 
 -- a step that follows keeps what the first one gave
 bound : {A B E : Type 0} (P : A → Type 0) (Q : B → Type 0) (r : Result A E) (f : A → Result B E) → IfOk r P → ((x : A) → P x → IfOk (f x) Q) → IfOk (r >>= f) Q
