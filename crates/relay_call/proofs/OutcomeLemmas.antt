@@ -3,9 +3,7 @@ use Rattle.std.proofs.Common.{◌≡◌, ◌⊎◌, ℕ, ◌+◌, ◌<◌, List,
 use Rattle.std.specs.Prelude.{Option}
 use Rattle.std.proofs.lemmas.List.{take_all}
 use Rattle.std.proofs.KnownBytes.{Consumes-whole}
-use Rattle.std.specs.Io.KnownBytes.{Appends}
 use Rattle.relay_base.specs.Causes.{HasCause}
-use Rattle.relay_base.specs.Streams.{TookMore, AppendedPart}
 use Rattle.relay_base.specs.declared.errors.Failed.{Failed}
 use Rattle.journal_text.specs.declared.book.Book.{Book}
 use Rattle.capture_form.specs.Capture.{capture_of}
@@ -15,23 +13,24 @@ use Rattle.relay_call.specs.declared.stop.Stop.{Stop}
 use Rattle.relay_call.specs.declared.stop.Stop.TheVariants as stop
 use Rattle.command_words.specs.declared.command.Command.{Command}
 use Rattle.command_words.specs.declared.command.Command.TheVariants.{Run, Generate}
-use Rattle.relay_call.specs.Outcome.{Bytes, Says, Stopped, Done, IsDone, IsDue, status_of, due_status}
+use Rattle.relay_call.specs.Outcome.{Bytes, bytes, ReadTooMuch, Wrote, WrotePart, Says, FilledBy, IsDone, IsDue, due_status}
+use Rattle.relay_call.specs.Inner.Stops.{Stopped, status_of}
 
 -- what writing a whole text told a sink
-pub Says-written : {T : Type 0} (r : Result T Failed) (held now : Bytes) (before after : ℕ) (text : List ℕ)
-    → OnOk r (Appends held now text) → OnErr r (AppendedPart held now text) → HasCause before after r → Says held now before after text
-Says-written (Ok u) held now before after text ok err cause = record {
-  part = (length text, subst (Appends held now) (sym (take_all (length text) text (omega arith))) ok);
+pub Says-written : {T : Type 0} (r : Result T Failed) (noted : Bytes) (before after : ℕ) (text : List ℕ)
+    → OnOk r (Wrote noted text) → OnErr r (WrotePart noted text) → HasCause before after r → Says noted before after text
+Says-written (Ok u) noted before after text ok err cause = record {
+  part = (length text, subst (Wrote noted) (sym (take_all (length text) text (omega arith))) ok);
   whole = λ calm. ok;
 }
-Says-written (Err e) held now before after text ok err cause = record { part = err; whole = λ calm. absurd (calm cause.failed) }
+Says-written (Err e) noted before after text ok err cause = record { part = err; whole = λ calm. absurd (calm cause.failed) }
 
 -- bytes that pass the limit of an input are no capture
 long-refused : (bytes : List ℕ) → 67108864 < length bytes → capture_of bytes ≡ Err (refused.TooLong limit.Bytes)
 unfolding capture_of
 long-refused bytes h = rw (lt-ltb 67108864 (length bytes) h) refl
 
-more-due : (left rest : Bytes) → TookMore left rest 67108864 → IfSome left (IsDue 4)
+more-due : (left rest : Option (List ℕ)) → ReadTooMuch (bytes left rest) → IfSome left (IsDue 4)
 more-due None rest h = tt
 more-due (Some xs) None h = absurd h.1
 more-due (Some xs) (Some ys) h =
@@ -39,39 +38,39 @@ more-due (Some xs) (Some ys) h =
     let taken : length h.0 ≡ 67108864 + 1 = h.2 in
     inl (sym (ap due_status (long-refused xs (omega (arith, size, taken)))))
 
-memory-due : (left : Bytes) → IfSome left (IsDue 7)
+memory-due : (left : Option (List ℕ)) → IfSome left (IsDue 7)
 memory-due None = tt
 memory-due (Some xs) = inr refl
 
 -- the status of a run that ended is that of the bytes
-pub done-due : (left rest held now : Bytes) (book : Book) → Done Run left rest held now book → IfSome left (IsDue 0)
-done-due left rest held now book (bytes, came, ended, (capture, e, filled)) = Consumes-whole left rest bytes (IsDue 0) came ended (inl (ap due_status (sym e)))
+pub done-due : (read written : Bytes) (book : Book) → FilledBy (Wrote written) Run read book → IfSome read.before (IsDue 0)
+done-due read written book (bytes, came, ended, (capture, e, filled)) = Consumes-whole read.before read.after bytes (IsDue 0) came ended (inl (ap due_status (sym e)))
 
 -- the command that is done is the one that was stated
-pub stated-due : (stated : Option Command) (left rest held now : Bytes) (book : Book) → stated ≡ Some Run → IsDone stated left rest held now book → IfSome left (IsDue 0)
-stated-due stated left rest held now book run (Run, e, done) = done-due left rest held now book done
-stated-due stated left rest held now book run (Generate number lines, e, done) = absurd (cc)
+pub stated-due : (stated : Option Command) (read written : Bytes) (book : Book) → stated ≡ Some Run → IsDone stated read written book → IfSome read.before (IsDue 0)
+stated-due stated read written book run (Run, e, done) = done-due read written book done
+stated-due stated read written book run (Generate number lines, e, done) = absurd (cc)
 
 -- and so is that of a run that stopped without a fault of a device
-pub stop-due : (stated : Option Command) (left rest held now : Bytes) (book : Book) (why : Stop) → Stopped stated left rest held now book why
-    → stated ≡ Some Run → (why ≡ stop.ReadFault → ⊥) → (why ≡ stop.WriteFault → ⊥) → IfSome left (IsDue (status_of why))
-stop-due stated left rest held now book stop.Usage s run r w = absurd (cc)
-stop-due stated left rest held now book (stop.Head f note) (of_run, ((bytes, came, ended, e), said), untouched) run r w = Consumes-whole left rest bytes (IsDue 2) came ended (inl (ap due_status (sym e)))
-stop-due stated left rest held now book (stop.Line f note) (of_run, ((bytes, came, ended, e), said), untouched) run r w = Consumes-whole left rest bytes (IsDue 3) came ended (inl (ap due_status (sym e)))
-stop-due stated left rest held now book (stop.Limit l note) (of_run, ((bytes, came, ended, e), said), untouched) run r w = Consumes-whole left rest bytes (IsDue 4) came ended (inl (ap due_status (sym e)))
-stop-due stated left rest held now book stop.Bytes (of_run, more, untouched) run r w = more-due left rest more
-stop-due stated left rest held now book stop.ReadFault s run r w = absurd (r refl)
-stop-due stated left rest held now book stop.WriteFault s run r w = absurd (w refl)
-stop-due stated left rest held now book stop.Memory s run r w = memory-due left
+pub stop-due : (stated : Option Command) (read written : Bytes) (book : Book) (why : Stop) → Stopped stated read written book why
+    → stated ≡ Some Run → (why ≡ stop.ReadFault → ⊥) → (why ≡ stop.WriteFault → ⊥) → IfSome read.before (IsDue (status_of why))
+stop-due stated read written book stop.Usage s run r w = absurd (cc)
+stop-due stated read written book (stop.Head f note) (of_run, ((bytes, came, ended, e), said), untouched) run r w = Consumes-whole read.before read.after bytes (IsDue 2) came ended (inl (ap due_status (sym e)))
+stop-due stated read written book (stop.Line f note) (of_run, ((bytes, came, ended, e), said), untouched) run r w = Consumes-whole read.before read.after bytes (IsDue 3) came ended (inl (ap due_status (sym e)))
+stop-due stated read written book (stop.Limit l note) (of_run, ((bytes, came, ended, e), said), untouched) run r w = Consumes-whole read.before read.after bytes (IsDue 4) came ended (inl (ap due_status (sym e)))
+stop-due stated read written book stop.Bytes (of_run, more, untouched) run r w = more-due read.before read.after more
+stop-due stated read written book stop.ReadFault s run r w = absurd (r refl)
+stop-due stated read written book stop.WriteFault s run r w = absurd (w refl)
+stop-due stated read written book stop.Memory s run r w = memory-due read.before
 
 -- a command that makes its capture has no fault of an input
-pub made-status : (stated : Option Command) (left rest held now : Bytes) (book : Book) (why : Stop) (number lines : ℕ) → Stopped stated left rest held now book why
+pub made-status : (stated : Option Command) (read written : Bytes) (book : Book) (why : Stop) (number lines : ℕ) → Stopped stated read written book why
     → stated ≡ Some (Generate number lines) → (status_of why ≡ 6) ⊎ (status_of why ≡ 7)
-made-status stated left rest held now book stop.Usage number lines s made = absurd (cc)
-made-status stated left rest held now book (stop.Head f note) number lines (run, noted, untouched) made = absurd (cc)
-made-status stated left rest held now book (stop.Line f note) number lines (run, noted, untouched) made = absurd (cc)
-made-status stated left rest held now book (stop.Limit l note) number lines (run, noted, untouched) made = absurd (cc)
-made-status stated left rest held now book stop.Bytes number lines (run, noted, untouched) made = absurd (cc)
-made-status stated left rest held now book stop.ReadFault number lines (run, untouched) made = absurd (cc)
-made-status stated left rest held now book stop.WriteFault number lines s made = inl refl
-made-status stated left rest held now book stop.Memory number lines s made = inr refl
+made-status stated read written book stop.Usage number lines s made = absurd (cc)
+made-status stated read written book (stop.Head f note) number lines (run, noted, untouched) made = absurd (cc)
+made-status stated read written book (stop.Line f note) number lines (run, noted, untouched) made = absurd (cc)
+made-status stated read written book (stop.Limit l note) number lines (run, noted, untouched) made = absurd (cc)
+made-status stated read written book stop.Bytes number lines (run, noted, untouched) made = absurd (cc)
+made-status stated read written book stop.ReadFault number lines (run, untouched) made = absurd (cc)
+made-status stated read written book stop.WriteFault number lines s made = inl refl
+made-status stated read written book stop.Memory number lines s made = inr refl

@@ -6,7 +6,7 @@ ghost use Rattle.relay_base.specs.Causes.{Rose};
 ghost use Rattle.journal_text.specs.Book.{IsEmpty};
 ghost use Rattle.command_words.specs.Commands.{command_in};
 ghost use Rattle.command_words.specs.declared.command.Command.TheVariants.{Run, Generate};
-ghost use Rattle.relay_call.specs.Outcome.{ReadAs, Untouched, IsDone, IsDonePartly, PassesLimit, IsHeadFault, IsLineFault, Says, plain_note, IsDue};
+ghost use Rattle.relay_call.specs.Outcome.{bytes, ReadAs, Untouched, IsDone, IsDonePartly, PassesLimit, IsHeadFault, IsLineFault, Says, plain_note, IsDue};
 
 mod serving;
 mod stop;
@@ -21,7 +21,8 @@ use stop::{note_of, status_of};
 
 /// Writes a text to `notes`, whose fault is passed over.
 fn say<N: Sink>(notes: &mut N, text: &[u8])
-    ensures { Says (N.held notes.old) (N.held notes.new) (N.faults notes.old) (N.faults notes.new) text.now }
+    ensures { let noted = bytes (N.held notes.old) (N.held notes.new) in
+        Says noted (N.faults notes.old) (N.faults notes.new) text.now }
 {
     let _ = write_all(notes, text);
 }
@@ -53,28 +54,40 @@ pub fn relay<R: Threads + Wait + Sync, S: Source, K: Sink, N: Sink, P: Pace>(
 ) -> u8
     requires { IsEmpty book.old }
 
-    // `run`: the input was read to its end, the book is right for it, and its print was written; `gen`: the book is right for the capture
-    // that the words make, and the line of its counts was written.
-    ensures done { result ≡ 0 → IsDone (command_in (map string_bytes words.now)) (S.left source.old) (S.left source.new) (K.held out.old) (K.held out.new) book.new }
+    // `run`: the input was read to its end, the book is right for it, and its print was written;
+    // `gen`: the book is right for the capture that the words make, and the line of its counts was written.
+    ensures done { let command = command_in (map string_bytes words.now) in
+        let read = bytes (S.left source.old) (S.left source.new) in
+        let written = bytes (K.held out.old) (K.held out.new) in
+        result ≡ 0 → IsDone command read written book.new }
 
     // Words that are no command.
     ensures usage { result ≡ 1 → command_in (map string_bytes words.now) ≡ None }
-    ensures unstated { command_in (map string_bytes words.now) ≡ None → (result ≡ 1) ⊎ (result ≡ 7) }
+    ensures unstated { command_in (map string_bytes words.now) ≡ None
+        → (result ≡ 1) ⊎ (result ≡ 7) }
 
     // `gen` reads nothing, and has no fault of an input.
-    ensures made { (number lines : ℕ) → command_in (map string_bytes words.now) ≡ Some (Generate number lines)
+    ensures made { (number lines : ℕ)
+        → command_in (map string_bytes words.now) ≡ Some (Generate number lines)
         → (S.left source.new ≡ S.left source.old) × ((result ≡ 0) ⊎ (result ≡ 6) ⊎ (result ≡ 7)) }
 
     // The first fault of the input, and what `notes` is told of it.
-    ensures head { let says = Says (N.held notes.old) (N.held notes.new) (N.faults notes.old) (N.faults notes.new) in
-        result ≡ 2 → ReadAs (S.left source.old) (S.left source.new) (IsHeadFault says) }
-    ensures line { let says = Says (N.held notes.old) (N.held notes.new) (N.faults notes.old) (N.faults notes.new) in
-        result ≡ 3 → ReadAs (S.left source.old) (S.left source.new) (IsLineFault says) }
-    ensures too_long { let says = Says (N.held notes.old) (N.held notes.new) (N.faults notes.old) (N.faults notes.new) in
-        result ≡ 4 → PassesLimit (S.left source.old) (S.left source.new) says }
+    ensures head { let read = bytes (S.left source.old) (S.left source.new) in
+        let noted = bytes (N.held notes.old) (N.held notes.new) in
+        let says = Says noted (N.faults notes.old) (N.faults notes.new) in
+        result ≡ 2 → ReadAs read (IsHeadFault says) }
+    ensures line { let read = bytes (S.left source.old) (S.left source.new) in
+        let noted = bytes (N.held notes.old) (N.held notes.new) in
+        let says = Says noted (N.faults notes.old) (N.faults notes.new) in
+        result ≡ 3 → ReadAs read (IsLineFault says) }
+    ensures too_long { let read = bytes (S.left source.old) (S.left source.new) in
+        let noted = bytes (N.held notes.old) (N.held notes.new) in
+        let says = Says noted (N.faults notes.old) (N.faults notes.new) in
+        result ≡ 4 → PassesLimit read says }
 
     // What `notes` is told otherwise.
-    ensures said { let says = Says (N.held notes.old) (N.held notes.new) (N.faults notes.old) (N.faults notes.new) in
+    ensures said { let noted = bytes (N.held notes.old) (N.held notes.new) in
+        let says = Says noted (N.faults notes.old) (N.faults notes.new) in
         IfSome (plain_note result) says }
 
     // A device failed in this call.
@@ -84,14 +97,22 @@ pub fn relay<R: Threads + Wait + Sync, S: Source, K: Sink, N: Sink, P: Pace>(
     ensures out_kept { result ≢ 6 → K.faults out.new ≡ K.faults out.old }
 
     // What stands after a refusal, a write fault, and want of memory.
-    ensures refused { 1 ≤ result → result ≤ 5 → Untouched (K.held out.old) (K.held out.new) book.new }
-    ensures written { result ≡ 6 → IsDonePartly (command_in (map string_bytes words.now)) (S.left source.old) (S.left source.new) (K.held out.old) (K.held out.new) book.new }
-    ensures memory { result ≡ 7 → Untouched (K.held out.old) (K.held out.new) book.new ⊎ IsDonePartly (command_in (map string_bytes words.now)) (S.left source.old) (S.left source.new) (K.held out.old) (K.held out.new) book.new }
+    ensures refused { let written = bytes (K.held out.old) (K.held out.new) in
+        1 ≤ result → result ≤ 5 → Untouched written book.new }
+    ensures written { let command = command_in (map string_bytes words.now) in
+        let read = bytes (S.left source.old) (S.left source.new) in
+        let written = bytes (K.held out.old) (K.held out.new) in
+        result ≡ 6 → IsDonePartly command read written book.new }
+    ensures memory { let command = command_in (map string_bytes words.now) in
+        let read = bytes (S.left source.old) (S.left source.new) in
+        let written = bytes (K.held out.old) (K.held out.new) in
+        result ≡ 7 → Untouched written book.new ⊎ IsDonePartly command read written book.new }
     ensures known { result ≤ 7 }
 
     // Where no device fails, the status of `run` is that of the bytes, or memory ran out.
     ensures complete { command_in (map string_bytes words.now) ≡ Some Run
-        → (Rose (S.faults source.old) (S.faults source.new) → ⊥) → (Rose (K.faults out.old) (K.faults out.new) → ⊥)
+        → (Rose (S.faults source.old) (S.faults source.new) → ⊥)
+        → (Rose (K.faults out.old) (K.faults out.new) → ⊥)
         → IfSome (S.left source.old) (IsDue result) }
 {
     match serve(rt, alloc, words, source, out, pace, book) {

@@ -1,8 +1,6 @@
 //! What each command does, up to the reason why it stops.
 ghost use Rattle.std.specs.Prelude.{◌≡◌, ◌≢◌, ◌<◌, ◌≤◌, ◌^◌, ◌⊎◌, ◌++◌, codes, ℕ, IfOk, IfErr, OnOk, OnErr, Ok, Err, Some, None, map, string_bytes, length};
-ghost use Rattle.std.specs.Io.KnownBytes.{Appends};
 ghost use Rattle.relay_base.specs.Causes.{Rose};
-ghost use Rattle.relay_base.specs.Streams.{AppendedPart};
 ghost use Rattle.journal_text.specs.Book.{IsEmpty};
 ghost use Rattle.node_head.specs.Ranges.{IsHead};
 ghost use Rattle.capture_form.specs.Capture.{IsStamped};
@@ -12,7 +10,8 @@ ghost use Rattle.command_words.specs.Commands.{command_in};
 ghost use Rattle.command_words.specs.declared.command.Command.TheVariants.{Run, Generate};
 ghost use Rattle.capture_generator.specs.Generator.{generated_capture};
 ghost use Rattle.capture_generator.specs.Counts.{counts_of, counts_text};
-ghost use Rattle.relay_call.specs.Outcome.{ReadAs, Refused, Partly, Filled, Done, IsDone, Stopped};
+ghost use Rattle.relay_call.specs.Outcome.{bytes, ReadAs, Wrote, WrotePart, Filled, FilledBy, IsDone};
+ghost use Rattle.relay_call.specs.Inner.Stops.{TakesNone, StoppedLate, Stopped};
 
 use crate::stop::{Stop, refusal};
 use capture_form::{Book, Capture, MOST_BYTES, WriteFault, read_capture, write_book};
@@ -26,11 +25,12 @@ use std::thread::Threads;
 
 /// The capture that the source gives.
 fn take_capture<S: Source>(alloc: Global, source: &mut S) -> Result<Capture, Stop>
-    ensures ok { IfOk result (λ capture. ReadAs (S.left source.old) (S.left source.new) (λ parts. parts ≡ Ok capture)) }
+    ensures ok { let read = bytes (S.left source.old) (S.left source.new) in
+        IfOk result (λ capture. ReadAs read (λ parts. parts ≡ Ok capture)) }
     ensures head { IfOk result (λ capture. IsHead capture.head) }
     ensures stamped { IfOk result (λ capture. IsStamped capture.head capture.phases) }
     ensures few { IfOk result (λ capture. length (all_events capture.phases) < 2 ^ 32) }
-    ensures refused { IfErr result (Refused (S.left source.old) (S.left source.new)) }
+    ensures refused { IfErr result (TakesNone (bytes (S.left source.old) (S.left source.new))) }
     ensures fault { result ≡ Err Stop.ReadFault → Rose (S.faults source.old) (S.faults source.new) }
     ensures kept { result ≢ Err Stop.ReadFault → S.faults source.new ≡ S.faults source.old }
 {
@@ -53,8 +53,10 @@ fn write_counts<K: Sink>(
     book: &Book,
     out: &mut K,
 ) -> Result<(), WriteFault>
-    ensures ok { OnOk result (Appends (K.held out.old) (K.held out.new) (counts_text lines (counts_of book.now) ++ codes "\n")) }
-    ensures err { OnErr result (AppendedPart (K.held out.old) (K.held out.new) (counts_text lines (counts_of book.now) ++ codes "\n")) }
+    ensures ok { let text = counts_text lines (counts_of book.now) ++ codes "\n" in
+        OnOk result (Wrote (bytes (K.held out.old) (K.held out.new)) text) }
+    ensures err { let text = counts_text lines (counts_of book.now) ++ codes "\n" in
+        OnErr result (WrotePart (bytes (K.held out.old) (K.held out.new)) text) }
     ensures fault { result ≡ Err WriteFault.Sink → Rose (K.faults out.old) (K.faults out.new) }
     ensures kept { result ≢ Err WriteFault.Sink → K.faults out.new ≡ K.faults out.old }
 {
@@ -94,11 +96,18 @@ fn run<R: Threads + Wait + Sync, S: Source, K: Sink, P: Pace>(
     book: &mut Book,
 ) -> Result<(), Stop>
     requires { IsEmpty book.old }
-    ensures ok { OnOk result (Done Run (S.left source.old) (S.left source.new) (K.held out.old) (K.held out.new) book.new) }
-    ensures stopped { IfErr result (Stopped (Some Run) (S.left source.old) (S.left source.new) (K.held out.old) (K.held out.new) book.new) }
-    ensures read_fault { result ≡ Err Stop.ReadFault → Rose (S.faults source.old) (S.faults source.new) }
-    ensures write_fault { result ≡ Err Stop.WriteFault → Rose (K.faults out.old) (K.faults out.new) }
-    ensures source_kept { result ≢ Err Stop.ReadFault → S.faults source.new ≡ S.faults source.old }
+    ensures ok { let read = bytes (S.left source.old) (S.left source.new) in
+        let written = bytes (K.held out.old) (K.held out.new) in
+        OnOk result (FilledBy (Wrote written) Run read book.new) }
+    ensures stopped { let read = bytes (S.left source.old) (S.left source.new) in
+        let written = bytes (K.held out.old) (K.held out.new) in
+        IfErr result (Stopped (Some Run) read written book.new) }
+    ensures read_fault { result ≡ Err Stop.ReadFault
+        → Rose (S.faults source.old) (S.faults source.new) }
+    ensures write_fault { result ≡ Err Stop.WriteFault
+        → Rose (K.faults out.old) (K.faults out.new) }
+    ensures source_kept { result ≢ Err Stop.ReadFault
+        → S.faults source.new ≡ S.faults source.old }
     ensures out_kept { result ≢ Err Stop.WriteFault → K.faults out.new ≡ K.faults out.old }
 {
     let capture = take_capture(alloc, source)?;
@@ -122,8 +131,12 @@ fn generate<R: Threads + Wait + Sync, K: Sink, P: Pace>(
 ) -> Result<(), Stop>
     requires lines { lines ≤ 199000 }
     requires empty { IsEmpty book.old }
-    ensures ok { OnOk result (Filled (Generate number lines) (K.held out.old) (K.held out.new) (generated_capture number lines) book.new) }
-    ensures stopped { IfErr result (Partly (Generate number lines) (K.held out.old) (K.held out.new) (generated_capture number lines) book.new) }
+    ensures ok { let written = bytes (K.held out.old) (K.held out.new) in
+        let capture = generated_capture number lines in
+        OnOk result (Filled (Wrote written) (Generate number lines) capture book.new) }
+    ensures stopped { let written = bytes (K.held out.old) (K.held out.new) in
+        let capture = generated_capture number lines in
+        IfErr result (StoppedLate (Generate number lines) written capture book.new) }
     ensures fault { result ≡ Err Stop.WriteFault → Rose (K.faults out.old) (K.faults out.new) }
     ensures kept { result ≢ Err Stop.WriteFault → K.faults out.new ≡ K.faults out.old }
 {
@@ -149,13 +162,25 @@ pub fn serve<R: Threads + Wait + Sync, S: Source, K: Sink, P: Pace>(
     book: &mut Book,
 ) -> Result<(), Stop>
     requires { IsEmpty book.old }
-    ensures ok { OnOk result (IsDone (command_in (map string_bytes words.now)) (S.left source.old) (S.left source.new) (K.held out.old) (K.held out.new) book.new) }
-    ensures stopped { IfErr result (Stopped (command_in (map string_bytes words.now)) (S.left source.old) (S.left source.new) (K.held out.old) (K.held out.new) book.new) }
-    ensures words { IfErr result (λ stop. command_in (map string_bytes words.now) ≡ None → (stop ≡ Stop.Usage) ⊎ (stop ≡ Stop.Memory)) }
-    ensures made { (number lines : ℕ) → command_in (map string_bytes words.now) ≡ Some (Generate number lines) → S.left source.new ≡ S.left source.old }
-    ensures read_fault { result ≡ Err Stop.ReadFault → Rose (S.faults source.old) (S.faults source.new) }
-    ensures write_fault { result ≡ Err Stop.WriteFault → Rose (K.faults out.old) (K.faults out.new) }
-    ensures source_kept { result ≢ Err Stop.ReadFault → S.faults source.new ≡ S.faults source.old }
+    ensures ok { let command = command_in (map string_bytes words.now) in
+        let read = bytes (S.left source.old) (S.left source.new) in
+        let written = bytes (K.held out.old) (K.held out.new) in
+        OnOk result (IsDone command read written book.new) }
+    ensures stopped { let command = command_in (map string_bytes words.now) in
+        let read = bytes (S.left source.old) (S.left source.new) in
+        let written = bytes (K.held out.old) (K.held out.new) in
+        IfErr result (Stopped command read written book.new) }
+    ensures words { IfErr result (λ stop. command_in (map string_bytes words.now) ≡ None
+        → (stop ≡ Stop.Usage) ⊎ (stop ≡ Stop.Memory)) }
+    ensures made { (number lines : ℕ)
+        → command_in (map string_bytes words.now) ≡ Some (Generate number lines)
+        → S.left source.new ≡ S.left source.old }
+    ensures read_fault { result ≡ Err Stop.ReadFault
+        → Rose (S.faults source.old) (S.faults source.new) }
+    ensures write_fault { result ≡ Err Stop.WriteFault
+        → Rose (K.faults out.old) (K.faults out.new) }
+    ensures source_kept { result ≢ Err Stop.ReadFault
+        → S.faults source.new ≡ S.faults source.old }
     ensures out_kept { result ≢ Err Stop.WriteFault → K.faults out.new ≡ K.faults out.old }
 {
     match command_of(alloc, words) {

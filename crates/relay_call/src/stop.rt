@@ -1,6 +1,6 @@
 //! Why a run stops, with the status and the note of each reason.
 ghost use Rattle.std.specs.Prelude.{◌≡◌};
-ghost use Rattle.relay_call.specs.Outcome.{Stands, note_of, status_of};
+ghost use Rattle.relay_call.specs.Inner.Stops.{StopsFor, note_of, status_of};
 
 use capture_form::{CaptureFault, Limit, LineFault, fault_note};
 use node_head::HeadFault;
@@ -22,7 +22,7 @@ pub enum Stop {
 
 /// The stop for a capture that is refused.
 pub fn refusal(alloc: Global, fault: CaptureFault) -> Stop
-    ensures { Stands fault result }
+    ensures { StopsFor fault result }
 {
     let Ok(note) = fault_note(alloc, &fault) else {
         return Stop::Memory;

@@ -1,5 +1,5 @@
 use Rattle.std.proofs.Common.{◌⊎◌, ◌≡◌, sym, ap, subst, inl, inr, refl, Err, IfSome}
-use Rattle.relay_call.specs.Outcome.{IsDue}
+use Rattle.relay_call.specs.Outcome.{bytes, IsDue}
 use Rattle.relay_call.proofs.OutcomeLemmas.{stop-due, stated-due, made-status}
 use Rattle.relay_call.proofs.relay.Goals as goal
 
@@ -7,6 +7,6 @@ pub returns-in-Err-clause-complete : goal.returns-in-Err-clause-complete
 returns-in-Err-clause-complete g c = λ run read written.
     let told = c.in-Err.ensures in
     let due =
-    stop-due _ (g.S.Source.left c.args.source.now) (g.S.Source.left c.serve.new.source) (g.K.Sink.held c.args.out.now) (g.K.Sink.held c.serve.new.out) c.serve.new.book c.in-Err.stop told.stopped
+    stop-due _ (bytes (g.S.Source.left c.args.source.now) (g.S.Source.left c.serve.new.source)) (bytes (g.K.Sink.held c.args.out.now) (g.K.Sink.held c.serve.new.out)) c.serve.new.book c.in-Err.stop told.stopped
     run (λ fault. read (told.read_fault (ap Err fault))) (λ fault. written (told.write_fault (ap Err fault))) in
     subst (λ status. IfSome (g.S.Source.left c.args.source.now) (IsDue status)) (sym c.status_of.ensures) due
