@@ -5,7 +5,7 @@ use Rattle.relay_base.specs.declared.words.Event.{Event}
 use Rattle.plant_core.specs.declared.terms.Ticks.{Ticks}
 use Rattle.section_model.specs.Ends.{End, Connection}
 use Rattle.section_model.specs.Step.{hears, end_is_gone, is_over}
-use Rattle.section_model.specs.Lane.{Opening, with_event, state_of, next, fed, gone_for, reference_of}
+use Rattle.section_model.specs.Lane.{Opening, with_event, connection_of, next, fed, gone_for, reference_of}
 use Rattle.section_model.proofs.Following.{one_more}
 use Rattle.conn_lane.specs.Keeping.{Keeping, Live, live_of, seat_by, seat_of, seat_after, keeping_of, keeping_after, ticks_in}
 use Rattle.conn_lane.specs.Keeping.{Seat}
@@ -28,10 +28,10 @@ seat_next freeze event is_gone (Some count) (Some m) =
 
 -- a seat of an opening, one event later
 seat_later : (ticks : Ticks) (end : Connection → End) (o : Opening) (event : Event)
-    → seat_of ticks end (with_event event o) ≡ seat_after ticks.freeze event (end_is_gone (end (fed ticks (state_of ticks o) event))) (seat_of ticks end o)
+    → seat_of ticks end (with_event event o) ≡ seat_after ticks.freeze event (end_is_gone (end (fed ticks (connection_of ticks o) event))) (seat_of ticks end o)
 seat_later ticks end o event =
     ap (λ gone. seat_by ticks.freeze gone (reference_of (end o.first))) (gone_next ticks end o.first o.since event)
-    ∙ seat_next ticks.freeze event (end_is_gone (end (fed ticks (state_of ticks o) event))) (gone_for ticks end o.first o.since) (reference_of (end o.first))
+    ∙ seat_next ticks.freeze event (end_is_gone (end (fed ticks (connection_of ticks o) event))) (gone_for ticks end o.first o.since) (reference_of (end o.first))
 
 -- of an end that is gone already, only the ticks count
 seat_gone : (freeze : ℕ) (event : Event) (is_gone : Bool) (count mine : Option ℕ) → (count ≡ None → ⊥)
@@ -41,14 +41,14 @@ seat_gone freeze event is_gone None (Some m) some = absurd (some refl)
 seat_gone freeze event is_gone (Some count) (Some m) some = refl
 
 gone_not_none : (ticks : Ticks) (end : Connection → End) (o : Opening)
-    → end_is_gone (end (state_of ticks o)) ≡ true → gone_for ticks end o.first o.since ≡ None → ⊥
+    → end_is_gone (end (connection_of ticks o)) ≡ true → gone_for ticks end o.first o.since ≡ None → ⊥
 gone_not_none ticks end o gone none = let h = gone_is_some ticks end o.first o.since none in cc
 
-seat_over : (ticks : Ticks) (end : Connection → End) (o : Opening) (event : Event) → end_is_gone (end (state_of ticks o)) ≡ true
+seat_over : (ticks : Ticks) (end : Connection → End) (o : Opening) (event : Event) → end_is_gone (end (connection_of ticks o)) ≡ true
     → seat_of ticks end (with_event event o) ≡ seat_after 0 event false (seat_of ticks end o)
 seat_over ticks end o event gone =
     seat_later ticks end o event
-    ∙ seat_gone ticks.freeze event (end_is_gone (end (fed ticks (state_of ticks o) event))) (gone_for ticks end o.first o.since) (reference_of (end o.first)) (gone_not_none ticks end o gone)
+    ∙ seat_gone ticks.freeze event (end_is_gone (end (fed ticks (connection_of ticks o) event))) (gone_for ticks end o.first o.since) (reference_of (end o.first)) (gone_not_none ticks end o gone)
 
 abbrev kept_of : Option Live → Option Seat → Option Seat → Keeping
 kept_of live this that = record { live = live; this = this; that = that }
@@ -57,7 +57,7 @@ kept_alike : {a b : Option Live} {c d e f : Option Seat} → a ≡ b → c ≡ d
     → kept_of a c e ≡ kept_of b d f
 kept_alike one two three = rw (one, two, three) refl
 
-live_later : (ticks : Ticks) (o : Opening) (event : Event) → live_of ticks (state_of ticks (with_event event o)) ≡ live_of ticks (fed ticks (state_of ticks o) event)
+live_later : (ticks : Ticks) (o : Opening) (event : Event) → live_of ticks (connection_of ticks (with_event event o)) ≡ live_of ticks (fed ticks (connection_of ticks o) event)
 live_later ticks o event = ap (live_of ticks) (one_more ticks o.first o.since event)
 
 unfed : (ticks : Ticks) (c : Connection) (event : Event) → hears c event ≡ false → fed ticks c event ≡ c
@@ -69,10 +69,10 @@ live_over ticks c event over = rw (unfed ticks c event (over_is_deaf c event ove
 pub keeps_after : (ticks : Ticks) (o : Opening) (event : Event) → keeping_of ticks (with_event event o) ≡ keeping_after event (keeping_of ticks o)
 keeps_after ticks o event =
     ⊎_elim
-    (λ (over : is_over (state_of ticks o) ≡ true). rw over
-    (kept_alike (live_later ticks o event ∙ live_over ticks (state_of ticks o) event over)
-    (seat_over ticks (λ c. c.this) o event (over_this (state_of ticks o) over))
-    (seat_over ticks (λ c. c.that) o event (over_that (state_of ticks o) over))))
-    (λ (on : is_over (state_of ticks o) ≡ false). rw on
+    (λ (over : is_over (connection_of ticks o) ≡ true). rw over
+    (kept_alike (live_later ticks o event ∙ live_over ticks (connection_of ticks o) event over)
+    (seat_over ticks (λ c. c.this) o event (over_this (connection_of ticks o) over))
+    (seat_over ticks (λ c. c.that) o event (over_that (connection_of ticks o) over))))
+    (λ (on : is_over (connection_of ticks o) ≡ false). rw on
     (kept_alike (live_later ticks o event) (seat_later ticks (λ c. c.this) o event) (seat_later ticks (λ c. c.that) o event)))
-    (cases_Bool (is_over (state_of ticks o)))
+    (cases_Bool (is_over (connection_of ticks o)))

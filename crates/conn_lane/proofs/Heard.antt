@@ -6,7 +6,7 @@ use Rattle.relay_base.specs.declared.words.Output.{Output}
 use Rattle.plant_core.specs.declared.terms.Ticks.{Ticks}
 use Rattle.section_model.specs.Ends.{Connection}
 use Rattle.section_model.specs.Step.{hears, is_over, connection_step}
-use Rattle.section_model.specs.Lane.{Opening, state_of, part_by, part_of, outputs_of_hearing, hearing, stray_answer}
+use Rattle.section_model.specs.Lane.{Opening, connection_of, part_by, part_of, outputs_of_hearing, hearing, stray_answer}
 use Rattle.conn_lane.specs.Keeping.{keeping_of, live_of, part_at, first_of, first_part, or_none, all_parts}
 use Rattle.conn_lane.specs.Laws.{unheard}
 use Rattle.conn_lane.proofs.Over.{over_is_deaf}
@@ -32,13 +32,13 @@ share_part ticks event c = by_test (hears c event)
 -- the first connection hears the event, or the later ones may
 first_hears : (ticks : Ticks) (event : Event) (o : Opening) (later : Option Opening) (parts : Option (List Output))
     → outputs_of_hearing ticks event later ≡ unheard parts (stray_answer event)
-    → outputs_of_hearing ticks event (cond (hears (state_of ticks o) event) (Some o) later) ≡ unheard (first_of (part_at event (live_of ticks (state_of ticks o))) parts) (stray_answer event)
+    → outputs_of_hearing ticks event (cond (hears (connection_of ticks o) event) (Some o) later) ≡ unheard (first_of (part_at event (live_of ticks (connection_of ticks o))) parts) (stray_answer event)
 first_hears ticks event o later parts rest =
-    rw (live_share ticks event (state_of ticks o)) (by_test (hears (state_of ticks o) event) refl)
+    rw (live_share ticks event (connection_of ticks o)) (by_test (hears (connection_of ticks o) event) refl)
   where
-    by_test : (b : Bool) → hears (state_of ticks o) event ≡ b
-        → outputs_of_hearing ticks event (cond b (Some o) later) ≡ unheard (first_of (share_by ticks event (state_of ticks o) b) parts) (stray_answer event)
-    by_test true is = ap (λ b. elim b [ true ↦ (connection_step ticks (state_of ticks o) event).1 | false ↦ [] ]) is
+    by_test : (b : Bool) → hears (connection_of ticks o) event ≡ b
+        → outputs_of_hearing ticks event (cond b (Some o) later) ≡ unheard (first_of (share_by ticks event (connection_of ticks o) b) parts) (stray_answer event)
+    by_test true is = ap (λ b. elim b [ true ↦ (connection_step ticks (connection_of ticks o) event).1 | false ↦ [] ]) is
     by_test false is = rest
 
 pub keeps_heard : (ticks : Ticks) (openings : List Opening) (event : Event)
@@ -51,5 +51,5 @@ pub keeps_ticked : (ticks : Ticks) (openings : List Opening) (event : Event) →
 keeps_ticked ticks [] event = refl
 keeps_ticked ticks (o ∷ openings) event =
     ap₂ (λ a b. a ++ b)
-    (share_part ticks event (state_of ticks o) ∙ ap or_none (sym (live_share ticks event (state_of ticks o))))
+    (share_part ticks event (connection_of ticks o) ∙ ap or_none (sym (live_share ticks event (connection_of ticks o))))
     (keeps_ticked ticks openings event)

@@ -14,8 +14,9 @@ use Rattle.plant_core.specs.declared.terms.LaneHead.{LaneHead}
 use Rattle.plant_core.specs.declared.terms.Terms.{Terms}
 use Rattle.plant_core.specs.Asking.{Question, asked_at, answer_in}
 use Rattle.section_model.specs.Ends.{Connection}
+use Rattle.section_model.specs.Laws.{openings_from}
 use Rattle.section_model.specs.Opening.{Wish, by_cr, by_user, no_wish, wish_of, question_of, slots_needed, opened, Opened}
-use Rattle.section_model.specs.Lane.{Lane, Opening, with_event, opening_of, opening_list, openings_after, openings_from, legal_outputs, other_outputs, outputs_by, answer_of, IsLegalEntry, stray_answer, is_tick}
+use Rattle.section_model.specs.Lane.{Lane, Opening, with_event, opening_of, opening_list, openings_after, legal_outputs, other_outputs, outputs_by, answer_of, IsLegalEntry, stray_answer, is_tick}
 use Rattle.section_model.proofs.Growing.{grows}
 use Rattle.plant_core.specs.declared.terms.Ticks.{Ticks}
 use Rattle.section_coupling.specs.Duos.{DuoState, duo_at, taken_after}

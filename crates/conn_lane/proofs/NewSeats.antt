@@ -10,7 +10,7 @@ use Rattle.plant_core.specs.declared.answer.Answer.TheVariants.{Local, Forward, 
 use Rattle.plant_core.specs.declared.terms.Terms.{Terms}
 use Rattle.plant_core.specs.declared.terms.Ticks.{Ticks}
 use Rattle.section_model.specs.Ends.{End, Connection}
-use Rattle.section_model.specs.Opening.{Wanted, Wish, by_cr, by_user, no_wish, fits, slots_needed, opened_by_cr, opened_by_user, opened, opened_onward, not_opened, refused}
+use Rattle.section_model.specs.Opening.{Wanted, Wish, by_cr, by_user, no_wish, fits, slots_needed, opened_by_cr, opened_by_user, opened, opened_onward, not_opened, cref_to}
 use Rattle.section_model.specs.Step.{end_is_gone}
 use Rattle.section_model.specs.Lane.{Lane, heard, follow, gone_for, reference_of, slot_of, reference_at}
 use Rattle.conn_lane.specs.Keeping.{Keeping, frozen_by, seat_by, keeping_of, keeping_after, sits, takes_slot, is_frozen_out, free_in, lowest_in, needed}
@@ -36,7 +36,7 @@ by_cr_among P terms w (Forward point rewrite hop) [] good = tt
 by_cr_among P terms w (Forward point rewrite hop) (mine ∷ []) good = tt
 by_cr_among P terms w (Forward point rewrite hop) (mine ∷ next ∷ refs) good = by_test (fits w rewrite hop)
   where
-    by_test : (b : Bool) → AreAmong P (if b then opened_onward terms w point rewrite hop mine next else not_opened (refused w 0x0F ∷ [])).connection
+    by_test : (b : Bool) → AreAmong P (if b then opened_onward terms w point rewrite hop mine next else not_opened (cref_to w 0x0F ∷ [])).connection
     by_test true = (All-head P mine (next ∷ refs) good, All-head P next refs (All-tail P mine (next ∷ refs) good))
     by_test false = tt
 

@@ -6,7 +6,7 @@ use Rattle.relay_base.specs.declared.words.Output.{Output}
 use Rattle.plant_core.specs.declared.terms.Ticks.{Ticks}
 use Rattle.section_model.specs.Ends.{End, Connection}
 use Rattle.section_model.specs.Step.{connection_step, hears, end_is_gone, is_over}
-use Rattle.section_model.specs.Lane.{Lane, Opening, state_of, fed, gone_for, reference_of, slot_of, enough, is_tick}
+use Rattle.section_model.specs.Lane.{Lane, Opening, connection_of, fed, gone_for, reference_of, slot_of, enough, is_tick}
 
 -- a connection that isn't over, with the ticks of its timers
 pub record Live : Type 0 where
@@ -39,7 +39,7 @@ seat_of ticks end o = seat_by ticks.freeze (gone_for ticks end o.first o.since) 
 
 abbrev pub keeping_of : Ticks → Opening → Keeping
 keeping_of ticks o = record {
-  live = live_of ticks (state_of ticks o);
+  live = live_of ticks (connection_of ticks o);
   this = seat_of ticks (λ c. c.this) o;
   that = seat_of ticks (λ c. c.that) o;
 }

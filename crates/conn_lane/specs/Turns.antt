@@ -8,8 +8,9 @@ use Rattle.plant_core.specs.declared.entry.Entry.{Entry}
 use Rattle.plant_core.specs.declared.terms.LaneHead.{LaneHead}
 use Rattle.plant_core.specs.declared.terms.Ticks.{Ticks}
 use Rattle.section_model.specs.Ends.{Connection}
+use Rattle.section_model.specs.Laws.{openings_from}
 use Rattle.section_model.specs.Opening.{Wish, by_cr, by_user, no_wish, slots_needed, opened, Opened}
-use Rattle.section_model.specs.Lane.{Lane, stray_answer, openings_from}
+use Rattle.section_model.specs.Lane.{Lane, stray_answer}
 use Rattle.section_coupling.specs.Sound.{IsCredit}
 use Rattle.conn_lane.specs.Keeping.{Keeping, keeping_of, keeping_after, first_part, all_parts, lowest_in, needed}
 use Rattle.conn_lane.specs.Laws.{unheard}

@@ -6,19 +6,19 @@ use Rattle.section_model.specs.declared.hand.Hand.{Hand}
 use Rattle.section_model.specs.declared.hand.Unit.{Unit as DataUnit}
 use Rattle.section_model.specs.declared.hand.Hand.TheVariants as hand
 use Rattle.section_model.specs.declared.hand.Acted.{Acted}
-use Rattle.section_model.specs.declared.hand.Kept.{Kept}
+use Rattle.section_model.specs.declared.hand.KeptRelease.{KeptRelease}
 use Rattle.plant_core.specs.declared.terms.Ticks.{Ticks}
 use Rattle.relay_base.specs.declared.words.Output.{Output}
 use Rattle.section_model.specs.declared.cell.SectionState.{SectionState}
 use Rattle.section_model.specs.declared.cell.SectionState.TheVariants.{Asking, Up, Resetting, Ending, Gone}
 use Rattle.section_model.specs.Parameters.{Parameters}
 use Rattle.section_model.specs.Ends.{End, wire, owner, SectionHead, Line, Section, Windows, Timers, gives, gives_then, cleared, only_cause}
-use Rattle.section_model.specs.Line.{confirmed, failed, tested, agreed}
-use Rattle.section_model.specs.Windowed.{Windowed, ahead, is_valid, acknowledged, resets, is_next, is_used_up, wrong_number, accepts_unit, takes_data, takes_acknowledgement, takes_expedited as windows_take_expedited, expedites, takes_answer}
+use Rattle.section_model.specs.Line.{confirms, hears_error, hears_test, agreed}
+use Rattle.section_model.specs.Windowed.{Windowed, ahead, is_valid, acknowledged, resets, is_next, is_used_up, wrong_number, accepts_unit, takes_data, takes_acknowledgement, takes_expedited as windows_take_expedited, sends_expedited, takes_answer}
 use Rattle.section_model.specs.Acting.{timed, by_windows, by_line}
-use Rattle.flow_law.specs.Kept.{Stage, asking, connected, over, Meets, stage_at, section_stage, AreKept, ResetIsAwaited, InCredit, InWindow, PassesOn}
+use Rattle.flow_law.specs.InStep.{Stage, asking, connected, over, Meets, stage_at, section_stage, AreInStep, ResetIsAwaited, InCredit, InWindow, PassesOn}
 use Rattle.flow_law.proofs.Ends.{kept_back, awaited_back}
-use Rattle.flow_law.proofs.Taking.{at, Settles, Takes, alone, handed_on, NotRenewing, Agree, MayEnd, cleared_in, nothing_passed, takes_end, takes_refusal, takes_acceptance}
+use Rattle.flow_law.proofs.Taking.{at, Settles, TakesInStep, alone, handed_on, NotRenewing, Agree, MayEnd, cleared_in, nothing_passed, takes_end, takes_refusal, takes_acceptance}
 use Rattle.flow_law.proofs.Flowing.{either, open_can_end, open_other, takes_expedited, takes_reset, takes_unit_of, takes_left, expedited_left, within_given}
 
 -- an act of a section, of its windows, and of its line
@@ -32,21 +32,21 @@ unfoldable pub ActsLine : Ticks → Section → End → Line × Acted → Type 0
 ActsLine ticks x that done = Acts ticks x that (by_line (λ l. done) x)
 
 -- one thing is handed over
-acts_then : (ticks : Ticks) (x x' : Section) (that : End) (outs : List Output) (h : Hand) → Takes 1 ticks h that (timed ticks x (x', gives_then outs (h ∷ []))).0 → Acts ticks x that (x', gives_then outs (h ∷ []))
+acts_then : (ticks : Ticks) (x x' : Section) (that : End) (outs : List Output) (h : Hand) → TakesInStep 1 ticks h that (timed ticks x (x', gives_then outs (h ∷ []))).0 → Acts ticks x that (x', gives_then outs (h ∷ []))
 unfolding Acts
 acts_then ticks x x' that outs h t = handed_on ticks (timed ticks x (x', gives_then outs (h ∷ []))).0 that outs h t
 
 -- whatever its timers are
-pub acts_then_at : (ticks : Ticks) (x x' : Section) (that : End) (outs : List Output) (h : Hand) → ((t : Timers) → Takes 1 ticks h that (wire (record x' { timers = t }))) → Acts ticks x that (x', gives_then outs (h ∷ []))
+pub acts_then_at : (ticks : Ticks) (x x' : Section) (that : End) (outs : List Output) (h : Hand) → ((t : Timers) → TakesInStep 1 ticks h that (wire (record x' { timers = t }))) → Acts ticks x that (x', gives_then outs (h ∷ []))
 unfolding Acts
 acts_then_at ticks x x' that outs h t = handed_on ticks (timed ticks x (x', gives_then outs (h ∷ []))).0 that outs h (t _)
 
-pub acts_alone : (ticks : Ticks) (x x' : Section) (that : End) (outs : List Output) → AreKept (wire x') that → Acts ticks x that (x', gives outs)
+pub acts_alone : (ticks : Ticks) (x x' : Section) (that : End) (outs : List Output) → AreInStep (wire x') that → Acts ticks x that (x', gives outs)
 unfolding Acts
 acts_alone ticks x x' that outs k = alone ticks (timed ticks x (x', gives outs)).0 that outs k
 
 -- with the other end first
-pub other_first : (x : Section) (that : End) → AreKept (wire x) that → AreKept that (wire x)
+pub other_first : (x : Section) (that : End) → AreInStep (wire x) that → AreInStep that (wire x)
 other_first x that k = kept_back (record { this = wire x; that = that }) k
 
 -- The reset.
@@ -58,14 +58,14 @@ not_renewing x (owner u) r = r
 pub cleared_flows : (credit : ℕ) → credit ≤ 127 → InCredit credit (cleared credit) × InWindow (cleared credit) × PassesOn (cleared credit) 0 []
 cleared_flows credit fits = let c = cleared_in credit fits in (c.0, c.1, nothing_passed credit 0 [] refl refl)
 
-pub resets_as : (s : SectionState) (ticks : Ticks) (cause : ℕ) (x : Section) (that : End) (outs : List Output) → Meets connected (section_stage s) → AreKept (wire (at Up x)) that
+pub resets_as : (s : SectionState) (ticks : Ticks) (cause : ℕ) (x : Section) (that : End) (outs : List Output) → Meets connected (section_stage s) → AreInStep (wire (at Up x)) that
     → Acts ticks (at Up x) that (record (at s x) { windows = cleared x.head.credit }, gives_then outs (hand.Reset cause ∷ []))
 resets_as s ticks cause x that outs o k =
     let b = other_first (at Up x) that k in
     acts_then ticks (at Up x) (record (at s x) { windows = cleared x.head.credit }) that outs (hand.Reset cause)
     (takes_reset ticks cause that _ (k.0, o, b.1, b.2, tt, λ three. (not_renewing x that (k.4 (rw k.1 three)).0, refl, refl, cleared_flows x.head.credit k.2.0)))
 
-window_resets : (ticks : Ticks) (cause : ℕ) (x : Section) (that : End) → AreKept (wire (at Up x)) that
+window_resets : (ticks : Ticks) (cause : ℕ) (x : Section) (that : End) → AreInStep (wire (at Up x)) that
     → ActsWindowed ticks (at Up x) that (resets cause (record { head = (at Up x).head; windows = x.windows }))
 unfolding ActsWindowed
 window_resets ticks cause x that k = resets_as Resetting ticks cause x that _ tt k
@@ -84,7 +84,7 @@ came_in_credit credit w u d k =
     let a = k.0 in let b = k.1 in let c = k.2 in
     (a, rw (length_push w.got u) (omega (arith, b)), rw (length_push w.got u) (grind (arith, e, a, b, c)))
 
-unit_accepted : (ticks : Ticks) (m : Parameters) (x : Section) (that : End) → AreKept (wire (at Up x)) that
+unit_accepted : (ticks : Ticks) (m : Parameters) (x : Section) (that : End) → AreInStep (wire (at Up x)) that
     → is_used_up (record { head = (at Up x).head; windows = x.windows }) ≡ false → is_valid m.pr x.windows ≡ true
     → ActsWindowed ticks (at Up x) that (accepts_unit m (record { head = (at Up x).head; windows = x.windows }))
 unfolding ActsWindowed
@@ -102,7 +102,7 @@ unit_accepted ticks m x that k not_used valid =
           (awaited_back (wire (record x' { timers = t })) that (k.4 (rw k.1 three)).0, (came_in_credit x.head.credit x.windows u not_used f.2.0, acked_in_window m.pr x.windows valid f.2.1, f.2.2), f.1, f.2.0.1, refl),
     ))
 
-pub data_taken : (ticks : Ticks) (m : Parameters) (x : Section) (that : End) → AreKept (wire (at Up x)) that
+pub data_taken : (ticks : Ticks) (m : Parameters) (x : Section) (that : End) → AreInStep (wire (at Up x)) that
     → ActsWindowed ticks (at Up x) that (takes_data m (record { head = (at Up x).head; windows = x.windows }))
 data_taken ticks m x that k =
     let w : Windowed = record { head = (at Up x).head; windows = x.windows } in
@@ -113,7 +113,7 @@ data_taken ticks m x that k =
 
 -- AK.
 
-pub acknowledgement_taken : (ticks : Ticks) (m : Parameters) (x : Section) (that : End) → AreKept (wire (at Up x)) that
+pub acknowledgement_taken : (ticks : Ticks) (m : Parameters) (x : Section) (that : End) → AreInStep (wire (at Up x)) that
     → ActsWindowed ticks (at Up x) that (takes_acknowledgement m (record { head = (at Up x).head; windows = x.windows }))
 unfolding ActsWindowed
 acknowledgement_taken ticks m x that k =
@@ -130,7 +130,7 @@ acknowledgement_taken ticks m x that k =
 
 -- ED and EA.
 
-pub expedited_taken : (ticks : Ticks) (m : Parameters) (x : Section) (that : End) → AreKept (wire (at Up x)) that
+pub expedited_taken : (ticks : Ticks) (m : Parameters) (x : Section) (that : End) → AreInStep (wire (at Up x)) that
     → ActsWindowed ticks (at Up x) that (windows_take_expedited m (record { head = (at Up x).head; windows = x.windows }))
 unfolding ActsWindowed
 expedited_taken ticks m x that k =
@@ -139,14 +139,14 @@ expedited_taken ticks m x that k =
     acts_then_at ticks (at Up x) x' that [] (hand.Expedited m.data_octets)
     (λ t. takes_expedited ticks m.data_octets that (record x' { timers = t }) (other_first (record x' { timers = t }) that k)))
 
-pub expedited_leaves : (ticks : Ticks) (waiting : Option (List ℕ)) (x : Section) (that : End) → Meets connected (section_stage x.head.state) → AreKept (wire x) that
-    → ActsWindowed ticks x that (expedites waiting (record { head = x.head; windows = record x.windows { unanswered = false } }))
+pub expedited_leaves : (ticks : Ticks) (waiting : Option (List ℕ)) (x : Section) (that : End) → Meets connected (section_stage x.head.state) → AreInStep (wire x) that
+    → ActsWindowed ticks x that (sends_expedited waiting (record { head = x.head; windows = record x.windows { unanswered = false } }))
 unfolding ActsWindowed
 expedited_leaves ticks None x that o k = acts_alone ticks x _ that [] k
 expedited_leaves ticks (Some body) x that o k =
     acts_then ticks x _ that _ (hand.Left 0 true) (takes_left 1 ticks 0 true that _ (expedited_left that _ o k (within_given that x k)))
 
-pub answer_taken : (ticks : Ticks) (x : Section) (that : End) → AreKept (wire (at Up x)) that
+pub answer_taken : (ticks : Ticks) (x : Section) (that : End) → AreInStep (wire (at Up x)) that
     → ActsWindowed ticks (at Up x) that (takes_answer (record { head = (at Up x).head; windows = x.windows }))
 unfolding ActsWindowed
 answer_taken ticks x that k =
@@ -159,8 +159,8 @@ pub open_may_end : (e : End) → Meets connected (stage_at e) → MayEnd e
 open_may_end (wire x) o = open_can_end (section_stage x.head.state) o
 open_may_end (owner u) o = tt
 
-pub ends_as : (s : SectionState) (ticks : Ticks) (cause : ℕ) (body : Option (List ℕ)) (importance : Option ℕ) (kept : Kept) (x : Section) (that : End) (outs : List Output)
-    → Meets over (section_stage s) → Meets connected (section_stage x.head.state) → AreKept (wire x) that
+pub ends_as : (s : SectionState) (ticks : Ticks) (cause : ℕ) (body : Option (List ℕ)) (importance : Option ℕ) (kept : KeptRelease) (x : Section) (that : End) (outs : List Output)
+    → Meets over (section_stage s) → Meets connected (section_stage x.head.state) → AreInStep (wire x) that
     → Acts ticks x that (record (at s x) { kept = kept }, gives_then outs (hand.End cause body importance ∷ []))
 ends_as s ticks cause body importance kept x that outs o p k =
     let b = other_first x that k in
@@ -180,8 +180,8 @@ over_meets over over r o p m = m
 over_meets over _ r o p m = absurd p
 over_meets _ t r o p m = absurd o
 
-pub over_as : (s : SectionState) (x : Section) (that : End) → Meets over (section_stage x.head.state) → Meets over (section_stage s) → AreKept (wire x) that
-    → AreKept (wire (at s x)) that
+pub over_as : (s : SectionState) (x : Section) (that : End) → Meets over (section_stage x.head.state) → Meets over (section_stage s) → AreInStep (wire x) that
+    → AreInStep (wire (at s x)) that
 over_as s x that o p k = (over_meets (section_stage x.head.state) (section_stage s) (stage_at that) o p k.0, k.1, k.2, k.3, λ three. let f = k.4 three in (over_awaited s x that p, f.1, f.2))
 
 -- The setting up.
@@ -192,10 +192,10 @@ refuses_as ticks cause called body importance x x' that outs m o k =
     acts_then_at ticks x x' that outs (hand.Refuse cause called body importance)
     (λ t. takes_refusal 1 ticks cause called body importance that (wire (record x' { timers = t })) m o k)
 
-pub agreement : (x : Section) (that : End) → AreKept (wire x) that → Agree that (wire x)
+pub agreement : (x : Section) (that : End) → AreInStep (wire x) that → Agree that (wire x)
 agreement x that k = let b = other_first x that k in (b.1, b.2, b.3, λ three. let f = b.4 three in (f.1, f.2))
 
-pub refusal_heard : (ticks : Ticks) (cause : ℕ) (called body : Option (List ℕ)) (importance : Option ℕ) (x : Section) (that : End) → AreKept (wire (at Asking x)) that
+pub refusal_heard : (ticks : Ticks) (cause : ℕ) (called body : Option (List ℕ)) (importance : Option ℕ) (x : Section) (that : End) → AreInStep (wire (at Asking x)) that
     → Acts ticks (at Asking x) that (at Gone x, gives_then [] (hand.Refuse cause called body importance ∷ []))
 refusal_heard ticks cause called body importance x that k =
     refuses_as ticks cause called body importance (at Asking x) (at Gone x) that [] k.0 tt (agreement (at Asking x) that k)
@@ -203,8 +203,8 @@ refusal_heard ticks cause called body importance x that k =
 agreed_fits : (x : SectionHead) (m : Parameters) → x.credit ≤ 127 → agreed x m ≤ 127
 agreed_fits x m fits = either (λ (n : ℕ). n ≤ 127) (m.class == 3) _ _ (λ _. omega (arith, fits)) (λ _. zero-le)
 
-pub confirmation_heard : (ticks : Ticks) (point : ℕ) (m : Parameters) (x : Section) (that : End) → AreKept (wire (at Asking x)) that
-    → ActsLine ticks (at Asking x) that (confirmed point m (record { head = (at Asking x).head; kept = x.kept }))
+pub confirmation_heard : (ticks : Ticks) (point : ℕ) (m : Parameters) (x : Section) (that : End) → AreInStep (wire (at Asking x)) that
+    → ActsLine ticks (at Asking x) that (confirms point m (record { head = (at Asking x).head; kept = x.kept }))
 unfolding ActsLine
 confirmation_heard ticks point m x that k =
     let a = agreed (at Asking x).head m in
@@ -219,8 +219,8 @@ confirmation_heard ticks point m x that k =
 
 -- What ends a connection.
 
-pub failure_heard : (s : SectionState) (ticks : Ticks) (m : Parameters) (x : Section) (that : End) → Meets connected (section_stage s) → AreKept (wire (at s x)) that
-    → ActsLine ticks (at s x) that (failed m (record { head = (at s x).head; kept = x.kept }))
+pub failure_heard : (s : SectionState) (ticks : Ticks) (m : Parameters) (x : Section) (that : End) → Meets connected (section_stage s) → AreInStep (wire (at s x)) that
+    → ActsLine ticks (at s x) that (hears_error m (record { head = (at s x).head; kept = x.kept }))
 unfolding ActsLine
 failure_heard Up ticks m x that o k =
     either (ActsLine ticks (at Up x) that) (m.cause == 3) _ _ (λ _. ends_as Ending ticks 0x0F None None (only_cause 0x0F) (at Up x) that _ tt tt k) (λ _. ends_as Gone ticks 0x0F None None x.kept (at Up x) that [] tt tt k)
@@ -228,8 +228,8 @@ failure_heard Resetting ticks m x that o k =
     either (ActsLine ticks (at Resetting x) that) (m.cause == 3) _ _ (λ _. ends_as Ending ticks 0x0F None None (only_cause 0x0F) (at Resetting x) that _ tt tt k) (λ _. ends_as Gone ticks 0x0F None None x.kept (at Resetting x) that [] tt tt k)
 failure_heard _ ticks m x that o k = absurd o
 
-pub test_heard : (s : SectionState) (ticks : Ticks) (m : Parameters) (x : Section) (that : End) → Meets connected (section_stage s) → AreKept (wire (at s x)) that
-    → ActsLine ticks (at s x) that (tested m (record { head = (at s x).head; kept = x.kept }))
+pub test_heard : (s : SectionState) (ticks : Ticks) (m : Parameters) (x : Section) (that : End) → Meets connected (section_stage s) → AreInStep (wire (at s x)) that
+    → ActsLine ticks (at s x) that (hears_test m (record { head = (at s x).head; kept = x.kept }))
 unfolding ActsLine
 test_heard Up ticks m x that o k =
     either (ActsLine ticks (at Up x) that) (m.slr == x.head.other && m.class == x.head.class) _ _ (λ _. acts_alone ticks (at Up x) (at Up x) that [] k) (λ _. ends_as Ending ticks 0x05 None None (only_cause 0x05) (at Up x) that _ tt tt k)

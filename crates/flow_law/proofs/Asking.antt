@@ -15,12 +15,12 @@ use Rattle.section_model.specs.Line.{granted}
 use Rattle.section_model.specs.UserEnd.{user_asks, given, handed, units_of}
 use Rattle.section_model.specs.Coupling.{exchange}
 use Rattle.section_model.specs.Step.{asking_cell, reason_against, asks_unless, asks}
-use Rattle.flow_law.specs.Kept.{Stage, asked, asking, Meets, section_stage, IsKept, AreKept}
+use Rattle.flow_law.specs.InStep.{Stage, asked, asking, Meets, section_stage, IsInStep, AreInStep}
 use Rattle.flow_law.proofs.Ends.{kept_back}
 use Rattle.flow_law.proofs.Taking.{user_at, Settles, Agree, CanEnd, alone, handed_on, takes_end, takes_refusal, takes_acceptance}
 use Rattle.flow_law.proofs.Flowing.{either, OnWay, units_taken, section_takes_expedited, section_takes_reset, open_can_end}
 
-other_first : (u : User) (x : Section) → AreKept (owner u) (wire x) → AreKept (wire x) (owner u)
+other_first : (u : User) (x : Section) → AreInStep (owner u) (wire x) → AreInStep (wire x) (owner u)
 other_first u x k = kept_back (record { this = owner u; that = wire x }) k
 
 agreed_fits : (class credit most : ℕ) → most ≤ 127 → (if class == 3 then granted credit most else 0) ≤ 127
@@ -39,10 +39,10 @@ units_given : (class : ℕ) (got units : List DataUnit) → class ≡ 3 → (if 
 units_given class got units three = rw three refl
 
 -- of a user that is gone as of one that is not
-gone_agreement : (s : UserState) (u : User) (x : Section) → AreKept (owner (user_at s u)) (wire x) → Agree (wire x) (owner (user_at user.Gone u))
+gone_agreement : (s : UserState) (u : User) (x : Section) → AreInStep (owner (user_at s u)) (wire x) → Agree (wire x) (owner (user_at user.Gone u))
 gone_agreement s u x k = let b = other_first (user_at s u) x k in (b.1, b.2, (tt, tt), λ three. let f = b.4 three in (f.1, f.2))
 
-disconnects : (ticks : Ticks) (cause : ℕ) (body : List ℕ) (s : UserState) (u : User) (x : Section) → CanEnd (section_stage x.head.state) → AreKept (owner (user_at s u)) (wire x)
+disconnects : (ticks : Ticks) (cause : ℕ) (body : List ℕ) (s : UserState) (u : User) (x : Section) → CanEnd (section_stage x.head.state) → AreInStep (owner (user_at s u)) (wire x)
     → Settles ticks (wire x) (owner (user_at user.Gone u), gives_then [] (hand.End cause (given body) None ∷ []))
 disconnects ticks cause body s u x may k =
     handed_on ticks (owner (user_at user.Gone u)) (wire x) [] (hand.End cause (given body) None)
@@ -52,7 +52,7 @@ disconnects ticks cause body s u x may k =
 abbrev AsksAs : Ticks → Request → UserState → User → Section → Type 0
 AsksAs ticks r s u x = let done = user_asks (asking_cell s r) r (user_at s u) in Settles ticks (wire x) (owner done.0, done.1)
 
-asks_as : (r : Request) (s : UserState) (ticks : Ticks) (u : User) (x : Section) → AreKept (owner (user_at s u)) (wire x) → AsksAs ticks r s u x
+asks_as : (r : Request) (s : UserState) (ticks : Ticks) (u : User) (x : Section) → AreInStep (owner (user_at s u)) (wire x) → AsksAs ticks r s u x
 unfolding user_asks user_row
 asks_as (request.Accept mine class credit body) user.Offered ticks u x k =
     let a = (if class == 3 then granted credit u.credit else 0) in
@@ -98,14 +98,14 @@ asks_as (request.Disc mine cause body) user.Renewing ticks u x k =
 asks_as (request.Disc mine cause body) s ticks u x k = alone ticks (owner (user_at s u)) (wire x) [] k
 asks_as _ s ticks u x k = alone ticks (owner (user_at s u)) (wire x) [] k
 
-asks_unless_kept : (c : Option Reason) (ticks : Ticks) (r : Request) (u : User) (x : Section) → AreKept (owner u) (wire x) → IsKept (asks_unless c ticks r u x).0
+asks_unless_kept : (c : Option Reason) (ticks : Ticks) (r : Request) (u : User) (x : Section) → AreInStep (owner u) (wire x) → IsInStep (asks_unless c ticks r u x).0
 unfolding Settles
 asks_unless_kept (Some why) ticks r u x k = k
 asks_unless_kept None ticks r u x k = asks_as r u.state ticks u x k
 
-pub asks_kept : (ticks : Ticks) (ssn : ℕ) (r : Request) (this that : End) → AreKept this that → IsKept (asks ticks ssn r this that).0
+pub asks_kept : (ticks : Ticks) (ssn : ℕ) (r : Request) (this that : End) → AreInStep this that → IsInStep (asks ticks ssn r this that).0
 unfolding asks
 asks_kept ticks ssn r (owner u) (wire x) k =
-    either (λ (c : Connection × List Output). IsKept c.0) (u.ssn == ssn) _ _ (λ _. asks_unless_kept (reason_against r u x) ticks r u x k) (λ _. k)
+    either (λ (c : Connection × List Output). IsInStep c.0) (u.ssn == ssn) _ _ (λ _. asks_unless_kept (reason_against r u x) ticks r u x k) (λ _. k)
 asks_kept ticks ssn r (owner u) (owner v) k = k
 asks_kept ticks ssn r (wire x) that k = k

@@ -7,7 +7,7 @@ use Rattle.section_model.specs.declared.hand.Hand.{Hand}
 use Rattle.section_model.specs.declared.hand.Hand.TheVariants as hand
 use Rattle.section_model.specs.declared.hand.Acted.{Acted}
 use Rattle.section_model.specs.Parameters.{Parameters}
-use Rattle.section_model.specs.Windowed.{Windowed, windowed_hears, windowed_fires, windowed_takes, leaves, acknowledges, resets, is_next, is_used_up, wrong_number, accepts_unit, takes_data, takes_acknowledgement, takes_expedited, expedites, takes_answer, passes, passes_expedited, passes_reset, left, is_valid, may_leave}
+use Rattle.section_model.specs.Windowed.{Windowed, windowed_hears, windowed_fires, windowed_takes, leaves, acknowledges, resets, is_next, is_used_up, wrong_number, accepts_unit, takes_data, takes_acknowledgement, takes_expedited, sends_expedited, takes_answer, queues_unit, passes_expedited, passes_reset, counts_left, is_valid, may_leave}
 use Rattle.flow_law.specs.FlowLaw.{WindowsAreKept, ActsKeep}
 use Rattle.flow_law.proofs.Taking.{cleared_in}
 use Rattle.flow_law.proofs.Flowing.{either}
@@ -38,7 +38,7 @@ unfolding KeptBy
 acknowledgement_kept m x k =
     either KeptBy (is_valid m.pr x.windows) _ _ (λ valid. let w = acked_in_window m.pr x.windows valid k.2 in (k.0, k.1, (w.0, w.1, omega arith))) (λ _. resets_kept 0x03 x k)
 
-expedites_kept : (body : Option (List ℕ)) (x : Windowed) → WindowsAreKept x → KeptBy (expedites body x)
+expedites_kept : (body : Option (List ℕ)) (x : Windowed) → WindowsAreKept x → KeptBy (sends_expedited body x)
 unfolding KeptBy
 expedites_kept None x k = k
 expedites_kept (Some body) x k = k
@@ -64,7 +64,7 @@ fires_kept : (x : Windowed) → WindowsAreKept x → KeptBy (windowed_fires x)
 unfolding windowed_fires KeptBy
 fires_kept x k = k
 
-passes_kept : (h : Hand) (x : Windowed) → WindowsAreKept x → KeptBy (passes h x)
+passes_kept : (h : Hand) (x : Windowed) → WindowsAreKept x → KeptBy (queues_unit h x)
 unfolding KeptBy
 passes_kept (hand.Unit more body) x k = k
 passes_kept _ x k = k
@@ -83,7 +83,7 @@ passes_reset_kept _ x k = k
 no_more_left : (told passed units came : ℕ) → told ≤ passed → passed ≤ came → (told ≤ min (passed + units) came) × (min (passed + units) came ≤ came)
 no_more_left told passed units came a b = (omega (arith, a, b), omega arith)
 
-left_kept : (h : Hand) (x : Windowed) → WindowsAreKept x → KeptBy (left h x)
+left_kept : (h : Hand) (x : Windowed) → WindowsAreKept x → KeptBy (counts_left h x)
 unfolding KeptBy
 left_kept (hand.Left units false) x k = let n = no_more_left x.windows.told x.windows.passed units (length x.windows.got) k.1.0 k.1.1 in (k.0, (n.0, n.1, k.1.2), k.2)
 left_kept (hand.Left units true) x k = let n = no_more_left x.windows.told x.windows.passed units (length x.windows.got) k.1.0 k.1.1 in (k.0, (n.0, n.1, k.1.2), k.2)

@@ -1,7 +1,7 @@
 -- Facts on two ends.
 use Rattle.std.proofs.Common.{sym}
 use Rattle.section_model.specs.Ends.{End, wire, owner, Connection, turned}
-use Rattle.flow_law.specs.Kept.{Stage, asked, asking, connected, over, Meets, stage_at, IsKept, ResetIsAwaited}
+use Rattle.flow_law.specs.InStep.{Stage, asked, asking, connected, over, Meets, stage_at, IsInStep, ResetIsAwaited}
 
 meets_back : (s t : Stage) → Meets s t → Meets t s
 meets_back asked asking m = m
@@ -20,7 +20,7 @@ awaited_back (owner u) (wire x) r = r
 awaited_back (owner u) (owner v) r = r
 
 -- seen from the other end
-pub kept_back : (c : Connection) → IsKept c → IsKept (turned c)
+pub kept_back : (c : Connection) → IsInStep c → IsInStep (turned c)
 kept_back c k = (
   meets_back (stage_at c.this) (stage_at c.that) k.0,
   sym k.1,

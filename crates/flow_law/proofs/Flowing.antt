@@ -15,13 +15,13 @@ use Rattle.section_model.specs.declared.cell.UserState.TheVariants as user
 use Rattle.section_model.specs.Ends.{End, wire, owner, Section, User, Connection, gives, gives_then}
 use Rattle.section_model.specs.Table.{section_row, user_row}
 use Rattle.section_model.specs.Line.{line_takes}
-use Rattle.section_model.specs.Windowed.{Windowed, windowed_takes, expedites}
+use Rattle.section_model.specs.Windowed.{Windowed, windowed_takes, sends_expedited}
 use Rattle.section_model.specs.UserEnd.{user_takes, handed}
 use Rattle.section_model.specs.Acting.{timed, by_windows, section_takes, end_takes}
-use Rattle.section_model.specs.Coupling.{exchange, offered}
-use Rattle.flow_law.specs.Kept.{Stage, connected, Meets, stage_at, section_stage, user_stage, IsKept, AreKept, GaveNothing, ResetIsAwaited, class_at, credit_at, IsFresh, FlowsWith, passed_at, got_at}
+use Rattle.section_model.specs.Coupling.{exchange, other_takes}
+use Rattle.flow_law.specs.InStep.{Stage, connected, Meets, stage_at, section_stage, user_stage, IsInStep, AreInStep, GaveNothing, ResetIsAwaited, class_at, credit_at, IsFresh, FlowsWith, passed_at, got_at}
 use Rattle.flow_law.proofs.Ends.{kept_back}
-use Rattle.flow_law.proofs.Taking.{at, user_at, Takes, NotRenewing, Agree, section_takes_done, user_takes_done, CanEnd, takes_end, ready_awaited, resetting_awaited, cleared_in, nothing_passed}
+use Rattle.flow_law.proofs.Taking.{at, user_at, TakesInStep, NotRenewing, Agree, section_takes_done, user_takes_done, CanEnd, takes_end, ready_awaited, resetting_awaited, cleared_in, nothing_passed}
 
 -- a property of both arms
 pub either : {A : Type 0} (P : A → Type 0) (b : Bool) (x y : A) → (b ≡ true → P x) → (b ≡ false → P y) → P (if b then x else y)
@@ -30,7 +30,7 @@ either P false x y f g = g refl
 
 -- a section that acted, with what it hands over at once
 unfoldable pub Ends : ℕ → Ticks → Section → End → Section × Acted → Type 0
-Ends n ticks old that done = IsKept (exchange (suc n) ticks (timed ticks old done) that).0
+Ends n ticks old that done = IsInStep (exchange (suc n) ticks (timed ticks old done) that).0
 
 -- the same of its windows
 unfoldable pub EndsWindowed : ℕ → Ticks → Section → End → Windowed × Acted → Type 0
@@ -56,8 +56,8 @@ open_fresh user.Renewing got passed m = tt
 open_fresh user.Gone got passed m = tt
 open_fresh _ got passed m = absurd m
 
-pub takes_left : (n : ℕ) (ticks : Ticks) (units : ℕ) (is_expedited : Bool) (taker giver : End) → LeftOn units taker giver → Takes n ticks (hand.Left units is_expedited) taker giver
-unfolding Takes exchange section_takes windowed_takes user_takes
+pub takes_left : (n : ℕ) (ticks : Ticks) (units : ℕ) (is_expedited : Bool) (taker giver : End) → LeftOn units taker giver → TakesInStep n ticks (hand.Left units is_expedited) taker giver
+unfolding TakesInStep exchange section_takes windowed_takes user_takes
 takes_left n ticks units true (wire y) giver k = (
   k.0,
   k.1,
@@ -90,9 +90,9 @@ open_other _ t o m = absurd o
 no_more : (passed : ℕ) → passed + 0 ≡ passed
 no_more passed = omega arith
 
-pub expedited_left : (giver e : End) → Meets connected (stage_at e) → AreKept e giver → (class_at giver ≡ 3 → passed_at giver ≤ length (got_at giver)) → LeftOn 0 giver e
+pub expedited_left : (giver e : End) → Meets connected (stage_at e) → AreInStep e giver → (class_at giver ≡ 3 → passed_at giver ≤ length (got_at giver)) → LeftOn 0 giver e
 expedited_left giver e o k within =
-    let b : AreKept giver e = kept_back (record { this = e; that = giver }) k in (
+    let b : AreInStep giver e = kept_back (record { this = e; that = giver }) k in (
       b.0,
       b.1,
       b.2,
@@ -104,23 +104,23 @@ expedited_left giver e o k within =
 
 -- an act that is answered by one effect
 answered : (n : ℕ) (ticks : Ticks) (old new : Section) (outs : List Output) (h : Hand) (giver : End)
-    → Takes n ticks h giver (timed ticks old (new, gives_then outs (h ∷ []))).0 → Ends (suc n) ticks old giver (new, gives_then outs (h ∷ []))
-unfolding Ends Takes exchange
+    → TakesInStep n ticks h giver (timed ticks old (new, gives_then outs (h ∷ []))).0 → Ends (suc n) ticks old giver (new, gives_then outs (h ∷ []))
+unfolding Ends TakesInStep exchange
 answered n ticks old new outs h giver k = kept_back (exchange (suc n) ticks (end_takes ticks h giver) (timed ticks old (new, gives_then outs (h ∷ []))).0).0 k
 
 -- what came of the other end is no more than what it gave
-pub within_given : (giver : End) (y : Section) → AreKept (wire y) giver → class_at giver ≡ 3 → passed_at giver ≤ length (got_at giver)
+pub within_given : (giver : End) (y : Section) → AreInStep (wire y) giver → class_at giver ≡ 3 → passed_at giver ≤ length (got_at giver)
 within_given giver y k three = (k.4 (rw k.1 three)).1.2.1
 
-windows_expedite : (ticks : Ticks) (body : List ℕ) (y : Section) (giver : End) → Meets connected (section_stage y.head.state) → AreKept (wire y) giver
-    → EndsWindowed 1 ticks y giver (expedites (Some body) (record { head = y.head; windows = y.windows }))
+windows_expedite : (ticks : Ticks) (body : List ℕ) (y : Section) (giver : End) → Meets connected (section_stage y.head.state) → AreInStep (wire y) giver
+    → EndsWindowed 1 ticks y giver (sends_expedited (Some body) (record { head = y.head; windows = y.windows }))
 unfolding EndsWindowed
 windows_expedite ticks body y giver o k =
     answered 0 ticks y (record y { windows = record y.windows { waiting = None; unanswered = true } }) _ (hand.Left 0 true) giver
     (takes_left 0 ticks 0 true giver _ (expedited_left giver _ o k (within_given giver y k)))
 
-pub section_takes_expedited : (ticks : Ticks) (body : List ℕ) (s : SectionState) (y : Section) (giver : End) → AreKept (wire (at s y)) giver → Takes 1 ticks (hand.Expedited body) (wire (at s y)) giver
-unfolding Takes Ends EndsWindowed exchange section_takes windowed_takes line_takes section_row
+pub section_takes_expedited : (ticks : Ticks) (body : List ℕ) (s : SectionState) (y : Section) (giver : End) → AreInStep (wire (at s y)) giver → TakesInStep 1 ticks (hand.Expedited body) (wire (at s y)) giver
+unfolding TakesInStep Ends EndsWindowed exchange section_takes windowed_takes line_takes section_row
 section_takes_expedited ticks body Up y giver k =
     either (Ends 1 ticks (at Up y) giver) (y.head.class == 3) _ _
     (λ three. either (EndsWindowed 1 ticks (at Up y) giver) (not y.windows.unanswered) _ _ (λ _. windows_expedite ticks body (at Up y) giver tt k) (λ _. k))
@@ -131,20 +131,20 @@ section_takes_expedited ticks body _ y giver k = k
 
 -- a user that acted, with what it hands over at once
 unfoldable pub UserEnds : ℕ → Ticks → End → User × Acted → Type 0
-UserEnds n ticks that done = IsKept (exchange (suc n) ticks (owner done.0, done.1) that).0
+UserEnds n ticks that done = IsInStep (exchange (suc n) ticks (owner done.0, done.1) that).0
 
 -- what came in of a section is no less than what left of it
-within_come : (u : User) (x : Section) → AreKept (owner u) (wire x) → x.head.class ≡ 3 → x.windows.passed ≤ length x.windows.got
+within_come : (u : User) (x : Section) → AreInStep (owner u) (wire x) → x.head.class ≡ 3 → x.windows.passed ≤ length x.windows.got
 within_come u x k three = (k.4 (rw k.1 three)).2.0.1
 
 answers_by_class : (n : ℕ) (ticks : Ticks) (u : User) (outs : List Output) (h : Hand) (giver : End) (b : Bool)
-    → (b ≡ true → Takes n ticks h giver (owner u)) → (b ≡ false → AreKept (owner u) giver) → UserEnds (suc n) ticks giver (u, gives_then outs (if b then h ∷ [] else []))
-unfolding UserEnds Takes exchange
+    → (b ≡ true → TakesInStep n ticks h giver (owner u)) → (b ≡ false → AreInStep (owner u) giver) → UserEnds (suc n) ticks giver (u, gives_then outs (if b then h ∷ [] else []))
+unfolding UserEnds TakesInStep exchange
 answers_by_class n ticks u outs h giver true f g = kept_back (exchange (suc n) ticks (end_takes ticks h giver) (owner u)).0 (f refl)
 answers_by_class n ticks u outs h giver false f g = g refl
 
-user_takes_expedited : (ticks : Ticks) (body : List ℕ) (s : UserState) (u : User) (x : Section) → AreKept (owner (user_at s u)) (wire x) → Takes 1 ticks (hand.Expedited body) (owner (user_at s u)) (wire x)
-unfolding Takes UserEnds exchange user_takes user_row
+user_takes_expedited : (ticks : Ticks) (body : List ℕ) (s : UserState) (u : User) (x : Section) → AreInStep (owner (user_at s u)) (wire x) → TakesInStep 1 ticks (hand.Expedited body) (owner (user_at s u)) (wire x)
+unfolding TakesInStep UserEnds exchange user_takes user_row
 user_takes_expedited ticks body user.Ready u x k =
     answers_by_class 0 ticks (user_at user.Ready u) _ (hand.Left 0 true) (wire x) (u.class == 3)
     (λ three. takes_left 0 ticks 0 true (wire x) (owner (user_at user.Ready u)) (expedited_left (wire x) (owner (user_at user.Ready u)) tt k (within_come (user_at user.Ready u) x k)))
@@ -167,8 +167,8 @@ Resets taker giver =
     × IsFresh giver
     × (class_at taker ≡ 3 → NotRenewing taker × (passed_at giver ≡ 0) × (got_at giver ≡ []) × FlowsWith giver 0 [])
 
-pub section_takes_reset : (n : ℕ) (ticks : Ticks) (cause : ℕ) (s : SectionState) (y : Section) (giver : End) → Resets (wire (at s y)) giver → Takes n ticks (hand.Reset cause) (wire (at s y)) giver
-unfolding Takes Ends exchange section_takes windowed_takes line_takes section_row
+pub section_takes_reset : (n : ℕ) (ticks : Ticks) (cause : ℕ) (s : SectionState) (y : Section) (giver : End) → Resets (wire (at s y)) giver → TakesInStep n ticks (hand.Reset cause) (wire (at s y)) giver
+unfolding TakesInStep Ends exchange section_takes windowed_takes line_takes section_row
 section_takes_reset n ticks cause Up y giver k =
     either (Ends n ticks (at Up y) giver) (y.head.class == 3) _ _
     (λ three. (
@@ -193,8 +193,8 @@ section_takes_reset n ticks cause Resetting y giver k =
     (λ other. (k.1, k.2, k.3, (tt, k.4), λ three. absurd (eqb-false _ _ other three)))
 section_takes_reset n ticks cause _ y giver k = absurd k.0
 
-user_takes_reset : (n : ℕ) (ticks : Ticks) (cause : ℕ) (s : UserState) (u : User) (x : Section) → Resets (owner (user_at s u)) (wire x) → Takes n ticks (hand.Reset cause) (owner (user_at s u)) (wire x)
-unfolding Takes exchange user_takes user_row
+user_takes_reset : (n : ℕ) (ticks : Ticks) (cause : ℕ) (s : UserState) (u : User) (x : Section) → Resets (owner (user_at s u)) (wire x) → TakesInStep n ticks (hand.Reset cause) (owner (user_at s u)) (wire x)
+unfolding TakesInStep exchange user_takes user_row
 user_takes_reset n ticks cause user.Ready u x k = (k.1, k.2, k.3, (tt, tt), λ three. let f = k.5 three in (ready_awaited u (wire x), tt, f.3))
 user_takes_reset n ticks cause user.Renewing u x k = (k.1, k.2, k.3, (tt, tt), λ three. absurd (k.5 three).0)
 user_takes_reset n ticks cause _ u x k = absurd k.0
@@ -242,7 +242,7 @@ fresh_at (owner u) o = open_fresh u.state u.got u.passed o
 all_given : (taker : End) (got before : List DataUnit) (passed : ℕ) → got ≡ before ++ [] → FlowsWith taker passed before → FlowsWith taker passed got
 all_given taker got before passed e f = rw (e, append-nil before) f
 
-pub none_on_way : (taker giver : End) → OnWay [] taker giver → AreKept taker giver
+pub none_on_way : (taker giver : End) → OnWay [] taker giver → AreInStep taker giver
 none_on_way taker giver k = (
   both_open (stage_at taker) (stage_at giver) k.0 k.1,
   k.2,
@@ -307,9 +307,9 @@ takes_unit ticks u units (owner v) giver k = absurd k.6
 
 -- all units of a list, one after another
 pub units_taken : (ticks : Ticks) (units : List DataUnit) (r : Connection × List Output) → OnWay units r.0.that r.0.this
-    → IsKept (fold (offered (exchange 2 ticks) ticks) r (map handed units)).0
+    → IsInStep (fold (other_takes (exchange 2 ticks) ticks) r (map handed units)).0
 units_taken ticks [] r k = kept_back (record { this = r.0.that; that = r.0.this }) (none_on_way r.0.that r.0.this k)
-units_taken ticks (u ∷ units) r k = units_taken ticks units (offered (exchange 2 ticks) ticks r (handed u)) (takes_unit ticks u units r.0.that r.0.this k)
+units_taken ticks (u ∷ units) r k = units_taken ticks units (other_takes (exchange 2 ticks) ticks r (handed u)) (takes_unit ticks u units r.0.that r.0.this k)
 
 pub open_can_end : (s : Stage) → Meets connected s → CanEnd s
 open_can_end connected o = tt
@@ -318,32 +318,32 @@ open_can_end _ o = absurd o
 -- a unit came on a section for a user
 abbrev pub Came : End → Section → Type 0
 Came taker x =
-    AreKept taker (wire x) × Meets connected (section_stage x.head.state) × (class_at taker ≡ 3 → x.windows.passed + 1 ≤ length x.windows.got)
+    AreInStep taker (wire x) × Meets connected (section_stage x.head.state) × (class_at taker ≡ 3 → x.windows.passed + 1 ≤ length x.windows.got)
 
-breaks_off : (ticks : Ticks) (v : User) (outs : List Output) (x : Section) → AreKept (owner v) (wire x) → Meets connected (section_stage x.head.state)
+breaks_off : (ticks : Ticks) (v : User) (outs : List Output) (x : Section) → AreInStep (owner v) (wire x) → Meets connected (section_stage x.head.state)
     → UserEnds 1 ticks (wire x) (user_at user.Gone v, record { first = hand.End 0x07 None None ∷ []; outs = outs; then = [] })
-unfolding UserEnds Takes exchange
+unfolding UserEnds TakesInStep exchange
 breaks_off ticks v outs x k o =
-    let b : AreKept (wire x) (owner v) = kept_back (record { this = owner v; that = wire x }) k in
+    let b : AreInStep (wire x) (owner v) = kept_back (record { this = owner v; that = wire x }) k in
     kept_back (exchange 1 ticks (end_takes ticks (hand.End 0x07 None None) (wire x)) (owner (user_at user.Gone v))).0
     (takes_end 0 ticks 0x07 None None (wire x) (owner (user_at user.Gone v)) (open_can_end (section_stage x.head.state) o) tt (b.1, b.2, (tt, tt), λ three. ((b.4 three).1, tt)))
 
 collected : (ticks : Ticks) (v v' : User) (outs : List Output) (x : Section) → Came (owner v) x
-    → AreKept (owner v') (wire x) → (v'.class ≡ v.class) → UserEnds 1 ticks (wire x) (v', gives_then outs (if v.class == 3 then hand.Left 1 false ∷ [] else []))
+    → AreInStep (owner v') (wire x) → (v'.class ≡ v.class) → UserEnds 1 ticks (wire x) (v', gives_then outs (if v.class == 3 then hand.Left 1 false ∷ [] else []))
 collected ticks v v' outs x k k' same =
     answers_by_class 0 ticks v' outs (hand.Left 1 false) (wire x) (v.class == 3)
-    (λ three. let b : AreKept (wire x) (owner v') = kept_back (record { this = owner v'; that = wire x }) k' in
+    (λ three. let b : AreInStep (wire x) (owner v') = kept_back (record { this = owner v'; that = wire x }) k' in
     takes_left 0 ticks 1 false (wire x) (owner v')
     (b.0, b.1, b.2, b.3.1, k.1, λ is_three. let f = b.4 is_three in (f.0, f.1, tt, k.2 (eqb-true _ _ three))))
     (λ other. k')
 
-user_alone : (n : ℕ) (ticks : Ticks) (v : User) (that : End) (outs : List Output) → AreKept (owner v) that → UserEnds n ticks that (v, gives outs)
+user_alone : (n : ℕ) (ticks : Ticks) (v : User) (that : End) (outs : List Output) → AreInStep (owner v) that → UserEnds n ticks that (v, gives outs)
 unfolding UserEnds exchange
 user_alone n ticks v that outs k = k
 
 user_takes_unit : (ticks : Ticks) (more : Bool) (body : List ℕ) (s : UserState) (v : User) (x : Section) → Came (owner (user_at s v)) x
-    → Takes 1 ticks (hand.Unit more body) (owner (user_at s v)) (wire x)
-unfolding Takes UserEnds user_takes user_row
+    → TakesInStep 1 ticks (hand.Unit more body) (owner (user_at s v)) (wire x)
+unfolding TakesInStep UserEnds user_takes user_row
 user_takes_unit ticks more body user.Ready v x k =
     either (UserEnds 1 ticks (wire x)) (nat_lt 8192 (length (v.text ++ body))) _ _
     (λ long. breaks_off ticks (user_at user.Ready v) _ x k.0 k.1)
@@ -361,16 +361,16 @@ user_takes_unit ticks more body s v x k = user_alone 1 ticks (user_at s v) (wire
 -- What a section hands over, at either kind of other end.
 
 pub takes_done : (ticks : Ticks) (taker : End) (x : Section) → Meets connected (stage_at taker) → Meets connected (section_stage x.head.state) → Agree taker (wire x)
-    → Takes 1 ticks hand.Done taker (wire x)
+    → TakesInStep 1 ticks hand.Done taker (wire x)
 takes_done ticks (wire y) x m o k =
     section_takes_done 1 ticks y.head.state y x (both_open (section_stage y.head.state) (section_stage x.head.state) m o, k.0, k.1, k.2, λ three. let f = k.3 three in (tt, f.0, f.1))
 takes_done ticks (owner u) x m o k = user_takes_done 1 ticks u.state u x m o k
 
-pub takes_expedited : (ticks : Ticks) (body : List ℕ) (taker : End) (x : Section) → AreKept taker (wire x) → Takes 1 ticks (hand.Expedited body) taker (wire x)
+pub takes_expedited : (ticks : Ticks) (body : List ℕ) (taker : End) (x : Section) → AreInStep taker (wire x) → TakesInStep 1 ticks (hand.Expedited body) taker (wire x)
 takes_expedited ticks body (wire y) x k = section_takes_expedited ticks body y.head.state y (wire x) k
 takes_expedited ticks body (owner u) x k = user_takes_expedited ticks body u.state u x k
 
-pub takes_reset : (ticks : Ticks) (cause : ℕ) (taker : End) (x : Section) → Resets taker (wire x) → Takes 1 ticks (hand.Reset cause) taker (wire x)
+pub takes_reset : (ticks : Ticks) (cause : ℕ) (taker : End) (x : Section) → Resets taker (wire x) → TakesInStep 1 ticks (hand.Reset cause) taker (wire x)
 takes_reset ticks cause (wire y) x k = section_takes_reset 1 ticks cause y.head.state y (wire x) k
 takes_reset ticks cause (owner u) x k = user_takes_reset 1 ticks cause u.state u x k
 
@@ -387,8 +387,8 @@ UnitOf u before taker x =
 one_longer : (got before : List DataUnit) (u : DataUnit) (passed : ℕ) → got ≡ before ++ u ∷ [] → passed ≤ length before → passed + 1 ≤ length got
 one_longer got before u passed e within = rw (e, length_push before u) (omega (arith, within))
 
-pub takes_unit_of : (ticks : Ticks) (u : DataUnit) (before : List DataUnit) (taker : End) (x : Section) → UnitOf u before taker x → Takes 1 ticks (hand.Unit u.more u.body) taker (wire x)
-unfolding Takes
+pub takes_unit_of : (ticks : Ticks) (u : DataUnit) (before : List DataUnit) (taker : End) (x : Section) → UnitOf u before taker x → TakesInStep 1 ticks (hand.Unit u.more u.body) taker (wire x)
+unfolding TakesInStep
 takes_unit_of ticks u before (wire y) x k =
     let c = (exchange 2 ticks (end_takes ticks (handed u) (wire y)) (wire x)).0 in
     none_on_way c.this c.that

@@ -5,27 +5,27 @@ use Rattle.plant_core.specs.declared.terms.Ticks.{Ticks}
 use Rattle.section_model.specs.Ends.{End, wire, owner, Connection}
 use Rattle.section_model.specs.Step.{hears}
 use Rattle.section_model.specs.Lane.{next, heard, follow}
-use Rattle.flow_law.specs.Kept.{IsKept, AreKept}
+use Rattle.flow_law.specs.InStep.{IsInStep, AreInStep}
 use Rattle.flow_law.specs.FlowLaw.{EndKept, FlowKept, FlowLaw}
 use Rattle.flow_law.proofs.Ends.{kept_back}
 use Rattle.flow_law.proofs.Step.{step_keeps}
 use Rattle.flow_law.proofs.Opening.{opening_keeps}
 
-follows : (ticks : Ticks) (c : Connection) (events : List Event) → IsKept c → IsKept (follow ticks c (heard ticks c events))
+follows : (ticks : Ticks) (c : Connection) (events : List Event) → IsInStep c → IsInStep (follow ticks c (heard ticks c events))
 unfolding heard follow
 follows ticks c [] k = k
 follows ticks c (event ∷ events) k = by_test (hears c event) (follows ticks (next ticks c event) events (step_keeps ticks c event k)) (follows ticks c events k)
   where
-    by_test : (b : Bool) → IsKept (follow ticks (next ticks c event) (heard ticks (next ticks c event) events)) → IsKept (follow ticks c (heard ticks c events))
-        → IsKept (follow ticks c (elim b [ true ↦ event ∷ heard ticks (next ticks c event) events | false ↦ heard ticks c events ]))
+    by_test : (b : Bool) → IsInStep (follow ticks (next ticks c event) (heard ticks (next ticks c event) events)) → IsInStep (follow ticks c (heard ticks c events))
+        → IsInStep (follow ticks c (elim b [ true ↦ event ∷ heard ticks (next ticks c event) events | false ↦ heard ticks c events ]))
     by_test true f g = f
     by_test false f g = g
 
-end_kept : (this that : End) → AreKept this that → EndKept this that
+end_kept : (this that : End) → AreInStep this that → EndKept this that
 end_kept (wire x) that k = λ three. (k.4 three).1
 end_kept (owner u) that k = tt
 
-pub flow_kept : (c : Connection) → IsKept c → FlowKept c
+pub flow_kept : (c : Connection) → IsInStep c → FlowKept c
 flow_kept c k = (end_kept c.this c.that k, end_kept c.that c.this (kept_back c k))
 
 pub flow_law : FlowLaw

@@ -7,6 +7,7 @@ use Rattle.relay_base.specs.declared.words.Reason.{Reason}
 use Rattle.relay_base.specs.declared.words.Output.{Output}
 use Rattle.plant_core.specs.declared.terms.Ticks.{Ticks}
 use Rattle.section_model.specs.declared.cell.Timer.{Timer}
+use Rattle.section_model.specs.Laws.{hands_of}
 use Rattle.section_model.specs.declared.cell.Occasion.{Occasion}
 use Rattle.section_model.specs.declared.hand.Hand.{Hand}
 use Rattle.section_model.specs.declared.hand.Acted.{Acted}
@@ -15,9 +16,9 @@ use Rattle.section_model.specs.Ends.{End, wire, owner, Section, User, Connection
 use Rattle.section_model.specs.Parameters.{Parameters, Arrival, arrival_in}
 use Rattle.section_model.specs.Timing.{firing_order, firing, rearmed}
 use Rattle.section_model.specs.Acting.{end_takes}
-use Rattle.section_model.specs.Coupling.{hands_of, with_more, offered, exchange, settles, on_that}
+use Rattle.section_model.specs.Coupling.{with_more, other_takes, exchange, settles, on_that}
 use Rattle.section_model.specs.Step.{checked, hears_checked, hears_message, is_from_elsewhere, in_touch, asking_cell, reason_against, asks_unless, asks, ticked, is_due_at, fires_at, fires, fires_next, fires_due, ticks_by, is_named, at_this, at_reference, heard_by, asked_by, event_step}
-use Rattle.flow_law.specs.Kept.{passed_at, got_at}
+use Rattle.flow_law.specs.InStep.{passed_at, got_at}
 use Rattle.flow_law.proofs.Flowing.{either, IsSection}
 use Rattle.flow_law.proofs.Growing.{CountsOn, cell_before, GrowsAt, same_grows, then_grows, NoUnits, NoneLeft, StaysAs, Fine, TakesFine, section_hears_fine, section_fires_fine, end_takes_fine, user_asks_fine}
 
@@ -76,7 +77,7 @@ both this that = record { this = this; that = that }
 pub Exchanges : ℕ → Ticks → Type 0
 Exchanges n ticks = (acting : End × Acted) (that : End) → (IsSection acting.0 → NoneLeft (hands_of acting.1)) → Goes (both acting.0 that) (exchange n ticks acting that).0
 
-offered_goes : (n : ℕ) (ticks : Ticks) → Exchanges n ticks → (r : Connection × List Output) (h : Hand) → (IsSection r.0.this → NoUnits h) → Goes r.0 (offered (exchange n ticks) ticks r h).0
+offered_goes : (n : ℕ) (ticks : Ticks) → Exchanges n ticks → (r : Connection × List Output) (h : Hand) → (IsSection r.0.this → NoUnits h) → Goes r.0 (other_takes (exchange n ticks) ticks r h).0
 unfolding Exchanges TakesFine
 offered_goes n ticks goes r h none =
     let taken = end_takes ticks h r.0.that in
@@ -87,13 +88,13 @@ offered_goes n ticks goes r h none =
     goes_back (both r.0.that r.0.this) d (goes_then (both r.0.that r.0.this) (both taken.0 r.0.this) d one (goes taken r.0.this f.2))
 
 hands_go : (n : ℕ) (ticks : Ticks) → Exchanges n ticks → (hands : List Hand) (r : Connection × List Output) → (IsSection r.0.this → NoneLeft hands)
-    → Goes r.0 (fold (offered (exchange n ticks) ticks) r hands).0
+    → Goes r.0 (fold (other_takes (exchange n ticks) ticks) r hands).0
 unfolding NoneLeft
 hands_go n ticks goes [] r none = goes_nowhere r.0
 hands_go n ticks goes (h ∷ hands) r none =
-    let r' = offered (exchange n ticks) ticks r h in
+    let r' = other_takes (exchange n ticks) ticks r h in
     let one : Goes r.0 r'.0 = offered_goes n ticks goes r h (λ s. (none s).0) in
-    goes_then r.0 r'.0 (fold (offered (exchange n ticks) ticks) r' hands).0 one
+    goes_then r.0 r'.0 (fold (other_takes (exchange n ticks) ticks) r' hands).0 one
     (hands_go n ticks goes hands r' (λ s. (none (section_back r.0.this r'.0.this one.0 s)).1))
 
 none_of : (one two : List Hand) → NoneLeft (one ++ two) → NoneLeft one × NoneLeft two
@@ -105,9 +106,9 @@ pub exchange_goes : (n : ℕ) (ticks : Ticks) → Exchanges n ticks
 unfolding Exchanges exchange
 exchange_goes zero ticks acting that none = goes_nowhere (both acting.0 that)
 exchange_goes (suc n) ticks acting that none =
-    let first = fold (offered (exchange n ticks) ticks) (both acting.0 that, []) acting.1.first in
+    let first = fold (other_takes (exchange n ticks) ticks) (both acting.0 that, []) acting.1.first in
     let one : Goes (both acting.0 that) first.0 = hands_go n ticks (exchange_goes n ticks) acting.1.first (both acting.0 that, []) (λ s. (none_of acting.1.first acting.1.then (none s)).0) in
-    let all = fold (offered (exchange n ticks) ticks) (with_more acting.1.outs first) acting.1.then in
+    let all = fold (other_takes (exchange n ticks) ticks) (with_more acting.1.outs first) acting.1.then in
     goes_then (both acting.0 that) first.0 all.0 one
     (hands_go n ticks (exchange_goes n ticks) acting.1.then (with_more acting.1.outs first)
     (λ s. (none_of acting.1.first acting.1.then (none (section_back acting.0 first.0.this one.0 s))).1))

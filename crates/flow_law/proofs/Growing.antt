@@ -16,41 +16,41 @@ use Rattle.section_model.specs.declared.hand.Unit.{Unit as DataUnit}
 use Rattle.section_model.specs.declared.hand.Acted.{Acted}
 use Rattle.section_model.specs.Parameters.{Parameters}
 use Rattle.section_model.specs.Ends.{End, wire, owner, Line, Section, User, Windows, is_up, is_connected}
-use Rattle.section_model.specs.Line.{line_hears, line_fires, line_takes, accepted, refused, ended, ended_early, passed}
-use Rattle.section_model.specs.Windowed.{Windowed, windowed_hears, windowed_fires, windowed_takes, resets, is_next, is_used_up, wrong_number, takes_data, expedites, passes, passes_expedited, passes_reset, left, is_valid}
-use Rattle.section_model.specs.UserEnd.{user_takes, user_asks, units_of, confirmed as user_confirmed, disconnected, collects, hears_expedited, hears_reset, left as user_left, accepts, refuses, sends, expedites as user_expedites, disconnects}
+use Rattle.section_model.specs.Line.{line_hears, line_fires, line_takes, passes_accept, passes_refuse, passes_end, keeps_end, passes_unit}
+use Rattle.section_model.specs.Windowed.{Windowed, windowed_hears, windowed_fires, windowed_takes, resets, is_next, is_used_up, wrong_number, takes_data, sends_expedited, queues_unit, passes_expedited, passes_reset, counts_left, is_valid}
+use Rattle.section_model.specs.UserEnd.{user_takes, user_asks, units_of, tells_confirm as user_confirmed, tells_disconnect, collects, tells_expedited, tells_reset, user_counts_left as user_left, accepts, refuses, sends, sends_expedited as user_expedites, disconnects}
 use Rattle.section_model.specs.Acting.{by_windows, by_line, in_windows, windows_after, section_hears, section_fires, section_takes, section_takes_by, user_takes_by, end_takes}
-use Rattle.section_model.specs.Coupling.{hands_of}
-use Rattle.flow_law.specs.Kept.{passed_at, got_at}
+use Rattle.section_model.specs.Laws.{hands_of}
+use Rattle.flow_law.specs.InStep.{passed_at, got_at}
 use Rattle.flow_law.proofs.Flowing.{either, IsSection}
 
 -- So many left, of these units; then so many, of those: they go on, or begin anew.
-pub data Growth (passed : ℕ) (got : List DataUnit) (passed' : ℕ) (got' : List DataUnit) : Type 0 where
-  begins_anew : passed' ≡ 0 → Growth passed got passed' got'
-  goes_on : (more : List DataUnit) → passed' ≡ passed → got' ≡ got ++ more → Growth passed got passed' got'
+pub data Growth (passes_unit : ℕ) (got : List DataUnit) (passed' : ℕ) (got' : List DataUnit) : Type 0 where
+  begins_anew : passed' ≡ 0 → Growth passes_unit got passed' got'
+  goes_on : (more : List DataUnit) → passed' ≡ passes_unit → got' ≡ got ++ more → Growth passes_unit got passed' got'
 
 abbrev pub GrowsBy : ℕ → List DataUnit → ℕ → List DataUnit → Type 0
-GrowsBy passed got passed' got' = passed ≤ length got → (passed' ≤ length got') × Growth passed got passed' got'
+GrowsBy passes_unit got passed' got' = passes_unit ≤ length got → (passed' ≤ length got') × Growth passes_unit got passed' got'
 
 abbrev pub GrowsAt : End → End → Type 0
 GrowsAt e e' = GrowsBy (passed_at e) (got_at e) (passed_at e') (got_at e')
 
-pub same_grows : (passed : ℕ) (got : List DataUnit) → GrowsBy passed got passed got
-same_grows passed got = λ within. (within, goes_on [] refl (sym (append-nil got)))
+pub same_grows : (passes_unit : ℕ) (got : List DataUnit) → GrowsBy passes_unit got passes_unit got
+same_grows passes_unit got = λ within. (within, goes_on [] refl (sym (append-nil got)))
 
-cleared_grows : (passed : ℕ) (got : List DataUnit) → GrowsBy passed got 0 []
-cleared_grows passed got = λ within. (zero-le, begins_anew refl)
+cleared_grows : (passes_unit : ℕ) (got : List DataUnit) → GrowsBy passes_unit got 0 []
+cleared_grows passes_unit got = λ within. (zero-le, begins_anew refl)
 
-more_grows : (passed : ℕ) (got more : List DataUnit) → GrowsBy passed got passed (got ++ more)
-more_grows passed got more = λ within. (rw (length-append got more) (omega (arith, within)), goes_on more refl refl)
+more_grows : (passes_unit : ℕ) (got more : List DataUnit) → GrowsBy passes_unit got passes_unit (got ++ more)
+more_grows passes_unit got more = λ within. (rw (length-append got more) (omega (arith, within)), goes_on more refl refl)
 
-no_more_grows : (passed : ℕ) (got : List DataUnit) (units : ℕ) → units ≡ 0 → GrowsBy passed got (passed + units) got
-no_more_grows passed got units none = rw (none, add-zero passed) (same_grows passed got)
+no_more_grows : (passes_unit : ℕ) (got : List DataUnit) (units : ℕ) → units ≡ 0 → GrowsBy passes_unit got (passes_unit + units) got
+no_more_grows passes_unit got units none = rw (none, add-zero passes_unit) (same_grows passes_unit got)
 
-least_grows : (passed : ℕ) (got : List DataUnit) (units : ℕ) → units ≡ 0 → GrowsBy passed got (min (passed + units) (length got)) got
-least_grows passed got units none = λ within.
-    let e : min (passed + units) (length got) ≡ passed = omega (arith, none, within) in
-    rw e (same_grows passed got within)
+least_grows : (passes_unit : ℕ) (got : List DataUnit) (units : ℕ) → units ≡ 0 → GrowsBy passes_unit got (min (passes_unit + units) (length got)) got
+least_grows passes_unit got units none = λ within.
+    let e : min (passes_unit + units) (length got) ≡ passed = omega (arith, none, within) in
+    rw e (same_grows passes_unit got within)
 
 pub then_grows : (p q r : ℕ) (a b c : List DataUnit) → GrowsBy p a q b → GrowsBy q b r c → GrowsBy p a r c
 then_grows p q r a b c f g = λ within. let one = f within in let two = g one.0 in (two.0, joined one.1 two.1)
@@ -90,7 +90,7 @@ data_grows m x =
     (λ _. either (WindowsGrow x) (not (is_valid m.pr x.windows)) _ _ (λ _. resets_grow 0x03 x)
     (λ _. (more_grows x.windows.passed x.windows.got _, (tt, tt), inr (refl, refl)))))
 
-expedites_grow : (body : Option (List ℕ)) (x : Windowed) → WindowsGrow x (expedites body x)
+expedites_grow : (body : Option (List ℕ)) (x : Windowed) → WindowsGrow x (sends_expedited body x)
 unfolding WindowsGrow NoneLeft NoUnits
 expedites_grow None x = (same_grows x.windows.passed x.windows.got, tt, inr (refl, refl))
 expedites_grow (Some body) x = (same_grows x.windows.passed x.windows.got, (refl, tt), inr (refl, refl))
@@ -111,7 +111,7 @@ WindowsTake : Hand → Windowed → Windowed × Acted → Type 0
 WindowsTake h x r =
     (NoUnits h → GrowsBy x.windows.passed x.windows.got r.0.windows.passed r.0.windows.got) × NoneLeft (hands_of r.1) × CountsOn x.head.class x.windows.sent r.0.head.class r.0.windows.sent
 
-passes_grow : (h : Hand) (x : Windowed) → WindowsTake h x (passes h x)
+passes_grow : (h : Hand) (x : Windowed) → WindowsTake h x (queues_unit h x)
 unfolding WindowsTake NoneLeft NoUnits
 passes_grow (hand.Unit more body) x = (λ _. same_grows x.windows.passed x.windows.got, tt, inr (refl, refl))
 passes_grow _ x = (λ _. same_grows x.windows.passed x.windows.got, tt, inr (refl, refl))
@@ -128,7 +128,7 @@ unfolding WindowsTake NoneLeft NoUnits
 passes_reset_grow (hand.Reset cause) x = (λ _. cleared_grows x.windows.passed x.windows.got, tt, inl refl)
 passes_reset_grow _ x = (λ _. same_grows x.windows.passed x.windows.got, tt, inr (refl, refl))
 
-left_grows : (h : Hand) (x : Windowed) → WindowsTake h x (left h x)
+left_grows : (h : Hand) (x : Windowed) → WindowsTake h x (counts_left h x)
 unfolding WindowsTake NoneLeft NoUnits
 left_grows (hand.Left units true) x = (λ none. least_grows x.windows.passed x.windows.got units none, tt, inr (refl, refl))
 left_grows (hand.Left units false) x = (λ none. least_grows x.windows.passed x.windows.got units none, tt, inr (refl, refl))
@@ -177,27 +177,27 @@ line_take : (c : Cell) (h : Hand) (x : Line) → IsBefore c x.head.state → Lin
 unfolding line_takes LineFine NoneLeft
 line_take cell.PassAccept h x before = by_hand h
   where
-    by_hand : (h : Hand) → LineFine x (accepted h x)
+    by_hand : (h : Hand) → LineFine x (passes_accept h x)
     by_hand (hand.Accept class credit called body importance) = (tt, inr (refl, before))
     by_hand _ = (tt, inl refl)
 line_take cell.PassRefuse h x before = by_hand h
   where
-    by_hand : (h : Hand) → LineFine x (refused h x)
+    by_hand : (h : Hand) → LineFine x (passes_refuse h x)
     by_hand (hand.Refuse cause called body importance) = (tt, inl refl)
     by_hand _ = (tt, inl refl)
 line_take cell.PassEnd h x before = by_hand h
   where
-    by_hand : (h : Hand) → LineFine x (ended h x)
+    by_hand : (h : Hand) → LineFine x (passes_end h x)
     by_hand (hand.End cause body importance) = (tt, inl refl)
     by_hand _ = (tt, inl refl)
 line_take cell.KeepEnd h x before = by_hand h
   where
-    by_hand : (h : Hand) → LineFine x (ended_early h x)
+    by_hand : (h : Hand) → LineFine x (keeps_end h x)
     by_hand (hand.End cause body importance) = (tt, inl refl)
     by_hand _ = (tt, inl refl)
 line_take cell.PassUnit h x before = by_hand h
   where
-    by_hand : (h : Hand) → LineFine x (passed h x)
+    by_hand : (h : Hand) → LineFine x (passes_unit h x)
     by_hand (hand.Unit more body) = (tt, inl refl)
     by_hand _ = (tt, inl refl)
 line_take _ h x before = (tt, inl refl)
@@ -347,7 +347,7 @@ user_takes_grow cell.TellConfirm h u none = by_hand h
     by_hand _ = same_grows u.passed u.got
 user_takes_grow cell.TellDisconnect h u none = by_hand h
   where
-    by_hand : (h : Hand) → UserGrows u (disconnected h u)
+    by_hand : (h : Hand) → UserGrows u (tells_disconnect h u)
     by_hand (hand.Refuse cause called body importance) = same_grows u.passed u.got
     by_hand (hand.End cause body importance) = same_grows u.passed u.got
     by_hand _ = same_grows u.passed u.got
@@ -360,12 +360,12 @@ user_takes_grow cell.TellUnit h u none = by_hand h
     by_hand _ = same_grows u.passed u.got
 user_takes_grow cell.TellExpedited h u none = by_hand h
   where
-    by_hand : (h : Hand) → UserGrows u (hears_expedited h u)
+    by_hand : (h : Hand) → UserGrows u (tells_expedited h u)
     by_hand (hand.Expedited body) = same_grows u.passed u.got
     by_hand _ = same_grows u.passed u.got
 user_takes_grow cell.TellReset h u none = by_hand h
   where
-    by_hand : (h : Hand) → UserGrows u (hears_reset h u)
+    by_hand : (h : Hand) → UserGrows u (tells_reset h u)
     by_hand (hand.Reset cause) = cleared_grows u.passed u.got
     by_hand _ = same_grows u.passed u.got
 user_takes_grow cell.Left h u none = by_hand h none

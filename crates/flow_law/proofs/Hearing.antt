@@ -20,7 +20,7 @@ use Rattle.section_model.specs.Windowed.{windowed_hears, windowed_fires}
 use Rattle.section_model.specs.Acting.{by_windows, by_line, in_windows, section_hears, section_fires}
 use Rattle.section_model.specs.Step.{checked, hears_checked, hears_message, in_touch, is_from_elsewhere, fires_on}
 use Rattle.section_model.specs.Timing.{firing, rearmed}
-use Rattle.flow_law.specs.Kept.{IsKept, AreKept}
+use Rattle.flow_law.specs.InStep.{IsInStep, AreInStep}
 use Rattle.flow_law.proofs.Taking.{at, Settles}
 use Rattle.flow_law.proofs.Flowing.{either, takes_done, takes_unit_of}
 use Rattle.flow_law.proofs.Acting.{Acts, ActsWindowed, ActsLine, acts_alone, acts_then_at, other_first, agreement, resets_as, data_taken, acknowledgement_taken, expedited_taken, answer_taken, ends_as, over_as, refuses_as, refusal_heard, confirmation_heard, failure_heard, test_heard}
@@ -38,17 +38,17 @@ IsOfOtherClass on.Dt1 Up x = x.head.class ≡ 3 → ⊥
 IsOfOtherClass _ s x = Unit {0}
 
 -- the reset is over
-reset_done : (ticks : Ticks) (x : Section) (that : End) → AreKept (wire (at Resetting x)) that → Acts ticks (at Resetting x) that (at Up x, gives_then [] (hand.Done ∷ []))
+reset_done : (ticks : Ticks) (x : Section) (that : End) → AreInStep (wire (at Resetting x)) that → Acts ticks (at Resetting x) that (at Up x, gives_then [] (hand.Done ∷ []))
 reset_done ticks x that k =
     acts_then_at ticks (at Resetting x) (at Up x) that [] hand.Done (λ t. takes_done ticks that (record (at Up x) { timers = t }) k.0 tt (agreement (at Resetting x) that k))
 
 -- whatever its class is, nothing is handed over
-by_class : (ticks : Ticks) (x : Section) (one other : Section × List Output) (that : End) → AreKept (wire one.0) that → AreKept (wire other.0) that
+by_class : (ticks : Ticks) (x : Section) (one other : Section × List Output) (that : End) → AreInStep (wire one.0) that → AreInStep (wire other.0) that
     → Acts ticks x that (if x.head.class == 3 then (one.0, gives one.1) else (other.0, gives other.1))
 by_class ticks x one other that k l =
     either (Acts ticks x that) (x.head.class == 3) _ _ (λ _. acts_alone ticks x one.0 that one.1 k) (λ _. acts_alone ticks x other.0 that other.1 l)
 
-hears_as : (o : Occasion) (s : SectionState) (ticks : Ticks) (point : ℕ) (m : Parameters) (x : Section) (that : End) → AreKept (wire (at s x)) that → IsOfOtherClass o s x → Hears ticks o point m s x that
+hears_as : (o : Occasion) (s : SectionState) (ticks : Ticks) (point : ℕ) (m : Parameters) (x : Section) (that : End) → AreInStep (wire (at s x)) that → IsOfOtherClass o s x → Hears ticks o point m s x that
 unfolding ActsWindowed ActsLine section_row line_hears windowed_hears
 hears_as on.Cc Asking ticks point m x that k q = confirmation_heard ticks point m x that k
 hears_as on.Cc Waning ticks point m x that k q = acts_alone ticks _ _ that _ (over_as Ending (at Waning x) that tt tt k)
@@ -135,16 +135,16 @@ passed_checks on.Dt1 Up m x e = λ three. absurd (subst IsNone (sym (rw three at
 passed_checks on.Dt1 _ m x e = tt
 passed_checks _ s m x e = tt
 
-hears_as_checked : (c : Option Output) (o : Occasion) (s : SectionState) (ticks : Ticks) (point : ℕ) (m : Parameters) (x : Section) (that : End) → AreKept (wire (at s x)) that
+hears_as_checked : (c : Option Output) (o : Occasion) (s : SectionState) (ticks : Ticks) (point : ℕ) (m : Parameters) (x : Section) (that : End) → AreInStep (wire (at s x)) that
     → checked o m (at s x).head ≡ c → Settles ticks that (hears_checked ticks o point m (at s x) c)
 unfolding Acts section_hears
 hears_as_checked (Some out) o s ticks point m x that k e = acts_alone ticks (at s x) (at s x) that (out ∷ []) k
 hears_as_checked None o s ticks point m x that k e = hears_as o s ticks point m x that k (passed_checks o s m x e)
 
-pub hears_kept : (ticks : Ticks) (o : Occasion) (point : ℕ) (m : Parameters) (x : Section) (that : End) → AreKept (wire x) that → IsKept (hears_message ticks o point m x that).0
+pub hears_kept : (ticks : Ticks) (o : Occasion) (point : ℕ) (m : Parameters) (x : Section) (that : End) → AreInStep (wire x) that → IsInStep (hears_message ticks o point m x that).0
 unfolding hears_message Settles
 hears_kept ticks o point m x that k =
-    either (λ (r : Connection × List Output). IsKept r.0) (is_from_elsewhere point x.head) _ _ (λ _. k)
+    either (λ (r : Connection × List Output). IsInStep r.0) (is_from_elsewhere point x.head) _ _ (λ _. k)
     (λ _. hears_as_checked (checked o m x.head) o x.head.state ticks point m (in_touch ticks x) that k refl)
 
 -- The timers.
@@ -155,7 +155,7 @@ fired c x = if in_windows c x then by_windows windowed_fires x else by_line (lin
 abbrev Fires : Ticks → Timer → SectionState → Section → End → Type 0
 Fires ticks timer s x that = Acts ticks (at s x) that (fired (section_cell s (firing timer)) (at s x))
 
-fires_as : (t : Timer) (s : SectionState) (ticks : Ticks) (x : Section) (that : End) → AreKept (wire (at s x)) that → Fires ticks t s x that
+fires_as : (t : Timer) (s : SectionState) (ticks : Ticks) (x : Section) (that : End) → AreInStep (wire (at s x)) that → Fires ticks t s x that
 unfolding section_row line_fires windowed_fires
 fires_as timer.Connect Asking ticks x that k =
     refuses_as ticks 0x0C None None None (at Asking x) (at Gone x) that [] k.0 tt (agreement (at Asking x) that k)
@@ -176,6 +176,6 @@ fires_as timer.Int _ ticks x that k = acts_alone ticks _ _ that _ k
 fires_as timer.Repeat Asked ticks x that k = acts_alone ticks _ _ that _ k
 fires_as timer.Repeat _ ticks x that k = acts_alone ticks _ _ that _ k
 
-pub fires_kept : (ticks : Ticks) (timer : Timer) (x : Section) (that : End) → AreKept (wire x) that → IsKept (fires_on ticks timer x that).0
+pub fires_kept : (ticks : Ticks) (timer : Timer) (x : Section) (that : End) → AreInStep (wire x) that → IsInStep (fires_on ticks timer x that).0
 unfolding Acts Settles section_fires
 fires_kept ticks timer x that k = fires_as timer x.head.state ticks (record x { timers = rearmed ticks timer x.timers }) that k

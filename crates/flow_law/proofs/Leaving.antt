@@ -12,9 +12,9 @@ use Rattle.section_model.specs.declared.cell.SectionState.{SectionState}
 use Rattle.section_model.specs.declared.cell.SectionState.TheVariants.{Up}
 use Rattle.section_model.specs.Step.{on_windows, on_each, after_event}
 use Rattle.section_model.specs.Windowed.{Windowed, leaves, acknowledges, may_leave}
-use Rattle.flow_law.specs.Kept.{connected, Meets, stage_at, section_stage, IsKept, AreKept, FlowsWith, passed_at, got_at}
+use Rattle.flow_law.specs.InStep.{connected, Meets, stage_at, section_stage, IsInStep, AreInStep, FlowsWith, passed_at, got_at}
 use Rattle.flow_law.proofs.Ends.{awaited_back, kept_back}
-use Rattle.flow_law.proofs.Taking.{Takes, Settles}
+use Rattle.flow_law.proofs.Taking.{TakesInStep, Settles}
 use Rattle.flow_law.proofs.Flowing.{left_passed, either, takes_left, open_other}
 use Rattle.flow_law.proofs.Acting.{Acts, ActsWindowed, acts_alone, acts_then_at, other_first}
 
@@ -62,7 +62,7 @@ left_flows x passed got f =
     )
 
 acts_by_test : (b : Bool) (ticks : Ticks) (x x' : Section) (that : End) (outs : List Output) (h : Hand)
-    → (b ≡ true → (t : Timers) → Takes 1 ticks h that (wire (record x' { timers = t }))) → (b ≡ false → AreKept (wire x') that)
+    → (b ≡ true → (t : Timers) → TakesInStep 1 ticks h that (wire (record x' { timers = t }))) → (b ≡ false → AreInStep (wire x') that)
     → Acts ticks x that (x', gives_then outs (if b then h ∷ [] else []))
 acts_by_test true ticks x x' that outs h f g = acts_then_at ticks x x' that outs h (f refl)
 acts_by_test false ticks x x' that outs h f g = acts_alone ticks x x' that outs (g refl)
@@ -70,7 +70,7 @@ acts_by_test false ticks x x' that outs h f g = acts_alone ticks x x' that outs 
 no_more : (b c : Bool) (count : ℕ) → (b || nat_lt 0 count) ≡ false → (passed : ℕ) → passed ≡ passed + count
 no_more b c count e passed = let f : count ≤ 0 = ltb-false 0 count (or_parts b (nat_lt 0 count) e).1 in omega (arith, f)
 
-pub leaves_kept : (ticks : Ticks) (x : Section) (that : End) → Meets connected (section_stage x.head.state) → AreKept (wire x) that → ActsWindowed ticks x that (leaves (record { head = x.head; windows = x.windows }))
+pub leaves_kept : (ticks : Ticks) (x : Section) (that : End) → Meets connected (section_stage x.head.state) → AreInStep (wire x) that → ActsWindowed ticks x that (leaves (record { head = x.head; windows = x.windows }))
 unfolding ActsWindowed leaves
 leaves_kept ticks x that o k =
     let w = x.windows in
@@ -101,7 +101,7 @@ leaves_kept ticks x that o k =
       ),
     ))
 
-acknowledges_kept : (ticks : Ticks) (x : Section) (that : End) → AreKept (wire x) that → ActsWindowed ticks x that (acknowledges (record { head = x.head; windows = x.windows }))
+acknowledges_kept : (ticks : Ticks) (x : Section) (that : End) → AreInStep (wire x) that → ActsWindowed ticks x that (acknowledges (record { head = x.head; windows = x.windows }))
 unfolding ActsWindowed acknowledges
 acknowledges_kept ticks x that k =
     either (ActsWindowed ticks x that) (x.windows.passed == x.windows.told) _ _ (λ _. acts_alone ticks x x that [] k)
@@ -114,23 +114,23 @@ up_open : (s : SectionState) → is_up s ≡ true → Meets connected (section_s
 up_open Up e = tt
 up_open _ e = absurd (false≢true e)
 
-pub on_windows_kept : (ticks : Ticks) (act : Windowed → Windowed × Acted) → ((x : Section) (that : End) → Meets connected (section_stage x.head.state) → AreKept (wire x) that → ActsWindowed ticks x that (act (record { head = x.head; windows = x.windows })))
-    → (this that : End) → AreKept this that → IsKept (on_windows ticks act this that).0
+pub on_windows_kept : (ticks : Ticks) (act : Windowed → Windowed × Acted) → ((x : Section) (that : End) → Meets connected (section_stage x.head.state) → AreInStep (wire x) that → ActsWindowed ticks x that (act (record { head = x.head; windows = x.windows })))
+    → (this that : End) → AreInStep this that → IsInStep (on_windows ticks act this that).0
 unfolding ActsWindowed Acts Settles
 on_windows_kept ticks act keeps (owner u) that k = k
 on_windows_kept ticks act keeps (wire x) that k =
-    either (λ (r : Connection × List Output). IsKept r.0) (is_up x.head.state && x.head.class == 3) _ _
+    either (λ (r : Connection × List Output). IsInStep r.0) (is_up x.head.state && x.head.class == 3) _ _
     (λ e. keeps x that (up_open x.head.state (and_parts (is_up x.head.state) (x.head.class == 3) e).0) k) (λ _. k)
 
 -- a part of a step on one end, and then on the other
-on_each_kept : (part : End → End → Connection × List Output) → ((this that : End) → AreKept this that → IsKept (part this that).0)
-    → (r : Connection × List Output) → IsKept r.0 → IsKept (on_each part r).0
+on_each_kept : (part : End → End → Connection × List Output) → ((this that : End) → AreInStep this that → IsInStep (part this that).0)
+    → (r : Connection × List Output) → IsInStep r.0 → IsInStep (on_each part r).0
 on_each_kept part keeps r k =
     let one = (part r.0.this r.0.that).0 in
-    let k' : IsKept one = keeps r.0.this r.0.that k in
+    let k' : IsInStep one = keeps r.0.this r.0.that k in
     kept_back (part one.that one.this).0 (keeps one.that one.this (kept_back one k'))
 
-pub after_event_kept : (ticks : Ticks) (r : Connection × List Output) → IsKept r.0 → IsKept (after_event ticks r).0
+pub after_event_kept : (ticks : Ticks) (r : Connection × List Output) → IsInStep r.0 → IsInStep (after_event ticks r).0
 unfolding after_event
 after_event_kept ticks r k =
     on_each_kept (on_windows ticks acknowledges) (on_windows_kept ticks acknowledges (λ x that o. acknowledges_kept ticks x that)) (on_each (on_windows ticks leaves) r)

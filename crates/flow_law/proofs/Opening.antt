@@ -16,7 +16,7 @@ use Rattle.section_model.specs.Parameters.{class_in}
 use Rattle.section_model.specs.declared.cell.UserState.TheVariants as user
 use Rattle.section_model.specs.Ends.{Connection}
 use Rattle.section_model.specs.Opening.{Wanted, Wish, by_cr, by_user, no_wish, wish_of_message, wish_of_reading, may_be_wanted, wish_of_request, wish_of, offered, fits, asked_section, asking_section, new_user, opened_by_cr, opened_by_user, opened, Opened}
-use Rattle.flow_law.specs.Kept.{IsKept, AreKept, passed_at}
+use Rattle.flow_law.specs.InStep.{IsInStep, AreInStep, passed_at}
 use Rattle.flow_law.specs.FlowLaw.{OpeningKeeps}
 use Rattle.flow_law.proofs.Flowing.{either}
 use Rattle.flow_law.proofs.Acting.{cleared_flows}
@@ -55,38 +55,38 @@ wish_fits terms Tick fits = tt
 
 -- What is opened, if anything is.
 
-Keeps : Option Connection → Type 0
-Keeps None = Unit {0}
-Keeps (Some c) = IsKept c × (passed_at c.this ≡ 0) × (passed_at c.that ≡ 0)
+OpensInStep : Option Connection → Type 0
+OpensInStep None = Unit {0}
+OpensInStep (Some c) = IsInStep c × (passed_at c.this ≡ 0) × (passed_at c.that ≡ 0)
 
-to_user : (terms : Terms) (w : Wanted) (ssn mine : ℕ) → w.credit ≤ 127 → AreKept (asked_section terms mine w) (new_user user.Offered ssn mine w)
+to_user : (terms : Terms) (w : Wanted) (ssn mine : ℕ) → w.credit ≤ 127 → AreInStep (asked_section terms mine w) (new_user user.Offered ssn mine w)
 to_user terms w ssn mine fits = (tt, refl, (fits, fits), (tt, (refl, refl)), λ three. (tt, cleared_flows w.credit fits, tt))
 
-onward_to : (terms : Terms) (w : Wanted) (point mine next : ℕ) → w.credit ≤ 127 → AreKept (asked_section terms mine w) (asking_section terms point next w)
+onward_to : (terms : Terms) (w : Wanted) (point mine next : ℕ) → w.credit ≤ 127 → AreInStep (asked_section terms mine w) (asking_section terms point next w)
 onward_to terms w point mine next fits = (tt, refl, (fits, fits), (tt, tt), λ three. (tt, cleared_flows w.credit fits, cleared_flows w.credit fits))
 
-from_user : (terms : Terms) (w : Wanted) (ssn point mine : ℕ) → w.credit ≤ 127 → AreKept (new_user user.Calling ssn mine w) (asking_section terms point mine w)
+from_user : (terms : Terms) (w : Wanted) (ssn point mine : ℕ) → w.credit ≤ 127 → AreInStep (new_user user.Calling ssn mine w) (asking_section terms point mine w)
 from_user terms w ssn point mine fits = (tt, refl, (fits, fits), ((refl, refl), tt), λ three. (tt, tt, cleared_flows w.credit fits))
 
-by_cr_kept : (terms : Terms) (w : Wanted) (answer : Answer) (references : List ℕ) → w.credit ≤ 127 → Keeps (opened_by_cr terms w answer references).connection
-unfolding opened_by_cr Keeps
+by_cr_kept : (terms : Terms) (w : Wanted) (answer : Answer) (references : List ℕ) → w.credit ≤ 127 → OpensInStep (opened_by_cr terms w answer references).connection
+unfolding opened_by_cr OpensInStep
 by_cr_kept terms w (Refused cause local) references fit = tt
 by_cr_kept terms w (Local ssn) [] fit = tt
 by_cr_kept terms w (Local ssn) (mine ∷ references) fit = (to_user terms w ssn mine fit, refl, refl)
 by_cr_kept terms w (Forward point rewrite hop) [] fit = tt
 by_cr_kept terms w (Forward point rewrite hop) (mine ∷ []) fit = tt
 by_cr_kept terms w (Forward point rewrite hop) (mine ∷ next ∷ references) fit =
-    either (λ (o : Opened). Keeps o.connection) (fits w rewrite hop) _ _ (λ _. (onward_to terms w point mine next fit, refl, refl)) (λ _. tt)
+    either (λ (o : Opened). OpensInStep o.connection) (fits w rewrite hop) _ _ (λ _. (onward_to terms w point mine next fit, refl, refl)) (λ _. tt)
 
-by_user_kept : (terms : Terms) (ssn tag : ℕ) (w : Wanted) (answer : Answer) (references : List ℕ) → w.credit ≤ 127 → Keeps (opened_by_user terms ssn tag w answer references).connection
-unfolding opened_by_user Keeps
+by_user_kept : (terms : Terms) (ssn tag : ℕ) (w : Wanted) (answer : Answer) (references : List ℕ) → w.credit ≤ 127 → OpensInStep (opened_by_user terms ssn tag w answer references).connection
+unfolding opened_by_user OpensInStep
 by_user_kept terms ssn tag w (Refused cause local) references fit = tt
 by_user_kept terms ssn tag w (Local other) references fit = tt
 by_user_kept terms ssn tag w (Forward point rewrite hop) [] fit = tt
 by_user_kept terms ssn tag w (Forward point rewrite hop) (mine ∷ references) fit = (from_user terms w ssn point mine fit, refl, refl)
 
-opened_kept : (terms : Terms) (wish : Wish) (answer : Option Answer) (references : List ℕ) → CreditFits wish → Keeps (opened terms wish answer references).connection
-unfolding opened CreditFits Keeps
+opened_kept : (terms : Terms) (wish : Wish) (answer : Option Answer) (references : List ℕ) → CreditFits wish → OpensInStep (opened terms wish answer references).connection
+unfolding opened CreditFits OpensInStep
 opened_kept terms (by_cr w) (Some answer) references fit = by_cr_kept terms w answer references fit
 opened_kept terms (by_cr w) None references fit = tt
 opened_kept terms (by_user ssn tag w) (Some answer) references fit = by_user_kept terms ssn tag w answer references fit
@@ -97,9 +97,9 @@ pub opening_begins :
     (terms : Terms) (event : Event) (answer : Option Answer) (references : List ℕ) (c : Connection)
     → terms.credit ≤ 127
     → (opened terms (wish_of terms event) answer references).connection ≡ Some c
-    → IsKept c × (passed_at c.this ≡ 0) × (passed_at c.that ≡ 0)
-unfolding Keeps
-opening_begins terms event answer references c fits e = subst Keeps e (opened_kept terms (wish_of terms event) answer references (wish_fits terms event fits))
+    → IsInStep c × (passed_at c.this ≡ 0) × (passed_at c.that ≡ 0)
+unfolding OpensInStep
+opening_begins terms event answer references c fits e = subst OpensInStep e (opened_kept terms (wish_of terms event) answer references (wish_fits terms event fits))
 
 pub opening_keeps : OpeningKeeps
 opening_keeps terms event answer references c fits e = (opening_begins terms event answer references c fits e).0

@@ -14,8 +14,8 @@ use Rattle.section_model.specs.UserEnd.{user_takes}
 use Rattle.section_model.specs.Acting.{timed, by_windows, section_takes, end_takes}
 use Rattle.section_model.specs.Coupling.{exchange, settles}
 use Rattle.section_model.specs.Step.{hears, event_step, connection_step, on_windows, after_event}
-use Rattle.flow_law.specs.Kept.{IsKept, AreKept, passed_at, got_at, class_at}
-use Rattle.flow_law.specs.Sent.{Sent, leaving_count, leaving, since_cleared, sent_next, sent_along, AreSentInOrder, OrderLaw}
+use Rattle.flow_law.specs.InStep.{IsInStep, AreInStep, passed_at, got_at, class_at}
+use Rattle.flow_law.specs.SentUnits.{SentUnits, leaving_count, leaving, since_cleared, sent_next, sent_along, AreSentInOrder, OrderLaw}
 use Rattle.section_model.specs.Lane.{next, heard, follow}
 use Rattle.flow_law.proofs.Opening.{opening_begins}
 use Rattle.flow_law.proofs.Step.{event_kept, step_keeps}
@@ -49,7 +49,7 @@ went_on passed passed' got got' before within e (goes_on more p g) = inl (rw (p,
 abbrev pub HasSent : List DataUnit → End → End → Type 0
 HasSent units e other = IsSection e → class_at e ≡ 3 → units ≡ take (passed_at other) (got_at other)
 
-event_sends : (before : List DataUnit) (e other e' other' : End) → AreKept e other → AreKept e' other' → HasSent before e other → StaysAs e e' → (IsSection e → GrowsAt other other')
+event_sends : (before : List DataUnit) (e other e' other' : End) → AreInStep e other → AreInStep e' other' → HasSent before e other → StaysAs e e' → (IsSection e → GrowsAt other other')
     → HasSent (since_cleared e' before) e' other'
 event_sends before (wire x) other (wire y) other' k l sent stays grows = λ s three. by_counts three stays
   where
@@ -159,7 +159,7 @@ more_sent : (units waits : List DataUnit) (passed count passed' : ℕ) (got got'
     → units ++ take count waits ≡ take passed' got'
 more_sent units waits passed count passed' got got' e w p g = rw (e, w, p, g) (sym (take-add passed count got))
 
-leaving_sends : (units : List DataUnit) (e other e' other' : End) → AreKept e other → AreKept e' other' → HasSent units e other → Stays (leaving_count e) e e' → got_at other' ≡ got_at other
+leaving_sends : (units : List DataUnit) (e other e' other' : End) → AreInStep e other → AreInStep e' other' → HasSent units e other → Stays (leaving_count e) e e' → got_at other' ≡ got_at other
     → HasSent (units ++ leaving e) e' other'
 leaving_sends units (wire x) other (wire y) other' k l sent stays got = λ s three.
     let three' : x.head.class ≡ 3 = sym stays.class ∙ three in
@@ -174,7 +174,7 @@ leaving_sends units (owner u) other (wire y) other' k l sent stays got = λ s. a
 leaving_sends units e other (owner v) other' k l sent stays got = λ s. absurd s
 
 -- what was sent before units left on the other end
-moved_sends : (before : List DataUnit) (e other e' other' : End) → AreKept e other → AreKept e' other' → Stays 0 e e' → got_at other' ≡ got_at other → HasSent (since_cleared e before) e other
+moved_sends : (before : List DataUnit) (e other e' other' : End) → AreInStep e other → AreInStep e' other' → Stays 0 e e' → got_at other' ≡ got_at other → HasSent (since_cleared e before) e other
     → HasSent (since_cleared e' before) e' other'
 moved_sends before (wire x) other (wire y) other' k l stays got sent = λ s three.
     let three' : x.head.class ≡ 3 = sym stays.class ∙ three in
@@ -186,18 +186,18 @@ moved_sends before e other (owner v) other' k l stays got sent = λ s. absurd s
 
 -- One step, and many.
 
-abbrev SentOf : Sent → Connection → Type 0
+abbrev SentOf : SentUnits → Connection → Type 0
 SentOf sent c = HasSent sent.this c.this c.that × HasSent sent.that c.that c.this
 
-step_sends : (ticks : Ticks) (c : Connection) (event : Event) (sent : Sent) → IsKept c → SentOf sent c → SentOf (sent_next ticks c event sent) (next ticks c event)
+step_sends : (ticks : Ticks) (c : Connection) (event : Event) (sent : SentUnits) → IsInStep c → SentOf sent c → SentOf (sent_next ticks c event sent) (next ticks c event)
 unfolding connection_step
 step_sends ticks c event sent k has =
     let acted = (event_step ticks c event).0 in
     let left = this_left ticks acted in
     let done = next ticks c event in
-    let acted_kept : IsKept acted = event_kept ticks event c k in
-    let left_kept : IsKept left = on_windows_kept ticks leaves (leaves_kept ticks) acted.this acted.that acted_kept in
-    let done_kept : IsKept done = step_keeps ticks c event k in
+    let acted_kept : IsInStep acted = event_kept ticks event c k in
+    let left_kept : IsInStep left = on_windows_kept ticks leaves (leaves_kept ticks) acted.this acted.that acted_kept in
+    let done_kept : IsInStep done = step_keeps ticks c event k in
     let goes : Goes c acted = event_goes ticks c event in
     let first = leaves_stay ticks acted.this acted.that in
     let rest = after_event_stays ticks (event_step ticks c event) in
@@ -211,22 +211,22 @@ step_sends ticks c event sent k has =
           rest.1 rest.0.got,
     )
 
-follow_sends : (ticks : Ticks) (c : Connection) (events : List Event) (sent : Sent) → IsKept c → SentOf sent c
-    → IsKept (follow ticks c (heard ticks c events)) × SentOf (sent_along ticks c (heard ticks c events) sent) (follow ticks c (heard ticks c events))
+follow_sends : (ticks : Ticks) (c : Connection) (events : List Event) (sent : SentUnits) → IsInStep c → SentOf sent c
+    → IsInStep (follow ticks c (heard ticks c events)) × SentOf (sent_along ticks c (heard ticks c events) sent) (follow ticks c (heard ticks c events))
 unfolding heard follow sent_along
 follow_sends ticks c [] sent k has = (k, has)
 follow_sends ticks c (event ∷ events) sent k has =
     by_test (hears c event) (follow_sends ticks (next ticks c event) events (sent_next ticks c event sent) (step_keeps ticks c event k) (step_sends ticks c event sent k has)) (follow_sends ticks c events sent k has)
   where
     Follows : List Event → Type 0
-    Follows heard_events = IsKept (follow ticks c heard_events) × SentOf (sent_along ticks c heard_events sent) (follow ticks c heard_events)
+    Follows heard_events = IsInStep (follow ticks c heard_events) × SentOf (sent_along ticks c heard_events sent) (follow ticks c heard_events)
 
     by_test : (b : Bool) → Follows (event ∷ heard ticks (next ticks c event) events) → Follows (heard ticks c events)
         → Follows (elim b [ true ↦ event ∷ heard ticks (next ticks c event) events | false ↦ heard ticks c events ])
     by_test true f g = f
     by_test false f g = g
 
-in_order : (units : List DataUnit) (e other : End) → AreKept e other → HasSent units e other → AreSentInOrder units e other
+in_order : (units : List DataUnit) (e other : End) → AreInStep e other → HasSent units e other → AreSentInOrder units e other
 in_order units (wire x) other k has = λ three.
     let f = (k.4 three).1 in
     let e = has tt three in
@@ -240,7 +240,7 @@ pub order_law : OrderLaw
 order_law terms event answer references c events fits e =
     let o = opening_begins terms event answer references c fits e in
     let hears = heard terms.ticks c events in
-    let nothing : Sent = record { this = []; that = [] } in
+    let nothing : SentUnits = record { this = []; that = [] } in
     let f = follow_sends terms.ticks c events nothing o.0
     (λ s three. nothing_sent (passed_at c.that) (got_at c.that) o.2, λ s three. nothing_sent (passed_at c.this) (got_at c.this) o.1) in
     let done = follow terms.ticks c hears in

@@ -11,7 +11,7 @@ use Rattle.relay_base.specs.declared.words.Lost.TheVariants as lost
 use Rattle.section_model.specs.Parameters.{Parameters}
 use Rattle.section_model.specs.Ends.{wire, SectionHead, Section, no_effect, gives, is_up}
 use Rattle.section_model.specs.Windowed.{Windowed, windowed_hears, windowed_takes, numbered, may_leave, leaves}
-use Rattle.flow_law.specs.Sent.{leaving}
+use Rattle.flow_law.specs.SentUnits.{leaving}
 use Rattle.flow_law.proofs.Flowing.{either}
 use Rattle.section_model.specs.declared.hand.Acted.{Acted}
 use Rattle.flow_law.specs.FlowLaw.{windowed, expedited_leaving, SendingLaw}

@@ -16,7 +16,7 @@ use Rattle.section_model.specs.Line.{line_takes}
 use Rattle.section_model.specs.UserEnd.{user_takes}
 use Rattle.section_model.specs.Acting.{section_takes, end_takes}
 use Rattle.section_model.specs.Coupling.{exchange, settles}
-use Rattle.flow_law.specs.Kept.{Stage, asked, asking, connected, over, Meets, stage_at, section_stage, user_stage, IsKept, AreKept, IsAwaited, ResetIsAwaited, class_at, credit_at, IsFresh, Flows, FlowsWith, passed_at, got_at, InCredit, InWindow, PassesOn}
+use Rattle.flow_law.specs.InStep.{Stage, asked, asking, connected, over, Meets, stage_at, section_stage, user_stage, IsInStep, AreInStep, IsAwaited, ResetIsAwaited, class_at, credit_at, IsFresh, Flows, FlowsWith, passed_at, got_at, InCredit, InWindow, PassesOn}
 use Rattle.flow_law.proofs.Ends.{kept_back}
 
 -- a section, and a user, in a state
@@ -28,19 +28,19 @@ user_at s u = record u { state = s }
 
 -- what an act ends in
 unfoldable pub Settles : Ticks → End → End × Acted → Type 0
-Settles ticks that acting = IsKept (settles ticks acting that).0
+Settles ticks that acting = IsInStep (settles ticks acting that).0
 
 -- an act of which nothing is handed on
-pub alone : (ticks : Ticks) (e that : End) (outs : List Output) → AreKept e that → Settles ticks that (e, gives outs)
+pub alone : (ticks : Ticks) (e that : End) (outs : List Output) → AreInStep e that → Settles ticks that (e, gives outs)
 unfolding Settles exchange
 alone ticks e that outs k = k
 
 -- an act of which one thing is handed on
-unfoldable pub Takes : ℕ → Ticks → Hand → End → End → Type 0
-Takes n ticks h taker giver = IsKept (exchange (suc n) ticks (end_takes ticks h taker) giver).0
+unfoldable pub TakesInStep : ℕ → Ticks → Hand → End → End → Type 0
+TakesInStep n ticks h taker giver = IsInStep (exchange (suc n) ticks (end_takes ticks h taker) giver).0
 
-pub handed_on : (ticks : Ticks) (e that : End) (outs : List Output) (h : Hand) → Takes 1 ticks h that e → Settles ticks that (e, gives_then outs (h ∷ []))
-unfolding Settles Takes exchange
+pub handed_on : (ticks : Ticks) (e that : End) (outs : List Output) (h : Hand) → TakesInStep 1 ticks h that e → Settles ticks that (e, gives_then outs (h ∷ []))
+unfolding Settles TakesInStep exchange
 handed_on ticks e that outs h k = kept_back (exchange 2 ticks (end_takes ticks h that) e).0 k
 
 -- what holds of two ends but for their stages
@@ -99,8 +99,8 @@ NotRenewing (wire x) = Unit {0}
 NotRenewing (owner u) = IsAwaited Up u.state
 
 section_takes_end : (n : ℕ) (ticks : Ticks) (cause : ℕ) (body : Option (List ℕ)) (importance : Option ℕ) (s : SectionState) (y : Section) (giver : End)
-    → MayEnd (wire (at s y)) → Meets over (stage_at giver) → Agree (wire y) giver → Takes n ticks (hand.End cause body importance) (wire (at s y)) giver
-unfolding Takes exchange section_takes line_takes section_row
+    → MayEnd (wire (at s y)) → Meets over (stage_at giver) → Agree (wire y) giver → TakesInStep n ticks (hand.End cause body importance) (wire (at s y)) giver
+unfolding TakesInStep exchange section_takes line_takes section_row
 section_takes_end n ticks cause body importance Asked y giver may m k = absurd may
 section_takes_end n ticks cause body importance Asking y giver may m k = (m, k.0, k.1, k.2, λ three. (waning_awaited y giver, (k.3 three).0, (k.3 three).1))
 section_takes_end n ticks cause body importance Waning y giver may m k = (m, k.0, k.1, k.2, λ three. (waning_awaited y giver, (k.3 three).0, (k.3 three).1))
@@ -112,15 +112,15 @@ section_takes_end n ticks cause body importance Gone y giver may m k = (m, k.0, 
 user_takes_end : (n : ℕ) (ticks : Ticks) (cause : ℕ) (body : Option (List ℕ)) (importance : Option ℕ) (s : UserState) (u : User) (giver : End)
     → Meets over (stage_at giver) → (class_at (owner u) ≡ class_at giver)
     → ((credit_at (owner u) ≤ 127) × (credit_at giver ≤ 127)) → IsFresh giver → (class_at (owner u) ≡ 3 → Flows giver (owner u))
-    → Takes n ticks (hand.End cause body importance) (owner (user_at s u)) giver
-unfolding Takes exchange user_takes user_row
+    → TakesInStep n ticks (hand.End cause body importance) (owner (user_at s u)) giver
+unfolding TakesInStep exchange user_takes user_row
 user_takes_end n ticks cause body importance user.Gone u giver m c fits fresh flows =
     (m, c, fits, (tt, fresh), λ three. (gone_user_awaited u giver, tt, flows three))
 user_takes_end n ticks cause body importance _ u giver m c fits fresh flows =
     (m, c, fits, (tt, fresh), λ three. (gone_user_awaited u giver, tt, flows three))
 
 pub takes_end : (n : ℕ) (ticks : Ticks) (cause : ℕ) (body : Option (List ℕ)) (importance : Option ℕ) (taker giver : End)
-    → MayEnd taker → Meets over (stage_at giver) → Agree taker giver → Takes n ticks (hand.End cause body importance) taker giver
+    → MayEnd taker → Meets over (stage_at giver) → Agree taker giver → TakesInStep n ticks (hand.End cause body importance) taker giver
 takes_end n ticks cause body importance (wire y) giver may m k = section_takes_end n ticks cause body importance y.head.state y giver may m k
 takes_end n ticks cause body importance (owner u) giver may m k =
     user_takes_end n ticks cause body importance u.state u giver m k.0 k.1 k.2.1 (λ three. (k.3 three).1)
@@ -128,23 +128,23 @@ takes_end n ticks cause body importance (owner u) giver may m k =
 -- The refusal.
 
 section_takes_refusal : (n : ℕ) (ticks : Ticks) (cause : ℕ) (called body : Option (List ℕ)) (importance : Option ℕ) (s : SectionState) (y : Section) (giver : End)
-    → Meets asking (section_stage s) → Meets over (stage_at giver) → Agree (wire y) giver → Takes n ticks (hand.Refuse cause called body importance) (wire (at s y)) giver
-unfolding Takes exchange section_takes line_takes section_row
+    → Meets asking (section_stage s) → Meets over (stage_at giver) → Agree (wire y) giver → TakesInStep n ticks (hand.Refuse cause called body importance) (wire (at s y)) giver
+unfolding TakesInStep exchange section_takes line_takes section_row
 section_takes_refusal n ticks cause called body importance Asked y giver may m k = (m, k.0, k.1, k.2, λ three. (gone_awaited y giver, (k.3 three).0, (k.3 three).1))
 section_takes_refusal n ticks cause called body importance _ y giver may m k = absurd may
 
 user_takes_refusal : (n : ℕ) (ticks : Ticks) (cause : ℕ) (called body : Option (List ℕ)) (importance : Option ℕ) (s : UserState) (u : User) (giver : End)
     → Meets over (stage_at giver) → (class_at (owner u) ≡ class_at giver)
     → ((credit_at (owner u) ≤ 127) × (credit_at giver ≤ 127)) → IsFresh giver → (class_at (owner u) ≡ 3 → Flows giver (owner u))
-    → Takes n ticks (hand.Refuse cause called body importance) (owner (user_at s u)) giver
-unfolding Takes exchange user_takes user_row
+    → TakesInStep n ticks (hand.Refuse cause called body importance) (owner (user_at s u)) giver
+unfolding TakesInStep exchange user_takes user_row
 user_takes_refusal n ticks cause called body importance user.Gone u giver m c fits fresh flows =
     (m, c, fits, (tt, fresh), λ three. (gone_user_awaited u giver, tt, flows three))
 user_takes_refusal n ticks cause called body importance _ u giver m c fits fresh flows =
     (m, c, fits, (tt, fresh), λ three. (gone_user_awaited u giver, tt, flows three))
 
 pub takes_refusal : (n : ℕ) (ticks : Ticks) (cause : ℕ) (called body : Option (List ℕ)) (importance : Option ℕ) (taker giver : End)
-    → Meets asking (stage_at taker) → Meets over (stage_at giver) → Agree taker giver → Takes n ticks (hand.Refuse cause called body importance) taker giver
+    → Meets asking (stage_at taker) → Meets over (stage_at giver) → Agree taker giver → TakesInStep n ticks (hand.Refuse cause called body importance) taker giver
 takes_refusal n ticks cause called body importance (wire y) giver may m k = section_takes_refusal n ticks cause called body importance y.head.state y giver may m k
 takes_refusal n ticks cause called body importance (owner u) giver may m k =
     user_takes_refusal n ticks cause called body importance u.state u giver m k.0 k.1 k.2.1 (λ three. (k.3 three).1)
@@ -172,8 +172,8 @@ up_awaited y (owner u) r = by_state u.state r
 
 section_takes_acceptance : (n : ℕ) (ticks : Ticks) (class credit : ℕ) (called body : Option (List ℕ)) (importance : Option ℕ) (s : SectionState) (y : Section) (giver : End)
     → Meets asking (section_stage s) → Accepted class credit giver → NotRenewing giver
-    → Takes n ticks (hand.Accept class credit called body importance) (wire (at s y)) giver
-unfolding Takes exchange section_takes line_takes section_row
+    → TakesInStep n ticks (hand.Accept class credit called body importance) (wire (at s y)) giver
+unfolding TakesInStep exchange section_takes line_takes section_row
 section_takes_acceptance n ticks class credit called body importance Asked y giver may k r =
     let c = cleared_in credit k.2 in
     (k.0, k.1, (k.2, k.3), (tt, k.4), λ three. (up_awaited y giver r, (c.0, c.1, nothing_passed credit (passed_at giver) (got_at giver) k.5 k.6), k.7))
@@ -184,15 +184,15 @@ with_nothing giver passed got p g f = rw (p, g) f
 
 user_takes_acceptance : (n : ℕ) (ticks : Ticks) (class credit : ℕ) (called body : Option (List ℕ)) (importance : Option ℕ) (s : UserState) (u : User) (giver : End)
     → Meets asking (user_stage s) → IsFresh (owner (user_at s u)) → Accepted class credit giver
-    → Takes n ticks (hand.Accept class credit called body importance) (owner (user_at s u)) giver
-unfolding Takes exchange user_takes user_row
+    → TakesInStep n ticks (hand.Accept class credit called body importance) (owner (user_at s u)) giver
+unfolding TakesInStep exchange user_takes user_row
 user_takes_acceptance n ticks class credit called body importance user.Calling u giver may fresh k =
     (k.0, k.1, (k.2, k.3), (tt, k.4), λ three. (ready_awaited u giver, tt, with_nothing giver u.passed u.got fresh.1 fresh.0 k.7))
 user_takes_acceptance n ticks class credit called body importance _ u giver may fresh k = absurd may
 
 pub takes_acceptance : (n : ℕ) (ticks : Ticks) (class credit : ℕ) (called body : Option (List ℕ)) (importance : Option ℕ) (taker giver : End)
     → Meets asking (stage_at taker) → IsFresh taker → Accepted class credit giver → NotRenewing giver
-    → Takes n ticks (hand.Accept class credit called body importance) taker giver
+    → TakesInStep n ticks (hand.Accept class credit called body importance) taker giver
 takes_acceptance n ticks class credit called body importance (wire y) giver may fresh k r =
     section_takes_acceptance n ticks class credit called body importance y.head.state y giver may k r
 takes_acceptance n ticks class credit called body importance (owner u) giver may fresh k r =
@@ -200,14 +200,14 @@ takes_acceptance n ticks class credit called body importance (owner u) giver may
 
 -- The end of a reset.
 
-pub section_takes_done : (n : ℕ) (ticks : Ticks) (s : SectionState) (y x : Section) → AreKept (wire (at s y)) (wire x) → Takes n ticks hand.Done (wire (at s y)) (wire x)
-unfolding Takes exchange section_takes line_takes section_row
+pub section_takes_done : (n : ℕ) (ticks : Ticks) (s : SectionState) (y x : Section) → AreInStep (wire (at s y)) (wire x) → TakesInStep n ticks hand.Done (wire (at s y)) (wire x)
+unfolding TakesInStep exchange section_takes line_takes section_row
 section_takes_done n ticks Asked y x k = k
 section_takes_done n ticks _ y x k = k
 
 pub user_takes_done : (n : ℕ) (ticks : Ticks) (s : UserState) (u : User) (x : Section) → Meets connected (user_stage s) → Meets connected (section_stage x.head.state) → Agree (owner u) (wire x)
-    → Takes n ticks hand.Done (owner (user_at s u)) (wire x)
-unfolding Takes exchange user_takes user_row
+    → TakesInStep n ticks hand.Done (owner (user_at s u)) (wire x)
+unfolding TakesInStep exchange user_takes user_row
 user_takes_done n ticks user.Ready u x m o k = (o, k.0, k.1, (tt, tt), λ three. (ready_awaited u (wire x), tt, (k.3 three).1))
 user_takes_done n ticks user.Renewing u x m o k = (o, k.0, k.1, (tt, tt), λ three. (ready_awaited u (wire x), tt, (k.3 three).1))
 user_takes_done n ticks _ u x m o k = absurd m

@@ -2,7 +2,7 @@
 --
 -- Let X and Y be its ends, where section Y is of class 3. The units that came in on X since the counts were last cleared are got(X), and
 -- passed(X) of them left on Y.
--- (a) The units sent on Y since then are the first passed(X) of got(X), in order (`OrderLaw`, in Sent), and the rest waits (`PassesOn`).
+-- (a) The units sent on Y since then are the first passed(X) of got(X), in order (`OrderLaw`, in SentUnits), and the rest waits (`PassesOn`).
 --     Each step numbers those that leave from sent(Y) on, which is how many left before (`SendingLaw`), so P(S) is 0, 1, 2 .. modulo 128.
 -- (b) On X, told <= passed <= length of got <= told + the credit agreed on: this is `InCredit`.
 -- (c) On Y, acked <= sent <= acked + 127: this is `InWindow`. So a count is known by its remainder modulo 128. Each unit of a step leaves
@@ -29,8 +29,8 @@ use Rattle.section_model.specs.Windowed.{Windowed, windowed_hears, windowed_fire
 use Rattle.section_model.specs.Step.{connection_step}
 use Rattle.section_model.specs.Opening.{wish_of, opened}
 use Rattle.section_model.specs.Lane.{heard, follow}
-use Rattle.flow_law.specs.Kept.{passed_at, got_at, InCredit, InWindow, PassesOn, IsKept}
-use Rattle.flow_law.specs.Sent.{leaving}
+use Rattle.flow_law.specs.InStep.{passed_at, got_at, InCredit, InWindow, PassesOn, IsInStep}
+use Rattle.flow_law.specs.SentUnits.{leaving}
 
 -- (b) and (c) on a section of class 3, and of (a) what the two ends show.
 abbrev pub EndKept : End → End → Type 0
@@ -54,10 +54,10 @@ OpeningKeeps =
     (terms : Terms) (event : Event) (answer : Option Answer) (references : List ℕ) (c : Connection)
     → terms.credit ≤ 127
     → (opened terms (wish_of terms event) answer references).connection ≡ Some c
-    → IsKept c
+    → IsInStep c
 
 abbrev pub StepKeeps : Type 0
-StepKeeps = (ticks : Ticks) (c : Connection) (event : Event) → IsKept c → IsKept (connection_step ticks c event).0
+StepKeeps = (ticks : Ticks) (c : Connection) (event : Event) → IsInStep c → IsInStep (connection_step ticks c event).0
 
 -- What a section keeps alone at each act, whatever the other end does: a message, a timer, an effect of the other end, and the two parts
 -- of what follows each event.

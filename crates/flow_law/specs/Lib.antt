@@ -1,3 +1,3 @@
-pub mod Kept
-pub mod Sent
+pub mod InStep
+pub mod SentUnits
 pub mod FlowLaw

@@ -1,6 +1,6 @@
 //! Laws of the definitions, each as the contract of a function.
 ghost use Rattle.flow_law.specs.FlowLaw.{ActsKeep, FlowLaw, OpeningKeeps, SendingLaw, StepKeeps};
-ghost use Rattle.flow_law.specs.Sent.{OrderLaw};
+ghost use Rattle.flow_law.specs.SentUnits.{OrderLaw};
 
 /// The windows of both ends agree at each moment of a connection, whatever it hears from its opening on.
 pub fn window_law()

@@ -6,7 +6,7 @@ use Rattle.section_model.specs.declared.hand.Hand.{Hand}
 use Rattle.section_model.specs.declared.hand.Acted.{Acted}
 use Rattle.section_model.specs.Ends.{End, Connection}
 use Rattle.section_model.specs.Acting.{end_takes}
-use Rattle.section_model.specs.Coupling.{with_more, offered, exchange, settles}
+use Rattle.section_model.specs.Coupling.{with_more, other_takes, exchange, settles}
 use Rattle.reference_law.specs.ReferenceLaw.{Stays, BothStay}
 use Rattle.reference_law.proofs.Ends.{as_it_was, in_turn, both_as_they_were, both_in_turn}
 use Rattle.reference_law.proofs.Acting.{takes_stays}
@@ -21,7 +21,7 @@ GoesOn next = (acting : End × Acted) (that : End) → BothStay (acted_with acti
 
 -- one effect is taken
 offered_stays : (next : End × Acted → End → Connection × List Output) (ticks : Ticks) → GoesOn next
-    → (r : Connection × List Output) (h : Hand) → BothStay r.0 (offered next ticks r h).0
+    → (r : Connection × List Output) (h : Hand) → BothStay r.0 (other_takes next ticks r h).0
 offered_stays next ticks goes_on r h =
     let taken = end_takes ticks h r.0.that in
     let after : BothStay (acted_with taken r.0.this) (next taken r.0.this).0 = goes_on taken r.0.this in record {
@@ -31,11 +31,11 @@ offered_stays next ticks goes_on r h =
 
 -- and all of a list, one after another
 hands_stay : (next : End × Acted → End → Connection × List Output) (ticks : Ticks) → GoesOn next
-    → (hands : List Hand) (r : Connection × List Output) → BothStay r.0 (fold (offered next ticks) r hands).0
+    → (hands : List Hand) (r : Connection × List Output) → BothStay r.0 (fold (other_takes next ticks) r hands).0
 hands_stay next ticks goes_on [] r = both_as_they_were r.0
 hands_stay next ticks goes_on (h ∷ hands) r =
-    let one = offered next ticks r h in
-    both_in_turn r.0 one.0 (fold (offered next ticks) one hands).0 (offered_stays next ticks goes_on r h) (hands_stay next ticks goes_on hands one)
+    let one = other_takes next ticks r h in
+    both_in_turn r.0 one.0 (fold (other_takes next ticks) one hands).0 (offered_stays next ticks goes_on r h) (hands_stay next ticks goes_on hands one)
 
 exchange_stays : (turns : ℕ) (ticks : Ticks) → GoesOn (exchange turns ticks)
 unfolding exchange
@@ -43,8 +43,8 @@ exchange_stays zero ticks acting that = both_as_they_were (acted_with acting tha
 exchange_stays (suc turns) ticks acting that =
     let next = exchange turns ticks in
     let goes_on : GoesOn next = exchange_stays turns ticks in
-    let first = fold (offered next ticks) (acted_with acting that, []) acting.1.first in
-    both_in_turn (acted_with acting that) first.0 (fold (offered next ticks) (with_more acting.1.outs first) acting.1.then).0
+    let first = fold (other_takes next ticks) (acted_with acting that, []) acting.1.first in
+    both_in_turn (acted_with acting that) first.0 (fold (other_takes next ticks) (with_more acting.1.outs first) acting.1.then).0
     (hands_stay next ticks goes_on acting.1.first (acted_with acting that, []))
     (hands_stay next ticks goes_on acting.1.then (with_more acting.1.outs first))
 

@@ -22,8 +22,8 @@ use Rattle.reference_law.proofs.Acting.{hears_stays, fires_stays, asks_stays, le
 use Rattle.reference_law.proofs.Settling.{settled}
 
 -- a part of a step over which both ends stay, as of a connection and as of its ends
-abbrev Keeps : (Connection → Connection × List Output) → Type 0
-Keeps part = (c : Connection) → BothStay c (part c).0
+abbrev KeepsReferences : (Connection → Connection × List Output) → Type 0
+KeepsReferences part = (c : Connection) → BothStay c (part c).0
 
 abbrev KeepsEnds : (End → End → Connection × List Output) → Type 0
 KeepsEnds part = (this that : End) → BothStay (record { this = this; that = that }) (part this that).0
@@ -34,10 +34,10 @@ KeepsSection part = (x : Section) (that : End) → BothStay (record { this = wir
 abbrev From : Connection → Connection × List Output → Type 0
 From c r = BothStay c r.0
 
-keeps_that : (part : Connection → Connection × List Output) → Keeps part → Keeps (on_that part)
+keeps_that : (part : Connection → Connection × List Output) → KeepsReferences part → KeepsReferences (on_that part)
 keeps_that part keeps c = both_turned c (part (turned c)).0 (keeps (turned c))
 
-keeps_then : (part : Connection → Connection × List Output) → Keeps part → (c : Connection) (r : Connection × List Output) → From c r → From c (and_then part r)
+keeps_then : (part : Connection → Connection × List Output) → KeepsReferences part → (c : Connection) (r : Connection × List Output) → From c r → From c (and_then part r)
 keeps_then part keeps c r stays = both_in_turn c r.0 (part r.0).0 stays (keeps r.0)
 
 -- A message.
@@ -53,12 +53,12 @@ at_this_kept : (part : Section → End → Connection × List Output) → KeepsS
 at_this_kept part keeps (wire x) that = keeps x that
 at_this_kept part keeps (owner u) that = both_as_they_were (record { this = owner u; that = that })
 
-at_reference_kept : (reference : ℕ) (part : Section → End → Connection × List Output) → KeepsSection part → Keeps (at_reference reference part)
+at_reference_kept : (reference : ℕ) (part : Section → End → Connection × List Output) → KeepsSection part → KeepsReferences (at_reference reference part)
 at_reference_kept reference part keeps c =
     either (From c) (is_named reference c.this) _ _
     (at_this_kept part keeps c.this c.that) (keeps_that (at_this part) (λ d. at_this_kept part keeps d.this d.that) c)
 
-heard_kept : (ticks : Ticks) (point : ℕ) (a : Option Arrival) → Keeps (heard_by ticks point a)
+heard_kept : (ticks : Ticks) (point : ℕ) (a : Option Arrival) → KeepsReferences (heard_by ticks point a)
 heard_kept ticks point None c = both_as_they_were c
 heard_kept ticks point (Some a) c =
     at_reference_kept a.parameters.dlr (hears_message ticks a.occasion point a.parameters) (hears_kept ticks a.occasion point a.parameters) c
@@ -104,11 +104,11 @@ fires_in_order ticks (timer ∷ timers) c r stays =
     fires_in_order ticks timers c (fires_next ticks r timer)
     (keeps_then (λ d. fires ticks timer d.this d.that) (λ d. fires_if_due ticks timer d.this d.that) c r stays)
 
-fires_due_kept : (ticks : Ticks) → Keeps (fires_due ticks)
+fires_due_kept : (ticks : Ticks) → KeepsReferences (fires_due ticks)
 unfolding fires_due
 fires_due_kept ticks c = fires_in_order ticks firing_order c (c, []) (both_as_they_were c)
 
-ticks_kept : (ticks : Ticks) → Keeps (ticks_by ticks)
+ticks_kept : (ticks : Ticks) → KeepsReferences (ticks_by ticks)
 ticks_kept ticks c =
     let lower : Connection = record { this = ticked c.this; that = ticked c.that } in
     keeps_then (on_that (fires_due ticks)) (keeps_that (fires_due ticks) (fires_due_kept ticks)) c (fires_due ticks lower)
@@ -126,7 +126,7 @@ on_windows_kept ticks act stays (owner u) that = both_as_they_were (record { thi
 on_each_kept : (part : End → End → Connection × List Output) → KeepsEnds part → (c : Connection) (r : Connection × List Output) → From c r → From c (on_each part r)
 on_each_kept part keeps c r stays =
     let on_this : Connection → Connection × List Output = λ d. part d.this d.that in
-    let keeps_this : Keeps on_this = λ d. keeps d.this d.that in
+    let keeps_this : KeepsReferences on_this = λ d. keeps d.this d.that in
     keeps_then (on_that on_this) (keeps_that on_this keeps_this) c (and_then on_this r) (keeps_then on_this keeps_this c r stays)
 
 after_event_kept : (ticks : Ticks) (c : Connection) (r : Connection × List Output) → From c r → From c (after_event ticks r)
@@ -138,7 +138,7 @@ after_event_kept ticks c r stays =
 
 -- The step.
 
-event_kept : (ticks : Ticks) (event : Event) → Keeps (λ c. event_step ticks c event)
+event_kept : (ticks : Ticks) (event : Event) → KeepsReferences (λ c. event_step ticks c event)
 event_kept ticks (Arrived point sls bytes) c = heard_kept ticks point (arrival_in bytes) c
 event_kept ticks (Requested ssn r) c = asked_kept ticks ssn r c.this c.that
 event_kept ticks Tick c = ticks_kept ticks c

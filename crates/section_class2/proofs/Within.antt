@@ -14,23 +14,22 @@ use Rattle.section_model.specs.declared.hand.Hand.TheVariants as hand
 use Rattle.section_model.specs.declared.input.Input.{Input}
 use Rattle.section_model.specs.declared.input.Input.TheVariants as input
 use Rattle.section_model.specs.declared.wire.WireHead.{WireHead}
-use Rattle.section_model.specs.Acting.{line_acts, line_hears_event, line_hears_arrival}
 use Rattle.section_model.specs.Ends.{Line as SectionLine, no_effect, gives_then, only_cause}
 use Rattle.section_model.specs.declared.cell.SectionState.TheVariants.{Up, Gone}
 use Rattle.section_model.specs.Lengths.{IsDataOf, HandWithin, ActedWithin, KeptWithin, ArrivalWithin, InputWithin}
-use Rattle.section_model.specs.Line.{line_hears, reached, agreed, released, rlsd, breaks, in_state, line_fires, line_takes, accepted, refused, ended, ended_early, passed}
+use Rattle.section_model.specs.Line.{line_hears, reached, agreed, released, rlsd, breaks, in_state, line_fires, line_takes, passes_accept, passes_refuse, passes_end, keeps_end, passes_unit}
 use Rattle.section_model.specs.Parameters.{Parameters, Arrival, arrival_in}
 use Rattle.section_model.proofs.ArriveWithin.{arrives_within}
 use Rattle.section_class2.specs.declared.line.Line.{Line}
-use Rattle.section_class2.specs.Lines.{line_of, IsDt1, TakesDataOfDt1}
+use Rattle.section_class2.specs.Lines.{line_of, IsDt1, TakesDataOfDt1, line_acts, line_hears_event, line_hears_arrival}
 
 either : {A : Type 0} (P : A → Type 0) (test : Bool) (x y : A) → P x → P y → P (if test then x else y)
 either P true x y h k = h
 either P false x y h k = k
 
 -- what is kept, and what is handed on
-abbrev Keeps : SectionLine × Acted → Type 0
-Keeps r = KeptWithin r.0.kept
+abbrev KeepsLengths : SectionLine × Acted → Type 0
+KeepsLengths r = KeptWithin r.0.kept
 
 abbrev Hands : SectionLine × Acted → Type 0
 Hands r = ActedWithin r.1
@@ -58,14 +57,14 @@ abbrev is_same : Parameters → SectionLine → Bool
 is_same m x = m.slr == x.head.other && m.class == x.head.class
 
 -- upon a message
-hears-keeps : (c : Cell) (point : ℕ) (m : Parameters) (x : SectionLine) → KeptWithin x.kept → Keeps (line_hears c point m x)
+hears-keeps : (c : Cell) (point : ℕ) (m : Parameters) (x : SectionLine) → KeptWithin x.kept → KeepsLengths (line_hears c point m x)
 unfolding line_hears
 hears-keeps cell.Confirm point m x k =
     let y = reached point m.slr x in
-    either Keeps (is_agreed m y) (agrees m y) (disagrees y) k tt
+    either KeepsLengths (is_agreed m y) (agrees m y) (disagrees y) k tt
 hears-keeps cell.ConfirmLate point m x k = tt
-hears-keeps cell.ErrorReceived point m x k = either Keeps (m.cause == 3) (breaks 0x0F x) (fails x) tt k
-hears-keeps cell.TestReceived point m x k = either Keeps (is_same m x) (x, no_effect) (breaks 0x05 x) k tt
+hears-keeps cell.ErrorReceived point m x k = either KeepsLengths (m.cause == 3) (breaks 0x0F x) (fails x) tt k
+hears-keeps cell.TestReceived point m x k = either KeepsLengths (is_same m x) (x, no_effect) (breaks 0x05 x) k tt
 hears-keeps _ point m x k = k
 
 hears-hands : (c : Cell) (point : ℕ) (a : Arrival) (x : SectionLine) → ArrivalWithin a → (c ≡ cell.TakeData → a.occasion ≡ on.Dt1) → Hands (line_hears c point a.parameters x)
@@ -85,7 +84,7 @@ arrives-hands c point bytes None x e dt1 = (tt, tt)
 arrives-hands c point bytes (Some a) x e dt1 = hears-hands c point a x (arrives_within bytes a e) dt1
 
 -- when a timer fires
-fires-keeps : (c : Cell) (x : SectionLine) → KeptWithin x.kept → Keeps (line_fires c x)
+fires-keeps : (c : Cell) (x : SectionLine) → KeptWithin x.kept → KeepsLengths (line_fires c x)
 unfolding line_fires
 fires-keeps cell.ResetExpired x k = tt
 fires-keeps cell.PeerSilent x k = tt
@@ -99,31 +98,31 @@ fires-hands cell.PeerSilent x = (tt, (tt, tt))
 fires-hands _ x = (tt, tt)
 
 -- upon an effect of the other end
-takes-keeps : (c : Cell) (h : Hand) (x : SectionLine) → KeptWithin x.kept → HandWithin h → Keeps (line_takes c h x)
+takes-keeps : (c : Cell) (h : Hand) (x : SectionLine) → KeptWithin x.kept → HandWithin h → KeepsLengths (line_takes c h x)
 unfolding line_takes
 takes-keeps cell.PassAccept h x k w = accepts h
   where
-    accepts : (h : Hand) → Keeps (accepted h x)
+    accepts : (h : Hand) → KeepsLengths (passes_accept h x)
     accepts (hand.Accept class credit called body importance) = k
     accepts _ = k
 takes-keeps cell.PassRefuse h x k w = refuses h
   where
-    refuses : (h : Hand) → Keeps (refused h x)
+    refuses : (h : Hand) → KeepsLengths (passes_refuse h x)
     refuses (hand.Refuse cause called body importance) = k
     refuses _ = k
 takes-keeps cell.PassEnd h x k w = ends h w
   where
-    ends : (h : Hand) → HandWithin h → Keeps (ended h x)
+    ends : (h : Hand) → HandWithin h → KeepsLengths (passes_end h x)
     ends (hand.End cause body importance) w = w
     ends _ w = k
 takes-keeps cell.KeepEnd h x k w = ends h
   where
-    ends : (h : Hand) → Keeps (ended_early h x)
+    ends : (h : Hand) → KeepsLengths (keeps_end h x)
     ends (hand.End cause body importance) = tt
     ends _ = k
 takes-keeps cell.PassUnit h x k w = passes h
   where
-    passes : (h : Hand) → Keeps (passed h x)
+    passes : (h : Hand) → KeepsLengths (passes_unit h x)
     passes (hand.Unit more body) = k
     passes _ = k
 takes-keeps _ h x k w = k
@@ -132,40 +131,40 @@ takes-hands : (c : Cell) (h : Hand) (x : SectionLine) → Hands (line_takes c h 
 unfolding line_takes
 takes-hands cell.PassAccept h x = accepts h
   where
-    accepts : (h : Hand) → Hands (accepted h x)
+    accepts : (h : Hand) → Hands (passes_accept h x)
     accepts (hand.Accept class credit called body importance) = (tt, tt)
     accepts _ = (tt, tt)
 takes-hands cell.PassRefuse h x = refuses h
   where
-    refuses : (h : Hand) → Hands (refused h x)
+    refuses : (h : Hand) → Hands (passes_refuse h x)
     refuses (hand.Refuse cause called body importance) = (tt, tt)
     refuses _ = (tt, tt)
 takes-hands cell.PassEnd h x = ends h
   where
-    ends : (h : Hand) → Hands (ended h x)
+    ends : (h : Hand) → Hands (passes_end h x)
     ends (hand.End cause body importance) = (tt, tt)
     ends _ = (tt, tt)
 takes-hands cell.KeepEnd h x = ends h
   where
-    ends : (h : Hand) → Hands (ended_early h x)
+    ends : (h : Hand) → Hands (keeps_end h x)
     ends (hand.End cause body importance) = (tt, tt)
     ends _ = (tt, tt)
 takes-hands cell.PassUnit h x = passes h
   where
-    passes : (h : Hand) → Hands (passed h x)
+    passes : (h : Hand) → Hands (passes_unit h x)
     passes (hand.Unit more body) = (tt, tt)
     passes _ = (tt, tt)
 takes-hands _ h x = (tt, tt)
 
 -- upon an input
-acts-keeps : (c : Cell) (i : Input) (x : SectionLine) → KeptWithin x.kept → InputWithin i → Keeps (line_acts c i x)
+acts-keeps : (c : Cell) (i : Input) (x : SectionLine) → KeptWithin x.kept → InputWithin i → KeepsLengths (line_acts c i x)
 acts-keeps c (input.Event event) x k w = by_event event.now
   where
-    by_arrival : (point : ℕ) (arrived : Option Arrival) → Keeps (line_hears_arrival c point arrived x)
+    by_arrival : (point : ℕ) (arrived : Option Arrival) → KeepsLengths (line_hears_arrival c point arrived x)
     by_arrival point None = k
     by_arrival point (Some a) = hears-keeps c point a.parameters x k
 
-    by_event : (event : Event) → Keeps (line_hears_event c event x)
+    by_event : (event : Event) → KeepsLengths (line_hears_event c event x)
     by_event (Arrived point sls bytes) = by_arrival point (arrival_in bytes)
     by_event _ = k
 acts-keeps c (input.Timer number) x k w = fires-keeps c x k
@@ -185,7 +184,7 @@ acts-hands c input.Turn x dt1 = (tt, tt)
 -- what an act keeps, and what it hands on
 pub keeps-after : (done : Result Acted Memory) (c : Cell) (i : Input) (wire wire' : WireHead) (line line' : Line) → KeptWithin line.kept → InputWithin i
     → IfOk done (λ acted. line_acts c i (line_of wire line) ≡ (line_of wire' line', acted)) → OnErr done ((wire' ≡ wire) × (line' ≡ line)) → KeptWithin line'.kept
-keeps-after (Ok acted) c i wire wire' line line' k w ok err = subst Keeps ok (acts-keeps c i (line_of wire line) k w)
+keeps-after (Ok acted) c i wire wire' line line' k w ok err = subst KeepsLengths ok (acts-keeps c i (line_of wire line) k w)
 keeps-after (Err memory) c i wire wire' line line' k w ok err = subst (λ (l : Line). KeptWithin l.kept) (sym err.1) k
 
 pub hands-after : (done : Result Acted Memory) (c : Cell) (i : Input) (wire wire' : WireHead) (line line' : Line)

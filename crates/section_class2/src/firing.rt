@@ -1,6 +1,7 @@
 //! What a section does when a timer fires.
 ghost use Rattle.std.specs.Prelude.{◌≡◌, [], ◌∷◌, None, IfOk, OnErr};
-ghost use Rattle.section_model.specs.Ends.{section_of, gives_then};
+ghost use Rattle.section_model.specs.Ends.{gives_then};
+ghost use Rattle.section_model.specs.Views.{section_of};
 ghost use Rattle.section_model.specs.Line.{line_fires};
 ghost use Rattle.section_model.specs.Lengths.{KeptWithin};
 ghost use Rattle.section_model.specs.declared.cell.SectionState.TheVariants.{Gone};

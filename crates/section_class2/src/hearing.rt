@@ -1,19 +1,18 @@
 //! What a section does upon a message.
 ghost use Rattle.std.specs.Prelude.{◌≡◌, [], ◌∷◌, IfOk, OnErr};
 ghost use Rattle.std.specs.Option.{option_map};
-ghost use Rattle.section_model.specs.Acting.{line_hears_event};
-ghost use Rattle.section_model.specs.Ends.{section_of, gives, gives_then};
-ghost use Rattle.section_model.specs.Line.{line_hears, agreed, confirmed, confirmed_late, failed, tested, rlc};
+ghost use Rattle.section_model.specs.Ends.{gives, gives_then};
+ghost use Rattle.section_model.specs.Line.{line_hears, agreed, confirms, confirms_late, hears_error, hears_test, rlc};
 ghost use Rattle.section_model.specs.Lengths.{KeptWithin};
-ghost use Rattle.section_model.specs.Views.{seen_parameters};
+ghost use Rattle.section_model.specs.Views.{seen_parameters, section_of};
 ghost use Rattle.section_model.specs.declared.cell.SectionState.TheVariants.{Gone};
 ghost use Rattle.section_model.specs.declared.hand.Hand.TheVariants as hand;
-ghost use Rattle.section_class2.specs.Lines.{line_of};
+ghost use Rattle.section_class2.specs.Lines.{line_of, line_hears_event};
 
 use crate::line::Line;
 use crate::sending::{rlc, rlsd};
 use relay_base::{Event, Lost, Memory, Octets, Output, Pc};
-use section_model::{Acted, Cell, Hand, Kept, ParametersView, SectionState, WireHead, arrival_in};
+use section_model::{Acted, Cell, Hand, KeptRelease, ParametersView, SectionState, WireHead, arrival_in};
 use std::alloc::Global;
 
 /// The release cause "inconsistent connection data".
@@ -105,14 +104,14 @@ fn unit(alloc: Global, message: &ParametersView<'_>) -> Result<Acted, Memory>
 
 impl Line {
     /// CC: the section is set up with what it agrees on, or it is released where its class is none that was asked for.
-    fn confirmed(
+    fn confirms(
         &mut self,
         alloc: Global,
         wire: &mut WireHead,
         point: Pc,
         message: &ParametersView<'_>,
     ) -> Result<Acted, Memory>
-        ensures ok { IfOk result (λ done. confirmed point (seen_parameters message.now) (line_of wire.old self.old) ≡ (line_of wire.new self.new, done)) }
+        ensures ok { IfOk result (λ done. confirms point (seen_parameters message.now) (line_of wire.old self.old) ≡ (line_of wire.new self.new, done)) }
         ensures err { OnErr result ((wire.new ≡ wire.old) × (self.new ≡ self.old)) }
     {
         let mut reached = *wire;
@@ -144,20 +143,20 @@ impl Line {
     }
 
     /// CC of a section that waited for it to be released: RLSD with the cause that was kept.
-    fn confirmed_late(
+    fn confirms_late(
         &mut self,
         alloc: Global,
         wire: &mut WireHead,
         point: Pc,
         message: &ParametersView<'_>,
     ) -> Result<Acted, Memory>
-        ensures ok { IfOk result (λ done. confirmed_late point (seen_parameters message.now) (line_of wire.old self.old) ≡ (line_of wire.new self.new, done)) }
+        ensures ok { IfOk result (λ done. confirms_late point (seen_parameters message.now) (line_of wire.old self.old) ≡ (line_of wire.new self.new, done)) }
         ensures err { OnErr result ((wire.new ≡ wire.old) × (self.new ≡ self.old)) }
     {
         let mut reached = *wire;
         reached.point = point;
         reached.other = message.slr;
-        let kept = Kept::cause(self.kept.cause);
+        let kept = KeptRelease::with_cause(self.kept.cause);
         let output = rlsd(alloc, &reached, &kept)?;
         let acted = Acted::giving(alloc, output)?;
         self.kept = kept;
@@ -167,13 +166,13 @@ impl Line {
     }
 
     /// ERR: the section is released upon cause 3, else it is freed; the other end is ended.
-    fn failed(
+    fn hears_error(
         &mut self,
         alloc: Global,
         wire: &mut WireHead,
         message: &ParametersView<'_>,
     ) -> Result<Acted, Memory>
-        ensures ok { IfOk result (λ done. failed (seen_parameters message.now) (line_of wire.old self.old) ≡ (line_of wire.new self.new, done)) }
+        ensures ok { IfOk result (λ done. hears_error (seen_parameters message.now) (line_of wire.old self.old) ≡ (line_of wire.new self.new, done)) }
         ensures err { OnErr result ((wire.new ≡ wire.old) × (self.new ≡ self.old)) }
     {
         if message.cause == CLASS_MISMATCH {
@@ -190,13 +189,13 @@ impl Line {
     }
 
     /// IT: the section is released where the other end's reference or class is another one.
-    fn tested(
+    fn hears_test(
         &mut self,
         alloc: Global,
         wire: &mut WireHead,
         message: &ParametersView<'_>,
     ) -> Result<Acted, Memory>
-        ensures ok { IfOk result (λ done. tested (seen_parameters message.now) (line_of wire.old self.old) ≡ (line_of wire.new self.new, done)) }
+        ensures ok { IfOk result (λ done. hears_test (seen_parameters message.now) (line_of wire.old self.old) ≡ (line_of wire.new self.new, done)) }
         ensures err { OnErr result ((wire.new ≡ wire.old) × (self.new ≡ self.old)) }
     {
         if message.slr == wire.other && message.class == wire.class {
@@ -219,8 +218,8 @@ impl Line {
         ensures err { OnErr result ((wire.new ≡ wire.old) × (self.new ≡ self.old)) }
     {
         match cell {
-            Cell::Confirm => self.confirmed(alloc, wire, point, message),
-            Cell::ConfirmLate => self.confirmed_late(alloc, wire, point, message),
+            Cell::Confirm => self.confirms(alloc, wire, point, message),
+            Cell::ConfirmLate => self.confirms_late(alloc, wire, point, message),
             Cell::Refused => refused(alloc, wire, message),
             Cell::Free => {
                 wire.enter(SectionState::Gone);
@@ -229,8 +228,8 @@ impl Line {
             Cell::Released => released(alloc, wire, message),
             Cell::ReleaseCollision => collided(alloc, wire),
             Cell::TakeData => unit(alloc, message),
-            Cell::ErrorReceived => self.failed(alloc, wire, message),
-            Cell::TestReceived => self.tested(alloc, wire, message),
+            Cell::ErrorReceived => self.hears_error(alloc, wire, message),
+            Cell::TestReceived => self.hears_test(alloc, wire, message),
             Cell::Discard => Acted::giving(alloc, Output::Lost(Lost::State)),
             _ => Ok(Acted::nothing(alloc)),
         }

@@ -1,20 +1,20 @@
 //! The line of a connection section.
 ghost use Rattle.std.specs.Prelude.{◌≡◌, [], ◌∷◌, None, IfOk, OnErr};
-ghost use Rattle.section_model.specs.Acting.{line_acts};
-ghost use Rattle.section_model.specs.Ends.{section_of, only_cause, gives_then};
+ghost use Rattle.section_model.specs.Views.{section_of};
+ghost use Rattle.section_model.specs.Ends.{only_cause, gives_then};
 ghost use Rattle.section_model.specs.Line.{released, rlsd, breaks};
 ghost use Rattle.section_model.specs.Lengths.{ActedWithin, InputWithin, KeptWithin};
-ghost use Rattle.section_class2.specs.Lines.{line_of, TakesDataOfDt1};
+ghost use Rattle.section_class2.specs.Lines.{line_of, TakesDataOfDt1, line_acts};
 
 use crate::sending::{copied, rlsd};
 use relay_base::Memory;
-use section_model::{Acted, Cell, Hand, Input, Kept, SectionState, WireHead};
+use section_model::{Acted, Cell, Hand, Input, KeptRelease, SectionState, WireHead};
 use std::alloc::Global;
 
 /// What a connection section keeps beside its head: what its release says when it is sent again.
 #[derive(Drop)]
 pub struct Line {
-    pub kept: Kept,
+    pub kept: KeptRelease,
 }
 
 impl Line {
@@ -50,7 +50,7 @@ impl Line {
         ensures { IfOk result (λ line. line ≡ self.now) }
     {
         Ok(Line {
-            kept: Kept {
+            kept: KeptRelease {
                 cause: self.kept.cause,
                 body: copied(&self.kept.body)?,
                 importance: self.kept.importance,
@@ -71,7 +71,7 @@ impl Line {
         ensures done { IfOk result (λ done. done ≡ gives_then (rlsd (section_of reached) (only_cause cause) ∷ []) (hand ∷ [])) }
         ensures err { OnErr result ((wire.new ≡ wire.old) × (self.new ≡ self.old)) }
     {
-        let kept = Kept::cause(cause);
+        let kept = KeptRelease::with_cause(cause);
         let output = rlsd(alloc, &reached, &kept)?;
         let acted = Acted::giving_then(alloc, output, hand)?;
         self.kept = kept;

@@ -2,13 +2,13 @@
 ghost use Rattle.std.specs.Prelude.{◌≡◌, [], ◌∷◌, IfOk, if◌then◌else◌};
 ghost use Rattle.q713_codec.specs.Writing.{InRange};
 ghost use Rattle.q713_codec.specs.declared.message.Message.TheVariants.{Cc, Cref, Dt1, It};
-ghost use Rattle.section_model.specs.Ends.{section_of};
+ghost use Rattle.section_model.specs.Views.{section_of};
 ghost use Rattle.section_model.specs.Line.{sent_on, credit_of, rlsd, rlc};
 ghost use Rattle.section_model.specs.Lengths.{IsAddress, IsData, IsWithin, KeptWithin};
 
 use q713_codec::{Message, write};
 use relay_base::{Memory, Octets, Output};
-use section_model::{Kept, WireHead};
+use section_model::{KeptRelease, WireHead};
 use std::alloc::Global;
 
 /// A copy of octets.
@@ -41,7 +41,7 @@ pub fn sent_on(alloc: Global, wire: &WireHead, message: Message) -> Result<Outpu
 }
 
 /// RLSD with what a release says.
-pub fn rlsd(alloc: Global, wire: &WireHead, kept: &Kept) -> Result<Output, Memory>
+pub fn rlsd(alloc: Global, wire: &WireHead, kept: &KeptRelease) -> Result<Output, Memory>
     requires { KeptWithin kept.now }
     ensures { IfOk result (λ output. output ≡ rlsd (section_of wire.now) kept.now) }
 {

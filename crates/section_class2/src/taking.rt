@@ -1,19 +1,19 @@
 //! What a section does upon an effect of the other end.
 ghost use Rattle.std.specs.Prelude.{◌≡◌, IfOk, OnErr};
-ghost use Rattle.section_model.specs.Line.{line_takes, accepted, refused, ended, ended_early, passed};
+ghost use Rattle.section_model.specs.Line.{line_takes, passes_accept, passes_refuse, passes_end, keeps_end, passes_unit};
 ghost use Rattle.section_model.specs.Lengths.{HandWithin};
 ghost use Rattle.section_class2.specs.Lines.{line_of, ActsOnHead};
 
 use crate::line::Line;
 use crate::sending::{confirmation, copied, data, refusal, rlsd};
 use relay_base::Memory;
-use section_model::{Acted, Cell, Hand, Kept, SectionState, WireHead};
+use section_model::{Acted, Cell, Hand, KeptRelease, SectionState, WireHead};
 use std::alloc::Global;
 
 /// The other end accepts: CC, and the section is set up.
-fn accepted(alloc: Global, wire: &mut WireHead, hand: &Hand) -> Result<Acted, Memory>
+fn passes_accept(alloc: Global, wire: &mut WireHead, hand: &Hand) -> Result<Acted, Memory>
     requires { HandWithin hand.now }
-    ensures ok { IfOk result (λ done. ActsOnHead (accepted hand.now) wire.old wire.new done) }
+    ensures ok { IfOk result (λ done. ActsOnHead (passes_accept hand.now) wire.old wire.new done) }
     ensures err { OnErr result (wire.new ≡ wire.old) }
 {
     let Hand::Accept {
@@ -35,9 +35,9 @@ fn accepted(alloc: Global, wire: &mut WireHead, hand: &Hand) -> Result<Acted, Me
 }
 
 /// The other end refuses: CREF, and the section is freed.
-fn refused(alloc: Global, wire: &mut WireHead, hand: &Hand) -> Result<Acted, Memory>
+fn passes_refuse(alloc: Global, wire: &mut WireHead, hand: &Hand) -> Result<Acted, Memory>
     requires { HandWithin hand.now }
-    ensures ok { IfOk result (λ done. ActsOnHead (refused hand.now) wire.old wire.new done) }
+    ensures ok { IfOk result (λ done. ActsOnHead (passes_refuse hand.now) wire.old wire.new done) }
     ensures err { OnErr result (wire.new ≡ wire.old) }
 {
     let Hand::Refuse {
@@ -56,9 +56,9 @@ fn refused(alloc: Global, wire: &mut WireHead, hand: &Hand) -> Result<Acted, Mem
 }
 
 /// A unit of data: DT1.
-fn passed(alloc: Global, wire: &WireHead, hand: &Hand) -> Result<Acted, Memory>
+fn passes_unit(alloc: Global, wire: &WireHead, hand: &Hand) -> Result<Acted, Memory>
     requires { HandWithin hand.now }
-    ensures { IfOk result (λ done. ActsOnHead (passed hand.now) wire.now wire.now done) }
+    ensures { IfOk result (λ done. ActsOnHead (passes_unit hand.now) wire.now wire.now done) }
 {
     match hand {
         Hand::Unit { more, body } => Acted::giving(alloc, data(alloc, wire, *more, body)?),
@@ -68,9 +68,9 @@ fn passed(alloc: Global, wire: &WireHead, hand: &Hand) -> Result<Acted, Memory>
 
 impl Line {
     /// The other end ends: RLSD, which is kept.
-    fn ended(&mut self, alloc: Global, wire: &mut WireHead, hand: &Hand) -> Result<Acted, Memory>
+    fn passes_end(&mut self, alloc: Global, wire: &mut WireHead, hand: &Hand) -> Result<Acted, Memory>
         requires { HandWithin hand.now }
-        ensures ok { IfOk result (λ done. ended hand.now (line_of wire.old self.old) ≡ (line_of wire.new self.new, done)) }
+        ensures ok { IfOk result (λ done. passes_end hand.now (line_of wire.old self.old) ≡ (line_of wire.new self.new, done)) }
         ensures err { OnErr result ((wire.new ≡ wire.old) × (self.new ≡ self.old)) }
     {
         let Hand::End {
@@ -81,7 +81,7 @@ impl Line {
         else {
             return Ok(Acted::nothing(alloc));
         };
-        let kept = Kept {
+        let kept = KeptRelease {
             cause: *cause,
             body: copied(body)?,
             importance: *importance,
@@ -94,11 +94,11 @@ impl Line {
     }
 
     /// The other end ends before the section's other end is known: it is to be released as soon as that is.
-    fn ended_early(&mut self, alloc: Global, wire: &mut WireHead, hand: &Hand) -> Acted
-        ensures { ended_early hand.now (line_of wire.old self.old) ≡ (line_of wire.new self.new, result) }
+    fn keeps_end(&mut self, alloc: Global, wire: &mut WireHead, hand: &Hand) -> Acted
+        ensures { keeps_end hand.now (line_of wire.old self.old) ≡ (line_of wire.new self.new, result) }
     {
         if let Hand::End { cause, .. } = hand {
-            self.kept = Kept::cause(*cause);
+            self.kept = KeptRelease::with_cause(*cause);
             wire.enter(SectionState::Waning);
         }
         Acted::nothing(alloc)
@@ -118,11 +118,11 @@ impl Line {
         ensures err { OnErr result ((wire.new ≡ wire.old) × (self.new ≡ self.old)) }
     {
         match cell {
-            Cell::PassAccept => accepted(alloc, wire, hand),
-            Cell::PassRefuse => refused(alloc, wire, hand),
-            Cell::PassEnd => self.ended(alloc, wire, hand),
-            Cell::KeepEnd => Ok(self.ended_early(alloc, wire, hand)),
-            Cell::PassUnit => passed(alloc, wire, hand),
+            Cell::PassAccept => passes_accept(alloc, wire, hand),
+            Cell::PassRefuse => passes_refuse(alloc, wire, hand),
+            Cell::PassEnd => self.passes_end(alloc, wire, hand),
+            Cell::KeepEnd => Ok(self.keeps_end(alloc, wire, hand)),
+            Cell::PassUnit => passes_unit(alloc, wire, hand),
             _ => Ok(Acted::nothing(alloc)),
         }
     }

@@ -15,13 +15,12 @@ use Rattle.section_model.specs.declared.hand.Unit.{Unit as DataUnit}
 use Rattle.section_model.specs.declared.input.Input.{Input}
 use Rattle.section_model.specs.declared.input.Input.TheVariants as input
 use Rattle.section_model.specs.declared.wire.WireHead.{WireHead}
-use Rattle.section_model.specs.Acting.{windows_act, windows_hear_event, windows_hear_arrival}
 use Rattle.section_model.specs.Ends.{no_effect, is_up}
 use Rattle.section_model.specs.Lengths.{IsWithin, IsDataOf, HandWithin, HandsWithin, ActedWithin, UnitsWithin, ExpeditedWithin, WindowsWithin, ArrivalWithin, InputWithin}
 use Rattle.section_model.specs.Parameters.{Parameters, Arrival, arrival_in}
-use Rattle.section_model.specs.Windowed.{Windowed, windowed_hears, windowed_fires, windowed_takes, leaves, acknowledges, is_next, is_used_up, is_valid, wrong_number, resets, accepts_unit, takes_data, takes_answer, expedites, passes, passes_expedited, passes_reset, left, may_leave}
+use Rattle.section_model.specs.Windowed.{Windowed, windowed_hears, windowed_fires, windowed_takes, leaves, acknowledges, is_next, is_used_up, is_valid, wrong_number, resets, accepts_unit, takes_data, takes_answer, sends_expedited, queues_unit, passes_expedited, passes_reset, counts_left, may_leave}
 use Rattle.section_model.proofs.ArriveWithin.{arrives_within}
-use Rattle.section_class3.specs.Windows.{WindowsState, windowed_of, IsDt2, IsEd, TakesItsData}
+use Rattle.section_class3.specs.Windows.{WindowsState, windowed_of, IsDt2, IsEd, TakesItsData, windows_act, windows_hear_event, windows_hear_arrival}
 
 either : {A : Type 0} (P : A → Type 0) (test : Bool) (x y : A) → P x → P y → P (if test then x else y)
 either P true x y h k = h
@@ -91,19 +90,19 @@ arrives-hands c bytes (Some a) x e dt2 ed = hears-hands c a x (arrives_within by
 
 -- upon an effect of the other end
 expedited-waits : (h : Hand) (x : Windowed) → WindowsWithin x.windows → HandWithin h → Waits (passes_expedited h x)
-expedited-waits (hand.Expedited body) x w k = either Waits (is_up x.head.state && not x.windows.unanswered) (expedites (Some body) x) _ (w.0, tt) (w.0, k)
+expedited-waits (hand.Expedited body) x w k = either Waits (is_up x.head.state && not x.windows.unanswered) (sends_expedited (Some body) x) _ (w.0, tt) (w.0, k)
 expedited-waits _ x w k = w
 
 expedited-hands : (h : Hand) (x : Windowed) → Hands (passes_expedited h x)
-expedited-hands (hand.Expedited body) x = either Hands (is_up x.head.state && not x.windows.unanswered) (expedites (Some body) x) _ (tt, (tt, tt)) (tt, tt)
+expedited-hands (hand.Expedited body) x = either Hands (is_up x.head.state && not x.windows.unanswered) (sends_expedited (Some body) x) _ (tt, (tt, tt)) (tt, tt)
 expedited-hands _ x = (tt, tt)
 
-left-waits : (h : Hand) (x : Windowed) → WindowsWithin x.windows → Waits (left h x)
+left-waits : (h : Hand) (x : Windowed) → WindowsWithin x.windows → Waits (counts_left h x)
 left-waits (hand.Left units false) x w = w
 left-waits (hand.Left units true) x w = w
 left-waits _ x w = w
 
-left-hands : (h : Hand) (x : Windowed) → Hands (left h x)
+left-hands : (h : Hand) (x : Windowed) → Hands (counts_left h x)
 left-hands (hand.Left units false) x = (tt, tt)
 left-hands (hand.Left units true) x = (tt, tt)
 left-hands _ x = (tt, tt)
@@ -112,7 +111,7 @@ takes-waits : (c : Cell) (h : Hand) (x : Windowed) → WindowsWithin x.windows �
 unfolding windowed_takes
 takes-waits cell.PassUnit h x w k = by_hand h k
   where
-    by_hand : (h : Hand) → HandWithin h → Waits (passes h x)
+    by_hand : (h : Hand) → HandWithin h → Waits (queues_unit h x)
     by_hand (hand.Unit more body) k = (units-more x.windows.waits (record { more = more; body = body }) w.0 k, w.1)
     by_hand _ k = w
 takes-waits cell.PassExpedited h x w k = expedited-waits h x w k
@@ -129,7 +128,7 @@ takes-hands : (c : Cell) (h : Hand) (x : Windowed) → Hands (windowed_takes c h
 unfolding windowed_takes
 takes-hands cell.PassUnit h x = by_hand h
   where
-    by_hand : (h : Hand) → Hands (passes h x)
+    by_hand : (h : Hand) → Hands (queues_unit h x)
     by_hand (hand.Unit more body) = (tt, tt)
     by_hand _ = (tt, tt)
 takes-hands cell.PassExpedited h x = expedited-hands h x

@@ -1,16 +1,18 @@
 -- The windows of a section as the code keeps them.
-use Rattle.std.specs.Prelude.{◌≡◌, ℕ, IfSome, Bool, List, Option}
+use Rattle.std.specs.Prelude.{◌≡◌, ℕ, IfSome, Bool, List, Option, Some, None}
 use Rattle.section_model.specs.declared.cell.Cell.{Cell}
+use Rattle.section_model.specs.Views.{section_of}
 use Rattle.section_model.specs.declared.cell.Cell.TheVariants as cell
 use Rattle.section_model.specs.declared.cell.Occasion.TheVariants as on
 use Rattle.section_model.specs.declared.input.Input.{Input}
 use Rattle.section_model.specs.declared.input.Input.TheVariants as input
 use Rattle.section_model.specs.declared.wire.WireHead.{WireHead}
 use Rattle.relay_base.specs.declared.words.Event.{Event}
-use Rattle.relay_base.specs.declared.words.Event.TheVariants.{Message as Arrived}
-use Rattle.section_model.specs.Ends.{Windows as SectionWindows, section_of}
-use Rattle.section_model.specs.Parameters.{arrival_in}
-use Rattle.section_model.specs.Windowed.{Windowed}
+use Rattle.relay_base.specs.declared.words.Event.TheVariants.{Message as Arrived, Asked as Requested, Tick}
+use Rattle.section_model.specs.declared.hand.Acted.{Acted}
+use Rattle.section_model.specs.Ends.{Windows as SectionWindows, no_effect}
+use Rattle.section_model.specs.Parameters.{Arrival, arrival_in}
+use Rattle.section_model.specs.Windowed.{Windowed, windowed_hears, windowed_fires, windowed_takes, leaves, acknowledges}
 use Rattle.section_flow.specs.declared.counts.Counts.{Counts}
 use Rattle.section_flow.specs.Flow.{FlowState, windows_of}
 
@@ -20,8 +22,8 @@ pub record WindowsState : Type 0 where
   pub windows : SectionWindows
 
 -- the windows of a section by its flow control, the expedited data that wait, and whether expedited data are unanswered and owed
-abbrev pub state_of : FlowState → Option (List ℕ) → Bool → Bool → WindowsState
-state_of f waiting unanswered owed = record {
+abbrev pub windows_state_of : FlowState → Option (List ℕ) → Bool → Bool → WindowsState
+windows_state_of f waiting unanswered owed = record {
   agreed = f.agreed;
   windows = record (windows_of f) { waiting = waiting; unanswered = unanswered; owed = owed };
 }
@@ -46,3 +48,26 @@ IsEd _ = Unit {0}
 abbrev pub TakesItsData : Cell → Input → Type 0
 TakesItsData c (input.Event event) = (c ≡ cell.TakeNumberedData → IsDt2 event.now) × (c ≡ cell.TakeExpedited → IsEd event.now)
 TakesItsData c _ = Unit {0}
+
+-- What a section does in class 3 alone upon an input, by the cell that the table has for it.
+
+abbrev pub windows_hear_arrival : Cell → Option Arrival → Windowed → Windowed × Acted
+windows_hear_arrival c None x = (x, no_effect)
+windows_hear_arrival c (Some a) x = windowed_hears c a.parameters x
+
+abbrev pub windows_hear_event : Cell → Event → Windowed → Windowed × Acted
+windows_hear_event c (Arrived point sls bytes) x = windows_hear_arrival c (arrival_in bytes) x
+windows_hear_event c (Requested ssn r) x = (x, no_effect)
+windows_hear_event c Tick x = (x, no_effect)
+
+-- the two parts of what follows each event
+abbrev pub windows_turn : Cell → Windowed → Windowed × Acted
+windows_turn cell.Leave x = leaves x
+windows_turn cell.Acknowledge x = acknowledges x
+windows_turn _ x = (x, no_effect)
+
+abbrev pub windows_act : Cell → Input → Windowed → Windowed × Acted
+windows_act c (input.Event event) x = windows_hear_event c event.now x
+windows_act c (input.Timer number) x = windowed_fires x
+windows_act c (input.Hand h) x = windowed_takes c h.now x
+windows_act c input.Turn x = windows_turn c x

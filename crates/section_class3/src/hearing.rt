@@ -1,11 +1,10 @@
 //! What a section does upon a message of class 3.
 ghost use Rattle.std.specs.Prelude.{◌≡◌, IfOk, OnErr};
 ghost use Rattle.section_model.specs.declared.cell.Cell.TheVariants as cell;
-ghost use Rattle.section_model.specs.Acting.{windows_hear_event};
 ghost use Rattle.section_model.specs.Lengths.{WindowsWithin};
 ghost use Rattle.section_model.specs.Views.{seen_parameters};
 ghost use Rattle.section_model.specs.Windowed.{windowed_hears, resets, takes_data, takes_acknowledgement, takes_expedited, takes_answer};
-ghost use Rattle.section_class3.specs.Windows.{windowed_of};
+ghost use Rattle.section_class3.specs.Windows.{windowed_of, windows_hear_event};
 
 use crate::sending::{expedited, reset_confirmation, reset_request};
 use crate::windows::Windows;

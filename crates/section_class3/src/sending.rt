@@ -1,7 +1,7 @@
 //! The messages that a section sends in class 3 alone.
 ghost use Rattle.std.specs.Prelude.{◌≡◌, ◌<◌, ◌*◌, ◌+◌, [], ◌∷◌, IfOk, if◌then◌else◌};
 ghost use Rattle.q713_codec.specs.declared.message.Message.TheVariants.{Dt2, Ak, Ed, Ea, Rsr, Rsc, It};
-ghost use Rattle.section_model.specs.Ends.{section_of};
+ghost use Rattle.section_model.specs.Views.{section_of};
 ghost use Rattle.section_model.specs.Line.{sent_on};
 ghost use Rattle.section_model.specs.Lengths.{IsWithin};
 

@@ -1,7 +1,7 @@
 //! What a section does upon an effect of the other end, in class 3.
 ghost use Rattle.std.specs.Prelude.{◌≡◌, Some, IfOk, OnErr};
 ghost use Rattle.section_model.specs.Lengths.{HandWithin, IsWithin};
-ghost use Rattle.section_model.specs.Windowed.{windowed_takes, expedites, passes, passes_expedited, passes_reset, left};
+ghost use Rattle.section_model.specs.Windowed.{windowed_takes, sends_expedited, queues_unit, passes_expedited, passes_reset, counts_left};
 ghost use Rattle.section_class3.specs.Windows.{windowed_of};
 
 use crate::sending::{expedited, expedited_acknowledgement, reset_request};
@@ -14,7 +14,7 @@ use std::alloc::Global;
 impl Windows {
     /// A unit of data: it waits.
     fn pass(&mut self, alloc: Global, hand: &Hand) -> Result<Acted, Memory>
-        ensures ok { IfOk result (λ done. (wire : WireHead) → passes hand.now (windowed_of wire self.old) ≡ (windowed_of wire self.new, done)) }
+        ensures ok { IfOk result (λ done. (wire : WireHead) → queues_unit hand.now (windowed_of wire self.old) ≡ (windowed_of wire self.new, done)) }
         ensures err { OnErr result (self.new ≡ self.old) }
         ensures agreed { self.new.agreed ≡ self.old.agreed }
     {
@@ -32,7 +32,7 @@ impl Windows {
     /// Expedited data leave, and their EA is awaited.
     fn expedite(&mut self, alloc: Global, wire: &WireHead, body: &Octets) -> Result<Acted, Memory>
         requires { IsWithin 1 32 body.now }
-        ensures ok { IfOk result (λ done. expedites (Some body.now) (windowed_of wire.now self.old) ≡ (windowed_of wire.now self.new, done)) }
+        ensures ok { IfOk result (λ done. sends_expedited (Some body.now) (windowed_of wire.now self.old) ≡ (windowed_of wire.now self.new, done)) }
         ensures err { OnErr result (self.new ≡ self.old) }
         ensures agreed { self.new.agreed ≡ self.old.agreed }
     {
@@ -91,7 +91,7 @@ impl Windows {
 
     /// Units that came in here left on the other end; EA, where expedited data did.
     fn count_left(&mut self, alloc: Global, wire: &WireHead, hand: &Hand) -> Result<Acted, Memory>
-        ensures ok { IfOk result (λ done. left hand.now (windowed_of wire.now self.old) ≡ (windowed_of wire.now self.new, done)) }
+        ensures ok { IfOk result (λ done. counts_left hand.now (windowed_of wire.now self.old) ≡ (windowed_of wire.now self.new, done)) }
         ensures err { OnErr result (self.new ≡ self.old) }
         ensures agreed { self.new.agreed ≡ self.old.agreed }
     {

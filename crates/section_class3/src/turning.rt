@@ -2,11 +2,10 @@
 ghost use Rattle.std.specs.Prelude.{◌≡◌, ◌++◌, ◌||◌, nat_lt, [], ◌∷◌, is_some, if◌then◌else◌, IfOk, OnOk, OnErr};
 ghost use Rattle.std.specs.Option.{option_map};
 ghost use Rattle.section_model.specs.declared.hand.Hand.TheVariants as hand;
-ghost use Rattle.section_model.specs.Acting.{windows_turn};
-ghost use Rattle.section_model.specs.Ends.{section_of};
+ghost use Rattle.section_model.specs.Views.{section_of};
 ghost use Rattle.section_model.specs.Lengths.{ExpeditedWithin, UnitsWithin, WindowsWithin};
 ghost use Rattle.section_model.specs.Windowed.{leaves, acknowledges};
-ghost use Rattle.section_class3.specs.Windows.{windowed_of};
+ghost use Rattle.section_class3.specs.Windows.{windowed_of, windows_turn};
 ghost use Rattle.section_class3.specs.Sending.{all_sent, units_output, ready_expedited, expedited_output};
 
 use crate::sending::{acknowledgement, expedited, numbered};

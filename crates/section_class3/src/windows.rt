@@ -1,11 +1,10 @@
 //! The windows of a connection section.
 ghost use Rattle.std.specs.Prelude.{◌≡◌, ◌≤◌, IfOk, OnErr, length, is_some};
-ghost use Rattle.section_model.specs.Acting.{windows_act};
 ghost use Rattle.section_model.specs.Ends.{cleared};
 ghost use Rattle.section_model.specs.Lengths.{ActedWithin, InputWithin, WindowsWithin};
 ghost use Rattle.section_model.specs.Windowed.{windowed_fires};
 ghost use Rattle.section_flow.specs.Held.{IsWithinWindows};
-ghost use Rattle.section_class3.specs.Windows.{windowed_of, counts_of, TakesItsData};
+ghost use Rattle.section_class3.specs.Windows.{windowed_of, counts_of, TakesItsData, windows_act};
 
 use crate::sending::test;
 use relay_base::{Memory, Octets};
@@ -28,11 +27,11 @@ pub struct Windows {
 }
 
 impl Model for Windows {
-    ghost use Rattle.section_class3.specs.Windows.{WindowsState, state_of};
+    ghost use Rattle.section_class3.specs.Windows.{WindowsState, windows_state_of};
 
     ghost Value = { WindowsState };
 
-    ghost view = { λ w. state_of w.flow w.waiting w.is_unanswered w.is_owed };
+    ghost view = { λ w. windows_state_of w.flow w.waiting w.is_unanswered w.is_owed };
 }
 
 impl Windows {

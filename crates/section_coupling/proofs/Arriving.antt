@@ -7,9 +7,11 @@ use Rattle.relay_base.specs.declared.words.Event.TheVariants.{Message as Arrives
 use Rattle.relay_base.specs.declared.words.Request.{Request}
 use Rattle.plant_core.specs.declared.terms.Ticks.{Ticks}
 use Rattle.section_model.specs.declared.cell.Cell.{Cell}
+use Rattle.section_class3.specs.Windows.{windows_hear_arrival, windows_hear_event, windows_act, windows_turn}
+use Rattle.section_class2.specs.Lines.{line_hears_arrival, line_hears_event, line_acts}
 use Rattle.section_model.specs.Ends.{Section, Connection}
 use Rattle.section_model.specs.Parameters.{Arrival}
-use Rattle.section_model.specs.Acting.{timed, by_line, by_windows, in_windows, line_hears_arrival, line_hears_event, windows_hear_arrival, windows_hear_event, section_hears, line_acts, windows_act, windows_turn}
+use Rattle.section_model.specs.Acting.{timed, by_line, by_windows, in_windows, section_hears}
 use Rattle.section_model.specs.Step.{hears, is_in_range, named, names, on_windows, on_each, after_event}
 use Rattle.section_model.specs.declared.cell.Cell.TheVariants.{Leave, Acknowledge}
 use Rattle.section_model.specs.declared.input.Input.{Input}

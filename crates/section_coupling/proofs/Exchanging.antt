@@ -4,24 +4,24 @@ use Rattle.plant_core.specs.declared.terms.Ticks.{Ticks}
 use Rattle.relay_base.specs.declared.words.Output.{Output}
 use Rattle.section_model.specs.declared.hand.Acted.{Acted}
 use Rattle.section_model.specs.Ends.{End, Connection}
-use Rattle.section_model.specs.Coupling.{exchange, offered, with_more}
+use Rattle.section_model.specs.Coupling.{exchange, other_takes, with_more}
 
 one-turn : (n : ℕ) (ticks : Ticks) (acting : End × Acted) (that : End) →
-    exchange (suc n) ticks acting that ≡ fold (offered (exchange n ticks) ticks) (with_more acting.1.outs (fold (offered (exchange n ticks) ticks) (record { this = acting.0; that = that }, []) acting.1.first)) acting.1.then
+    exchange (suc n) ticks acting that ≡ fold (other_takes (exchange n ticks) ticks) (with_more acting.1.outs (fold (other_takes (exchange n ticks) ticks) (record { this = acting.0; that = that }, []) acting.1.first)) acting.1.then
 unfolding exchange
 one-turn n ticks acting that = refl
 
 by-suc : (m n : ℕ) (ticks : Ticks) (acting : End × Acted) (that : End) (first last : Connection × List Output) → m ≡ suc n
-    → fold (offered (exchange n ticks) ticks) (record { this = acting.0; that = that }, []) acting.1.first ≡ first
-    → fold (offered (exchange n ticks) ticks) (with_more acting.1.outs first) acting.1.then ≡ last
+    → fold (other_takes (exchange n ticks) ticks) (record { this = acting.0; that = that }, []) acting.1.first ≡ first
+    → fold (other_takes (exchange n ticks) ticks) (with_more acting.1.outs first) acting.1.then ≡ last
     → exchange m ticks acting that ≡ last
 by-suc m n ticks acting that first last e f g =
     subst (λ k. exchange k ticks acting that ≡ last) (sym e)
-    (one-turn n ticks acting that ∙ subst (λ r. fold (offered (exchange n ticks) ticks) (with_more acting.1.outs r) acting.1.then ≡ last) (sym f) g)
+    (one-turn n ticks acting that ∙ subst (λ r. fold (other_takes (exchange n ticks) ticks) (with_more acting.1.outs r) acting.1.then ≡ last) (sym f) g)
 
 pub exchanged : (n : ℕ) (ticks : Ticks) (acting : End × Acted) (that : End) (first last : Connection × List Output) → (n ≡ 0 → ⊥)
-    → fold (offered (exchange (n - 1) ticks) ticks) (record { this = acting.0; that = that }, []) acting.1.first ≡ first
-    → fold (offered (exchange (n - 1) ticks) ticks) (with_more acting.1.outs first) acting.1.then ≡ last
+    → fold (other_takes (exchange (n - 1) ticks) ticks) (record { this = acting.0; that = that }, []) acting.1.first ≡ first
+    → fold (other_takes (exchange (n - 1) ticks) ticks) (with_more acting.1.outs first) acting.1.then ≡ last
     → exchange n ticks acting that ≡ last
 exchanged n ticks acting that first last more f g =
     let some : n ≡ suc (n - 1) = grind arith in

@@ -8,7 +8,7 @@ use Rattle.plant_core.specs.declared.answer.Answer.{Answer}
 use Rattle.plant_core.specs.declared.terms.Terms.{Terms}
 use Rattle.section_model.specs.Step.{after_event, connection_step, event_step}
 use Rattle.section_model.specs.Opening.{wish_of, opened}
-use Rattle.flow_law.specs.Kept.{AreKept, IsKept}
+use Rattle.flow_law.specs.InStep.{AreInStep, IsInStep}
 use Rattle.flow_law.proofs.Step.{step_keeps}
 use Rattle.flow_law.proofs.Opening.{opening_keeps}
 use Rattle.section_coupling.specs.declared.side.Side.{Side}
@@ -17,25 +17,25 @@ use Rattle.section_coupling.specs.declared.pair.Pair.{Pair}
 use Rattle.section_coupling.specs.Views.{end_at, connection_at}
 
 -- timers are no part of it
-of-sides : (m n : ℕ) (this that : Side) → AreKept (end_at m this) (end_at m that) → AreKept (end_at n this) (end_at n that)
+of-sides : (m n : ℕ) (this that : Side) → AreInStep (end_at m this) (end_at m that) → AreInStep (end_at n this) (end_at n that)
 of-sides m n (side.Wire w) (side.Wire v) k = k
 of-sides m n (side.Wire w) (side.User o) k = k
 of-sides m n (side.User o) (side.Wire w) k = k
 of-sides m n (side.User o) (side.User p) k = k
 
-pub at-any : (m n : ℕ) (p : Pair) → IsKept (connection_at m p) → IsKept (connection_at n p)
+pub at-any : (m n : ℕ) (p : Pair) → IsInStep (connection_at m p) → IsInStep (connection_at n p)
 at-any m n p k = of-sides m n p.this p.that k
 
 -- it is kept by each step
-pub kept-after : (ticks : Ticks) (now later : ℕ) (event : Event) (p q : Pair) (outs : List Output) → IsKept (connection_at 0 p)
-    → connection_step ticks (connection_at now p) event ≡ (connection_at later q, outs) → IsKept (connection_at 0 q)
+pub kept-after : (ticks : Ticks) (now later : ℕ) (event : Event) (p q : Pair) (outs : List Output) → IsInStep (connection_at 0 p)
+    → connection_step ticks (connection_at now p) event ≡ (connection_at later q, outs) → IsInStep (connection_at 0 q)
 kept-after ticks now later event p q outs k e =
-    at-any later 0 q (subst (λ r. IsKept r.0) e (step_keeps ticks (connection_at now p) event (at-any 0 now p k)))
+    at-any later 0 q (subst (λ r. IsInStep r.0) e (step_keeps ticks (connection_at now p) event (at-any 0 now p k)))
 
 -- in its two parts
-pub kept-step : (ticks : Ticks) (now later then : ℕ) (event : Event) (p q r : Pair) (outs more : List Output) → IsKept (connection_at 0 p) → then ≡ later
+pub kept-step : (ticks : Ticks) (now later then : ℕ) (event : Event) (p q r : Pair) (outs more : List Output) → IsInStep (connection_at 0 p) → then ≡ later
     → event_step ticks (connection_at now p) event ≡ (connection_at later q, outs) → after_event ticks (connection_at then q, outs) ≡ (connection_at then r, more)
-    → IsKept (connection_at 0 r)
+    → IsInStep (connection_at 0 r)
 unfolding connection_step
 kept-step ticks now later then event p q r outs more k same e f =
     kept-after ticks now later event p r more k
@@ -43,7 +43,7 @@ kept-step ticks now later then event p q r outs more k same e f =
 
 -- and from the opening on
 pub kept-opened : (terms : Terms) (event : Event) (answer : Option Answer) (references : List ℕ) (now : ℕ) (pair : Option Pair) (p : Pair) (outs : List Output) → terms.credit ≤ 127
-    → opened terms (wish_of terms event) answer references ≡ record { connection = option_map (connection_at now) pair; outs = outs } → pair ≡ Some p → IsKept (connection_at 0 p)
+    → opened terms (wish_of terms event) answer references ≡ record { connection = option_map (connection_at now) pair; outs = outs } → pair ≡ Some p → IsInStep (connection_at 0 p)
 kept-opened terms event answer references now pair p outs fits e same =
     at-any now 0 p
     (opening_keeps terms event answer references (connection_at now p) fits (ap (λ o. o.connection) e ∙ ap (option_map (connection_at now)) same))

@@ -10,19 +10,19 @@ use Rattle.plant_core.specs.Rewriting.{called_onward}
 use Rattle.plant_core.proofs.AddressLengths.{length-called_onward}
 use Rattle.section_model.specs.Line.{credit_of}
 use Rattle.section_model.specs.Lengths.{IsAddress, IsData}
-use Rattle.section_model.specs.Opening.{Wanted, by_cr, onward, fits, refused, not_opened, opened_onward, opened_by_cr, opened, slots_needed}
+use Rattle.section_model.specs.Opening.{Wanted, by_cr, onward, fits, cref_to, not_opened, opened_onward, opened_by_cr, opened, slots_needed}
 use Rattle.section_model.proofs.InRanges.{cr-in_range}
 
 -- CR that doesn't fit, one for which too few references are free, and one that goes on
 pub onward-unfit : (terms : Terms) (w : Wanted) (point : ℕ) (rewrite : Rewrite) (hop : Option ℕ) (refs : List ℕ) → fits w rewrite hop ≡ false
-    → opened_by_cr terms w (Forward point rewrite hop) refs ≡ not_opened (refused w 0x0F ∷ [])
+    → opened_by_cr terms w (Forward point rewrite hop) refs ≡ not_opened (cref_to w 0x0F ∷ [])
 unfolding opened_by_cr
 onward-unfit terms w point rewrite hop [] e = rw e refl
 onward-unfit terms w point rewrite hop (mine ∷ []) e = rw e refl
 onward-unfit terms w point rewrite hop (mine ∷ next ∷ refs) e = rw e refl
 
 pub onward-few : (terms : Terms) (w : Wanted) (point : ℕ) (rewrite : Rewrite) (hop : Option ℕ) (refs : List ℕ) → fits w rewrite hop ≡ true → length refs < 2
-    → opened_by_cr terms w (Forward point rewrite hop) refs ≡ not_opened (refused w 0x07 ∷ [])
+    → opened_by_cr terms w (Forward point rewrite hop) refs ≡ not_opened (cref_to w 0x07 ∷ [])
 unfolding opened_by_cr
 onward-few terms w point rewrite hop [] e few = rw e refl
 onward-few terms w point rewrite hop (mine ∷ []) e few = rw e refl
@@ -42,7 +42,7 @@ onward-found terms w point rewrite hop refs mine next f enough e g =
     (subst (λ n. opened_by_cr terms w (Forward point rewrite hop) refs ≡ opened_onward terms w point rewrite hop (get_or refs 0 mine) n) (sym g) (onward-enough terms w point rewrite hop refs mine next f enough))
 
 pub local-none : (terms : Terms) (w : Wanted) (answer : Answer) (ssn : ℕ) (refs : List ℕ) → answer ≡ Local ssn → None ≡ slice_get refs 0
-    → opened_by_cr terms w answer refs ≡ not_opened (refused w 0x07 ∷ [])
+    → opened_by_cr terms w answer refs ≡ not_opened (cref_to w 0x07 ∷ [])
 unfolding opened_by_cr
 local-none terms w answer ssn [] e f = rw e refl
 local-none terms w answer ssn (mine ∷ refs) e f = absurd (cc)
@@ -54,7 +54,7 @@ user-in_range w rewrite hop mine called calling body =
     cr-in_range mine w.class (called_onward rewrite w.called) (credit_of w.class w.credit) w.calling w.body hop w.importance short calling body
 
 -- a CR of which routing wasn't asked
-pub unasked : (terms : Terms) (w : Wanted) (a : Option Answer) (refs : List ℕ) → is_some a ≡ false → opened terms (by_cr w) a refs ≡ not_opened (refused w 0x0F ∷ [])
+pub unasked : (terms : Terms) (w : Wanted) (a : Option Answer) (refs : List ℕ) → is_some a ≡ false → opened terms (by_cr w) a refs ≡ not_opened (cref_to w 0x0F ∷ [])
 unfolding opened
 unasked terms w None refs e = refl
 unasked terms w (Some answer) refs e = absurd (cc)

@@ -17,7 +17,7 @@ use Rattle.section_model.specs.UserEnd.{user_takes}
 use Rattle.section_model.specs.Coupling.{exchange, settles}
 use Rattle.section_model.specs.Step.{on_windows, on_each, event_step, after_event}
 use Rattle.section_model.specs.Opening.{Wanted, Wish, by_cr, by_user, no_wish, wish_of, fits, Opened, opened_by_cr, opened_by_user, opened}
-use Rattle.flow_law.specs.Kept.{AreKept, IsKept}
+use Rattle.flow_law.specs.InStep.{AreInStep, IsInStep}
 use Rattle.flow_law.proofs.Ends.{kept_back}
 use Rattle.flow_law.proofs.Flowing.{either}
 use Rattle.flow_law.proofs.Leaving.{after_leaving, leaves_kept, on_windows_kept}
@@ -70,7 +70,7 @@ unfolding exchange
 told_if true ticks x that outs units is_expedited d = told ticks x that outs units is_expedited d
 told_if false ticks x that outs units is_expedited d = (d, λ e. e)
 
-leaving : (ticks : Ticks) (this that : End) → AreKept this that → Drains (on_windows ticks leaves this that).0 that
+leaving : (ticks : Ticks) (this that : End) → AreInStep this that → Drains (on_windows ticks leaves this that).0 that
 unfolding leaves
 leaving ticks (owner u) that k = (tt, λ e. e)
 leaving ticks (wire x) that k =
@@ -103,8 +103,8 @@ acknowledging ticks (wire x) that =
 -- On one end, and then on the other.
 
 each_drains : (part : End → End → Connection × List Output)
-    → ((this that : End) → AreKept this that → Drains (part this that).0 that) → ((this that : End) → AreKept this that → IsKept (part this that).0)
-    → (r : Connection × List Output) → IsKept r.0 → EndDrained (on_each part r).0.this × EndDrained (on_each part r).0.that
+    → ((this that : End) → AreInStep this that → Drains (part this that).0 that) → ((this that : End) → AreInStep this that → IsInStep (part this that).0)
+    → (r : Connection × List Output) → IsInStep r.0 → EndDrained (on_each part r).0.this × EndDrained (on_each part r).0.that
 each_drains part drains keeps r k =
     let one = (part r.0.this r.0.that).0 in
     let first = drains r.0.this r.0.that k in
@@ -118,7 +118,7 @@ each_tells part tell r this that =
     let second = tell one.that one.this in
     (subst EndRests (sym second.1) (first.0 this), second.0 (subst EndDrained (sym first.1) that))
 
-after_event_rests : (ticks : Ticks) (r : Connection × List Output) → IsKept r.0 → Rests (after_event ticks r).0
+after_event_rests : (ticks : Ticks) (r : Connection × List Output) → IsInStep r.0 → Rests (after_event ticks r).0
 unfolding after_event
 after_event_rests ticks r k =
     let left = each_drains (on_windows ticks leaves) (leaving ticks) (on_windows_kept ticks leaves (leaves_kept ticks)) r k in
@@ -134,11 +134,11 @@ pub rests_at_any : (m n : ℕ) (p : Pair) → Rests (connection_at m p) → Rest
 rests_at_any m n p k = (side_at_any m n p.this k.0, side_at_any m n p.that k.1)
 
 -- after a step in its two parts
-pub rests_step : (ticks : Ticks) (now later taken : ℕ) (event : Event) (p q r : Pair) (outs more : List Output) → IsKept (connection_at 0 p)
+pub rests_step : (ticks : Ticks) (now later taken : ℕ) (event : Event) (p q r : Pair) (outs more : List Output) → IsInStep (connection_at 0 p)
     → event_step ticks (connection_at now p) event ≡ (connection_at later q, outs) → after_event ticks (connection_at taken q, outs) ≡ (connection_at taken r, more)
     → Rests (connection_at 0 r)
 rests_step ticks now later taken event p q r outs more k e f =
-    let kept = subst (λ s. IsKept s.0) e (event_kept ticks event (connection_at now p) (at-any 0 now p k)) in
+    let kept = subst (λ s. IsInStep s.0) e (event_kept ticks event (connection_at now p) (at-any 0 now p k)) in
     rests_at_any taken 0 r (subst (λ s. Rests s.0) f (after_event_rests ticks (connection_at taken q, outs) (at-any later taken q kept)))
 
 -- A connection that is opened rests, since no section of it is up.

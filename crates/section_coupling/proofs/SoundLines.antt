@@ -16,13 +16,13 @@ use Rattle.relay_base.specs.declared.words.Output.{Output}
 use Rattle.section_model.specs.declared.cell.SectionState.{SectionState}
 use Rattle.section_model.specs.declared.cell.SectionState.TheVariants.{Up, Gone}
 use Rattle.section_model.specs.Ends.{Line, no_effect, gives_then, is_up, is_connected}
-use Rattle.section_model.specs.Line.{granted, agreed, reached, released, in_state, line_hears, line_fires, line_takes, confirmed, failed, tested, accepted, refused, ended, ended_early, passed}
-use Rattle.section_model.specs.Acting.{line_hears_arrival, line_hears_event, line_acts}
+use Rattle.section_model.specs.Line.{granted, agreed, reached, released, in_state, line_hears, line_fires, line_takes, confirms, hears_error, hears_test, passes_accept, passes_refuse, passes_end, keeps_end, passes_unit}
+use Rattle.section_model.specs.Views.{section_of}
 use Rattle.section_model.specs.declared.wire.WireHead.{WireHead}
-use Rattle.section_model.specs.Ends.{section_of, cleared}
+use Rattle.section_model.specs.Ends.{cleared}
 use Rattle.section_model.specs.Lengths.{WindowsWithin}
 use Rattle.section_class2.specs.declared.line.Line.{Line as CodeLine}
-use Rattle.section_class2.specs.Lines.{line_of}
+use Rattle.section_class2.specs.Lines.{line_of, line_hears_arrival, line_hears_event, line_acts}
 use Rattle.section_class3.specs.Windows.{WindowsState}
 use Rattle.section_coupling.specs.Sound.{IsCredit, IsGranted, AreGranted, IsGrantedInput}
 use Rattle.section_coupling.specs.Acts.{SetsUpOnce, windows_begun}
@@ -63,17 +63,17 @@ pub agreed-credit : (b : Bool) (credit most : ℕ) → IsCredit most → IsCredi
 agreed-credit true credit most h = granted-most credit most h
 agreed-credit false credit most h = omega arith
 
-confirmed-granted : (point : ℕ) (m : Parameters) (x : Line) → IsCredit x.head.credit → is_connected x.head.state ≡ false → GrantedLine x.head.state x.head.credit (confirmed point m x)
+confirmed-granted : (point : ℕ) (m : Parameters) (x : Line) → IsCredit x.head.credit → is_connected x.head.state ≡ false → GrantedLine x.head.state x.head.credit (confirms point m x)
 confirmed-granted point m x h n =
     let credit : IsCredit (agreed x.head m) = agreed-credit (m.class == 3) _ x.head.credit h in
     either x.head.state x.head.credit _ _ _
     (opens x.head.state x.head.credit (reached point m.slr x) m.class (agreed x.head m) _ _ _ n credit)
     (refuses x.head.state (released 0x05 None None (reached point m.slr x)) _ h)
 
-failed-granted : (m : Parameters) (x : Line) → IsCredit x.head.credit → GrantedLine x.head.state x.head.credit (failed m x)
+failed-granted : (m : Parameters) (x : Line) → IsCredit x.head.credit → GrantedLine x.head.state x.head.credit (hears_error m x)
 failed-granted m x h = either x.head.state x.head.credit _ _ _ (ends x.head.state (released 0x0F None None x) _ 0x0F h) (ends x.head.state (in_state Gone x) [] 0x0F h)
 
-tested-granted : (m : Parameters) (x : Line) → IsCredit x.head.credit → GrantedLine x.head.state x.head.credit (tested m x)
+tested-granted : (m : Parameters) (x : Line) → IsCredit x.head.credit → GrantedLine x.head.state x.head.credit (hears_test m x)
 tested-granted m x h = either x.head.state x.head.credit _ _ _ (keeps x.head.state x no_effect h tt tt) (ends x.head.state (released 0x05 None None x) _ 0x05 h)
 
 hears-granted : (c : Cell) (point : ℕ) (m : Parameters) (x : Line) → IsCredit x.head.credit → SetsUpOnce c x.head.state → GrantedLine x.head.state x.head.credit (line_hears c point m x)
@@ -101,23 +101,23 @@ fires-granted cell.RepeatRelease x h = record { credit = h; stays = λ e. refl; 
 fires-granted cell.Free x h = record { credit = h; stays = λ e. refl; first = tt; then_ = tt }
 fires-granted _ x h = record { credit = h; stays = λ e. refl; first = tt; then_ = tt }
 
-accepted-granted : (hand : Hand) (x : Line) → IsGranted hand → IsCredit x.head.credit → is_connected x.head.state ≡ false → GrantedLine x.head.state x.head.credit (accepted hand x)
+accepted-granted : (hand : Hand) (x : Line) → IsGranted hand → IsCredit x.head.credit → is_connected x.head.state ≡ false → GrantedLine x.head.state x.head.credit (passes_accept hand x)
 accepted-granted (hand.Accept class credit called body importance) x o h n = record { credit = o; stays = λ e. absurd (set-up x.head.state n e); first = tt; then_ = tt }
 accepted-granted _ x o h n = keeps x.head.state x no_effect h tt tt
 
-refused-granted : (hand : Hand) (x : Line) → IsCredit x.head.credit → GrantedLine x.head.state x.head.credit (refused hand x)
+refused-granted : (hand : Hand) (x : Line) → IsCredit x.head.credit → GrantedLine x.head.state x.head.credit (passes_refuse hand x)
 refused-granted (hand.Refuse cause called body importance) x h = record { credit = h; stays = λ e. refl; first = tt; then_ = tt }
 refused-granted _ x h = keeps x.head.state x no_effect h tt tt
 
-ended-granted : (hand : Hand) (x : Line) → IsCredit x.head.credit → GrantedLine x.head.state x.head.credit (ended hand x)
+ended-granted : (hand : Hand) (x : Line) → IsCredit x.head.credit → GrantedLine x.head.state x.head.credit (passes_end hand x)
 ended-granted (hand.End cause body importance) x h = record { credit = h; stays = λ e. refl; first = tt; then_ = tt }
 ended-granted _ x h = keeps x.head.state x no_effect h tt tt
 
-ended_early-granted : (hand : Hand) (x : Line) → IsCredit x.head.credit → GrantedLine x.head.state x.head.credit (ended_early hand x)
+ended_early-granted : (hand : Hand) (x : Line) → IsCredit x.head.credit → GrantedLine x.head.state x.head.credit (keeps_end hand x)
 ended_early-granted (hand.End cause body importance) x h = record { credit = h; stays = λ e. refl; first = tt; then_ = tt }
 ended_early-granted _ x h = keeps x.head.state x no_effect h tt tt
 
-passed-granted : (hand : Hand) (x : Line) → IsCredit x.head.credit → GrantedLine x.head.state x.head.credit (passed hand x)
+passed-granted : (hand : Hand) (x : Line) → IsCredit x.head.credit → GrantedLine x.head.state x.head.credit (passes_unit hand x)
 passed-granted (hand.Unit more body) x h = record { credit = h; stays = λ e. refl; first = tt; then_ = tt }
 passed-granted _ x h = keeps x.head.state x no_effect h tt tt
 

@@ -14,9 +14,8 @@ use Rattle.section_model.specs.declared.hand.Hand.{Hand}
 use Rattle.section_model.specs.declared.hand.Hand.TheVariants as hand
 use Rattle.section_model.specs.declared.hand.Unit.{Unit as DataUnit}
 use Rattle.section_model.specs.Ends.{User, no_effect, gives_then}
-use Rattle.section_model.specs.UserEnd.{user_asks, user_takes, accepts, refuses, sends, expedites, disconnects, units_of, handed, confirmed, disconnected, collects, hears_expedited, hears_reset, left, taken}
-use Rattle.section_model.specs.Acting.{user_hears_event}
-use Rattle.section_user.specs.Side.{ActsAs, user_of, side_of}
+use Rattle.section_model.specs.UserEnd.{user_asks, user_takes, accepts, refuses, sends, expedites, disconnects, units_of, handed, tells_confirm, tells_disconnect, collects, tells_expedited, tells_reset, user_counts_left, taken}
+use Rattle.section_user.specs.Side.{ActsAs, user_of, user_side_of, user_hears_event}
 use Rattle.section_coupling.specs.declared.owner.Owner.{Owner}
 use Rattle.section_user.specs.declared.side.UserSide.{UserSide}
 use Rattle.section_coupling.specs.Sound.{IsCredit, IsGranted, AreGranted}
@@ -38,11 +37,11 @@ taken-granted : (b : Bool) (units : ℕ) (is_expedited : Bool) → AreGranted (i
 taken-granted true units is_expedited = (tt, tt)
 taken-granted false units is_expedited = tt
 
-confirmed-granted : (h : Hand) (u : User) → IsGranted h → IsCredit u.credit → GrantedUser (confirmed h u)
+confirmed-granted : (h : Hand) (u : User) → IsGranted h → IsCredit u.credit → GrantedUser (tells_confirm h u)
 confirmed-granted (hand.Accept class credit called body importance) u o h = record { credit = o; first = tt; then_ = tt }
 confirmed-granted _ u o h = still u h
 
-disconnected-granted : (h : Hand) (u : User) → IsCredit u.credit → GrantedUser (disconnected h u)
+disconnected-granted : (h : Hand) (u : User) → IsCredit u.credit → GrantedUser (tells_disconnect h u)
 disconnected-granted (hand.Refuse cause called body importance) u h = record { credit = h; first = tt; then_ = tt }
 disconnected-granted (hand.End cause body importance) u h = record { credit = h; first = tt; then_ = tt }
 disconnected-granted _ u h = still u h
@@ -58,15 +57,15 @@ collects-granted (hand.Unit more body) u h =
     either _ _ _ (overruns u _ h) (either _ _ _ (tells u (u.text ++ body) [] 1 false h) (tells u [] _ 1 false h))
 collects-granted _ u h = still u h
 
-expedited-granted : (h : Hand) (u : User) → IsCredit u.credit → GrantedUser (hears_expedited h u)
+expedited-granted : (h : Hand) (u : User) → IsCredit u.credit → GrantedUser (tells_expedited h u)
 expedited-granted (hand.Expedited body) u h = record { credit = h; first = tt; then_ = taken-granted (u.class == 3) 0 true }
 expedited-granted _ u h = still u h
 
-reset-granted : (h : Hand) (u : User) → IsCredit u.credit → GrantedUser (hears_reset h u)
+reset-granted : (h : Hand) (u : User) → IsCredit u.credit → GrantedUser (tells_reset h u)
 reset-granted (hand.Reset cause) u h = record { credit = h; first = tt; then_ = tt }
 reset-granted _ u h = still u h
 
-left-granted : (h : Hand) (u : User) → IsCredit u.credit → GrantedUser (left h u)
+left-granted : (h : Hand) (u : User) → IsCredit u.credit → GrantedUser (user_counts_left h u)
 left-granted (hand.Left units is_expedited) u h = record { credit = h; first = tt; then_ = tt }
 left-granted _ u h = still u h
 
@@ -126,11 +125,11 @@ pub user_acted : (act : User → User × Acted) (u v : UserSide) (got : List Dat
     → act (user_of u got passed) ≡ (user_of v (act (user_of u got passed)).0.got (act (user_of u got passed)).0.passed, acted)
 user_acted act u v got passed acted e = known (act (user_of u got passed)) (e got passed).0 (e got passed).1
   where
-    known : (r : User × Acted) → side_of r.0 ≡ v → r.1 ≡ acted → r ≡ (user_of v r.0.got r.0.passed, acted)
-    known r f g = subst (λ w. r ≡ (user_of w r.0.got r.0.passed, acted)) f (subst (λ a. r ≡ (user_of (side_of r.0) r.0.got r.0.passed, a)) g refl)
+    known : (r : User × Acted) → user_side_of r.0 ≡ v → r.1 ≡ acted → r ≡ (user_of v r.0.got r.0.passed, acted)
+    known r f g = subst (λ w. r ≡ (user_of w r.0.got r.0.passed, acted)) f (subst (λ a. r ≡ (user_of (user_side_of r.0) r.0.got r.0.passed, a)) g refl)
 
 -- and its credit and effects are granted
-pub acted_granted : (r : User × Acted) (v : UserSide) (acted : Acted) → GrantedUser r → side_of r.0 ≡ v → r.1 ≡ acted → IsCredit v.credit × AreGranted acted.first × AreGranted acted.then
+pub acted_granted : (r : User × Acted) (v : UserSide) (acted : Acted) → GrantedUser r → user_side_of r.0 ≡ v → r.1 ≡ acted → IsCredit v.credit × AreGranted acted.first × AreGranted acted.then
 acted_granted r v acted g e f =
     (subst (λ w. IsCredit w.credit) e g.credit, subst (λ a. AreGranted a.first) f g.first, subst (λ a. AreGranted a.then) f g.then_)
 

@@ -13,10 +13,9 @@ use Rattle.relay_base.specs.declared.words.Event.TheVariants.{Message as Arrived
 use Rattle.section_model.specs.Parameters.{Parameters, Arrival, arrival_in}
 use Rattle.relay_base.specs.declared.words.Output.{Output}
 use Rattle.section_model.specs.Ends.{Windows, no_effect, gives, gives_then}
-use Rattle.section_model.specs.Windowed.{Windowed, resets, wrong_number, windowed_hears, windowed_fires, windowed_takes, takes_data, takes_acknowledgement, takes_expedited, takes_answer, expedites, passes, passes_expedited, passes_reset, left, leaves, acknowledges}
-use Rattle.section_model.specs.Acting.{windows_act, windows_hear_arrival, windows_hear_event, windows_turn}
+use Rattle.section_model.specs.Windowed.{Windowed, resets, wrong_number, windowed_hears, windowed_fires, windowed_takes, takes_data, takes_acknowledgement, takes_expedited, takes_answer, sends_expedited, queues_unit, passes_expedited, passes_reset, counts_left, leaves, acknowledges}
 use Rattle.section_model.specs.declared.wire.WireHead.{WireHead}
-use Rattle.section_class3.specs.Windows.{WindowsState, windowed_of}
+use Rattle.section_class3.specs.Windows.{WindowsState, windowed_of, windows_act, windows_hear_arrival, windows_hear_event, windows_turn}
 use Rattle.section_coupling.specs.Sound.{AreGranted}
 
 pub record GrantedWindows (was : ℕ) (r : Windowed × Acted) : Type 0 where
@@ -52,7 +51,7 @@ acknowledgement-granted m x = either x.head.credit _ _ _ (with-windows x _ no_ef
 expedited-granted : (m : Parameters) (x : Windowed) → GrantedWindows x.head.credit (takes_expedited m x)
 expedited-granted m x = either x.head.credit _ _ _ (resets-granted 0x06 x) (with-windows x _ (gives_then [] (hand.Expedited m.data_octets ∷ [])) tt (tt, tt))
 
-expedites-granted : (body : Option (List ℕ)) (x : Windowed) → GrantedWindows x.head.credit (expedites body x)
+expedites-granted : (body : Option (List ℕ)) (x : Windowed) → GrantedWindows x.head.credit (sends_expedited body x)
 expedites-granted None x = still x
 expedites-granted (Some body) x = record { credit = refl; first = tt; then_ = (tt, tt) }
 
@@ -73,7 +72,7 @@ fires-granted : (x : Windowed) → GrantedWindows x.head.credit (windowed_fires 
 unfolding windowed_fires
 fires-granted x = record { credit = refl; first = tt; then_ = tt }
 
-passes-granted : (h : Hand) (x : Windowed) → GrantedWindows x.head.credit (passes h x)
+passes-granted : (h : Hand) (x : Windowed) → GrantedWindows x.head.credit (queues_unit h x)
 passes-granted (hand.Unit more body) x = record { credit = refl; first = tt; then_ = tt }
 passes-granted _ x = still x
 
@@ -85,7 +84,7 @@ passes_reset-granted : (h : Hand) (x : Windowed) → GrantedWindows x.head.credi
 passes_reset-granted (hand.Reset cause) x = record { credit = refl; first = tt; then_ = tt }
 passes_reset-granted _ x = still x
 
-left-granted : (h : Hand) (x : Windowed) → GrantedWindows x.head.credit (left h x)
+left-granted : (h : Hand) (x : Windowed) → GrantedWindows x.head.credit (counts_left h x)
 left-granted (hand.Left units false) x = record { credit = refl; first = tt; then_ = tt }
 left-granted (hand.Left units true) x = record { credit = refl; first = tt; then_ = tt }
 left-granted _ x = still x

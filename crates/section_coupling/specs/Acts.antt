@@ -1,16 +1,17 @@
 -- An act of a section: by its windows where the cell is one of class 3, else by its line.
 use Rattle.std.specs.Prelude.{◌≡◌, ◌&&◌, not, false, if◌then◌else◌}
 use Rattle.section_model.specs.declared.cell.Cell.{Cell}
+use Rattle.section_model.specs.Views.{section_of}
 use Rattle.section_model.specs.declared.cell.Cell.TheVariants as cell
 use Rattle.section_model.specs.declared.cell.SectionState.{SectionState}
 use Rattle.section_model.specs.declared.hand.Acted.{Acted}
 use Rattle.section_model.specs.declared.input.Input.{Input}
 use Rattle.section_model.specs.declared.wire.WireHead.{WireHead}
 use Rattle.plant_core.specs.declared.terms.Ticks.{Ticks}
-use Rattle.section_model.specs.Ends.{Section, End, section_of, cleared, is_up, is_connected}
-use Rattle.section_model.specs.Acting.{timed, by_line, by_windows, in_windows, line_acts, windows_act}
-use Rattle.section_class2.specs.Lines.{TakesDataOfDt1}
-use Rattle.section_class3.specs.Windows.{WindowsState, TakesItsData}
+use Rattle.section_model.specs.Ends.{Section, End, cleared, is_up, is_connected}
+use Rattle.section_model.specs.Acting.{timed, by_line, by_windows, in_windows}
+use Rattle.section_class2.specs.Lines.{TakesDataOfDt1, line_acts}
+use Rattle.section_class3.specs.Windows.{WindowsState, TakesItsData, windows_act}
 
 -- but for the timers
 abbrev pub untimed_acts : Cell → Input → Section → Section × Acted

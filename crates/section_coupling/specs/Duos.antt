@@ -7,7 +7,7 @@ use Rattle.section_model.specs.declared.cell.Timer.{Timer}
 use Rattle.section_model.specs.declared.cell.Timer.TheVariants.{Repeat}
 use Rattle.section_model.specs.Ends.{End, wire, owner, Connection}
 use Rattle.section_model.specs.Timing.{firing_order, timer_in}
-use Rattle.flow_law.specs.Kept.{IsKept}
+use Rattle.flow_law.specs.InStep.{IsInStep}
 use Rattle.section_coupling.specs.declared.pair.Pair.{Pair}
 use Rattle.section_coupling.specs.Sound.{SoundPair}
 use Rattle.section_coupling.specs.Resting.{Rests}
@@ -20,7 +20,7 @@ pub record DuoState : Type 0 where
 -- What holds of every connection: lengths and credits, what its two ends keep of windows, and that nothing is left that would leave; these
 -- two hang on no timer.
 abbrev pub HoldsAt : Pair → Type 0
-HoldsAt p = SoundPair p × IsKept (connection_at 0 p) × Rests (connection_at 0 p)
+HoldsAt p = SoundPair p × IsInStep (connection_at 0 p) × Rests (connection_at 0 p)
 
 -- the connection that it stands for after so many ticks
 abbrev pub duo_at : ℕ → DuoState → Connection

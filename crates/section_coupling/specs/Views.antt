@@ -1,6 +1,7 @@
 -- The connection that the code stands for, after so many ticks of its lane.
 use Rattle.std.specs.Prelude.{ℕ, ◌-◌, Option, option_map}
-use Rattle.section_model.specs.Ends.{Section, User, End, wire, owner, Connection, section_of, Timers as TicksLeft}
+use Rattle.section_model.specs.Ends.{Section, User, End, wire, owner, Connection, Timers as TicksLeft}
+use Rattle.section_model.specs.Views.{section_of}
 use Rattle.section_user.specs.Side.{user_of}
 use Rattle.section_coupling.specs.declared.timers.Timers.{Timers}
 use Rattle.section_coupling.specs.declared.wire.Wire.{Wire}

@@ -1,6 +1,6 @@
 //! What the ends of a connection hand to each other.
 ghost use Rattle.std.specs.Prelude.{◌≡◌, ◌≤◌, ◌++◌, IfOk, OnOk, fold};
-ghost use Rattle.section_model.specs.Coupling.{exchange, offered, settles};
+ghost use Rattle.section_model.specs.Coupling.{exchange, other_takes, settles};
 ghost use Rattle.section_coupling.specs.Views.{connection_at, end_at};
 ghost use Rattle.section_coupling.specs.Sound.{SoundActed, SoundPair, SoundSide, SoundHands};
 
@@ -37,7 +37,7 @@ fn offer(
     requires clock { clock.now.taken ≤ 4_294_967_296 }
     requires pair { SoundPair pair }
     requires hands { SoundHands hands.now }
-    ensures offered { IfOk result (λ r. fold (offered (exchange turns clock.now.ticks) clock.now.ticks) (connection_at clock.now.taken pair, outs) hands.now ≡ (connection_at clock.now.taken r.0, r.1)) }
+    ensures offered { IfOk result (λ r. fold (other_takes (exchange turns clock.now.ticks) clock.now.ticks) (connection_at clock.now.taken pair, outs) hands.now ≡ (connection_at clock.now.taken r.0, r.1)) }
     ensures sound { IfOk result (λ r. SoundPair r.0) }
 {
     let mut pair = pair;

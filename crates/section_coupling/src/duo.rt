@@ -8,7 +8,7 @@ ghost use Rattle.section_coupling.specs.Openings.{IsAnswered};
 ghost use Rattle.section_model.specs.Parameters.{arrival_in};
 ghost use Rattle.section_coupling.specs.Views.{connection_at, left_at};
 ghost use Rattle.section_coupling.specs.Sound.{IsCredit, SoundPair};
-ghost use Rattle.flow_law.specs.Kept.{IsKept};
+ghost use Rattle.flow_law.specs.InStep.{IsInStep};
 ghost use Rattle.flow_law.specs.FlowLaw.{FlowKept};
 ghost use Rattle.relay_base.specs.declared.words.Event.TheVariants.{Tick};
 ghost use Rattle.section_coupling.specs.Duos.{duo_at, taken_after, side_of, ticks_left, fewest_left};

@@ -1,8 +1,9 @@
 //! What follows each event in class 3 (Q.714, flow control and expedited data transfer): what waits leaves, and what left is
 //! acknowledged.
 ghost use Rattle.std.specs.Prelude.{◌≡◌, ◌≤◌, ◌==◌, ◌&&◌, IfOk};
-ghost use Rattle.section_model.specs.Ends.{section_of, is_up, wire as end};
-ghost use Rattle.section_model.specs.Acting.{windows_turn};
+ghost use Rattle.section_model.specs.Ends.{is_up, wire as end};
+ghost use Rattle.section_class3.specs.Windows.{windows_turn};
+ghost use Rattle.section_model.specs.Views.{section_of};
 ghost use Rattle.section_model.specs.Step.{on_windows, on_each, after_event};
 ghost use Rattle.section_coupling.specs.Views.{section_at, end_at, connection_at};
 ghost use Rattle.section_coupling.specs.Sound.{SoundWire, SoundSide, SoundPair};

@@ -2,9 +2,9 @@
 ghost use Rattle.std.specs.Prelude.{◌≡◌, ◌≤◌, ℕ, Some, IfOk};
 ghost use Rattle.std.specs.Option.{option_map};
 ghost use Rattle.relay_base.specs.declared.words.Event.TheVariants.{Message as Arrived};
-ghost use Rattle.section_model.specs.Ends.{section_of, wire};
+ghost use Rattle.section_model.specs.Ends.{wire};
 ghost use Rattle.section_model.specs.Parameters.{arrival_in};
-ghost use Rattle.section_model.specs.Views.{seen_arrival, seen_parameters};
+ghost use Rattle.section_model.specs.Views.{seen_arrival, seen_parameters, section_of};
 ghost use Rattle.section_model.specs.Step.{names_both, ends_both, names_another, is_of_class_2, is_of_class_3, is_of_other_class, checked, hears_checked, hears_message, is_from_elsewhere, in_touch, keeps, is_named, at_this, heard_by};
 ghost use Rattle.section_coupling.specs.Arrived.{arrived_in};
 ghost use Rattle.section_coupling.specs.Views.{section_at, end_at, connection_at};

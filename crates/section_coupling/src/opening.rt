@@ -8,9 +8,9 @@ ghost use Rattle.plant_core.specs.declared.answer.Answer.TheVariants.{Forward};
 ghost use Rattle.plant_core.specs.Causes.{refusal_code};
 ghost use Rattle.scmg_messages.specs.Messages.{status_outputs};
 ghost use Rattle.plant_core.specs.Rewriting.{called_onward};
-ghost use Rattle.section_model.specs.Ends.{section_of};
+ghost use Rattle.section_model.specs.Views.{section_of};
 ghost use Rattle.section_model.specs.Line.{credit_of};
-ghost use Rattle.section_model.specs.Opening.{wish_of, offered, fits, by_cr, by_user, new_section, new_user, asked_section, asking_section, onward, refused, not_opened, opened_locally, opened_onward, opened_by_cr, opened_out, opened_by_user, opened};
+ghost use Rattle.section_model.specs.Opening.{wish_of, offered, fits, by_cr, by_user, new_section, new_user, asked_section, asking_section, onward, cref_to, not_opened, opened_locally, opened_onward, opened_by_cr, opened_out, opened_by_user, opened};
 ghost use Rattle.section_coupling.specs.Openings.{seen_calling, seen_wanted, seen_incoming, seen_outgoing, opened_at, IsGivenWithin, OpensSound};
 ghost use Rattle.section_coupling.specs.Sound.{IsCredit, SoundSide, SoundPair};
 ghost use Rattle.section_coupling.specs.Views.{end_at, connection_at};
@@ -30,7 +30,7 @@ use relay_base::{BoxedOctets, Event, Memory, Octets, Output, Outs, Pc, Ref24, Ss
 use scmg_messages::put_status;
 use section_class2::Line;
 use section_class3::Windows;
-use section_grid::{Kept, SectionState, UserState, WireHead};
+use section_grid::{KeptRelease, SectionState, UserState, WireHead};
 use section_user::UserSide;
 use std::alloc::Global;
 
@@ -74,7 +74,7 @@ fn new_wire(alloc: Global, terms: &Terms, now: u64, head: WireHead) -> Side
     Side::Wire(Wire {
         head,
         line: Line {
-            kept: Kept::cause(0),
+            kept: KeptRelease::with_cause(0),
         },
         windows: Windows::new(alloc, head.credit),
         timers: Timers::none().entered(&clock, state),
@@ -225,7 +225,7 @@ fn single(alloc: Global, output: Output) -> Result<Outs, Memory>
 
 /// CREF to where CR came from.
 fn refused(alloc: Global, incoming: &Incoming<'_>, cause: u8) -> Result<Outs, Memory>
-    ensures { IfOk result (λ outs. (terms : Terms) → outs ≡ refused (seen_incoming terms incoming.now) cause ∷ []) }
+    ensures { IfOk result (λ outs. (terms : Terms) → outs ≡ cref_to (seen_incoming terms incoming.now) cause ∷ []) }
 {
     let message = Message::Cref {
         dlr: incoming.slr,
@@ -249,7 +249,7 @@ impl Opening {
 
     /// CR is refused.
     fn refused(alloc: Global, incoming: &Incoming<'_>, cause: u8) -> Result<Opening, Memory>
-        ensures value { IfOk result (λ o. (now : ℕ) (terms : Terms) → opened_at now o ≡ not_opened (refused (seen_incoming terms incoming.now) cause ∷ [])) }
+        ensures value { IfOk result (λ o. (now : ℕ) (terms : Terms) → opened_at now o ≡ not_opened (cref_to (seen_incoming terms incoming.now) cause ∷ [])) }
         ensures sound { IfOk result OpensSound }
     {
         Ok(Opening::none(refused(alloc, incoming, cause)?))
@@ -373,7 +373,7 @@ fn unrouted(
     cause: RouteCause,
     local: Option<Ssn>,
 ) -> Result<Opening, Memory>
-    ensures value { IfOk result (λ o. (now : ℕ) → opened_at now o ≡ not_opened (refused (seen_incoming terms.now incoming.now) (refusal_code cause) ∷ status_outputs terms.now.own incoming.now.point incoming.now.wanted.sls local)) }
+    ensures value { IfOk result (λ o. (now : ℕ) → opened_at now o ≡ not_opened (cref_to (seen_incoming terms.now incoming.now) (refusal_code cause) ∷ status_outputs terms.now.own incoming.now.point incoming.now.wanted.sls local)) }
     ensures sound { IfOk result OpensSound }
 {
     let mut outs = refused(alloc, incoming, refusal_cause(cause))?;

@@ -1,9 +1,8 @@
 //! A user's end of a connection, with what clauses count of it.
 ghost use Rattle.std.specs.Prelude.{◌≡◌, [], IfOk};
-ghost use Rattle.section_model.specs.Acting.{user_hears_event};
 ghost use Rattle.section_model.specs.UserEnd.{user_takes};
 ghost use Rattle.section_user.specs.Lengths.{IsRequestInRange};
-ghost use Rattle.section_user.specs.Side.{user_of};
+ghost use Rattle.section_user.specs.Side.{user_of, user_hears_event};
 ghost use Rattle.section_coupling.specs.Views.{user_at};
 ghost use Rattle.section_coupling.specs.Sound.{SoundOwner, IsGranted, SoundActed};
 

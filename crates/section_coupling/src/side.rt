@@ -1,7 +1,8 @@
 //! An end of a connection.
 ghost use Rattle.std.specs.Prelude.{◌≡◌, ◌≤◌, IfOk, ℕ};
 ghost use Rattle.section_model.specs.Acting.{end_takes, section_takes, section_takes_by, user_takes_by};
-ghost use Rattle.section_model.specs.Ends.{section_of, owner};
+ghost use Rattle.section_model.specs.Views.{section_of};
+ghost use Rattle.section_model.specs.Ends.{owner};
 ghost use Rattle.section_model.specs.UserEnd.{user_takes};
 ghost use Rattle.section_model.specs.Lane.{reference_of};
 ghost use Rattle.section_model.specs.Step.{end_is_gone, is_named};

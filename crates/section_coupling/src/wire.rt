@@ -1,8 +1,11 @@
 //! A connection section with its timers.
 ghost use Rattle.std.specs.Prelude.{◌≡◌, ◌≤◌, ℕ, IfOk};
 ghost use Rattle.std.specs.List.{list_any};
-ghost use Rattle.section_model.specs.Ends.{wire, section_of, is_connected};
-ghost use Rattle.section_model.specs.Acting.{is_sent, is_windowed, is_by_class, in_windows, by_line, by_windows, line_acts, windows_act, timed};
+ghost use Rattle.section_model.specs.Ends.{wire, is_connected};
+ghost use Rattle.section_class3.specs.Windows.{windows_act};
+ghost use Rattle.section_class2.specs.Lines.{line_acts};
+ghost use Rattle.section_model.specs.Views.{section_of};
+ghost use Rattle.section_model.specs.Acting.{is_sent, is_windowed, is_by_class, in_windows, by_line, by_windows, timed};
 ghost use Rattle.section_model.specs.Timing.{timers_after};
 ghost use Rattle.section_model.specs.declared.input.Input.TheVariants as input;
 ghost use Rattle.section_coupling.specs.Views.{section_at, timers_at};

@@ -34,8 +34,8 @@ abbrev pub no_counts : Counts
 no_counts = record { got = []; passed = 0; told = 0; sent = 0; acked = 0 }
 
 -- The counts begin, or begin again, with the credit that was agreed on.
-abbrev pub begun : ℕ → ℕ → FlowState
-begun credit room = record { agreed = credit; credit = credit; counts = no_counts; waits = []; room = room }
+abbrev pub cleared_flow : ℕ → ℕ → FlowState
+cleared_flow credit room = record { agreed = credit; credit = credit; counts = no_counts; waits = []; room = room }
 
 -- Why a unit with P(S) and P(R) isn't accepted, as the cause of the reset: another P(S) is expected, the window is used up, or P(R)
 -- isn't valid.

@@ -1,7 +1,7 @@
 //! The flow control of a section.
 ghost use Rattle.std.specs.Prelude.{◌≡◌, true, false, ◌≤◌, ◌<◌, ◌+◌, ◌-◌, ◌%◌, ◌++◌, [], ◌∷◌, Some, None, drop, length, min, suc, IfOk, IfErr, IfSome, IfNone, OnOk, OnErr};
 ghost use Rattle.section_model.specs.Windowed.{ahead, is_valid, may_leave};
-ghost use Rattle.section_flow.specs.Flow.{begun, no_counts, windows_of, wrong_number, unit_refusal, counts_after_unit, counts_after_acknowledgement, counts_after_sending, counts_after_leaving, counts_after_telling, due_of, IsWithinWindows};
+ghost use Rattle.section_flow.specs.Flow.{cleared_flow, no_counts, windows_of, wrong_number, unit_refusal, counts_after_unit, counts_after_acknowledgement, counts_after_sending, counts_after_leaving, counts_after_telling, due_of, IsWithinWindows};
 
 use crate::counts::{Counts, Remainders};
 use mark::Mark;
@@ -100,7 +100,7 @@ impl Flow {
     /// The flow control of a section that agreed on a credit (0 to 127): all counts are 0, and nothing waits.
     pub fn new(alloc: Global, credit: u8) -> Flow
         requires { credit ≤ 127 }
-        ensures { result ≡ begun credit result.room }
+        ensures { result ≡ cleared_flow credit result.room }
     {
         Flow {
             agreed: credit,
@@ -298,7 +298,7 @@ impl Flow {
 
     /// All counts are 0 again, the credit is the one agreed on, and nothing waits.
     pub fn clear(&mut self)
-        ensures { self.new ≡ begun self.old.agreed (self.old.room + length self.old.waits) }
+        ensures { self.new ≡ cleared_flow self.old.agreed (self.old.room + length self.old.waits) }
     {
         self.credit = self.agreed;
         self.held = Remainders::none();

@@ -8,7 +8,7 @@ mod user_table;
 
 pub use grid::Grid;
 pub use section_model::{
-    Acted, Cell, Hand, HandList, Input, Kept, Occasion, SectionState, Timer, Unit, UserOccasion,
+    Acted, Cell, Hand, HandList, Input, KeptRelease, Occasion, SectionState, Timer, Unit, UserOccasion,
     UserState, WireHead,
 };
 pub use section_table::{section_cell, wire_grid};

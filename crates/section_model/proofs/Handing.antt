@@ -5,13 +5,13 @@ use Rattle.section_model.specs.declared.cell.Cell.TheVariants as cell
 use Rattle.section_model.specs.declared.hand.Hand.{Hand}
 use Rattle.section_model.specs.declared.hand.Hand.TheVariants as hand
 use Rattle.section_model.specs.Ends.{Line, Section, User, End, wire, owner, Acted, Ticks, is_up, no_effect, gives_then}
-use Rattle.section_model.specs.Line.{line_takes, accepted, refused, ended, ended_early, passed}
-use Rattle.section_model.specs.Windowed.{Windowed, windowed_takes, passes, passes_expedited, passes_reset, left, expedites}
-use Rattle.section_model.specs.UserEnd.{user_takes, confirmed, disconnected, collects, hears_expedited, hears_reset, left as left_user, told}
+use Rattle.section_model.specs.Line.{line_takes, passes_accept, passes_refuse, passes_end, keeps_end, passes_unit}
+use Rattle.section_model.specs.Windowed.{Windowed, windowed_takes, queues_unit, passes_expedited, passes_reset, counts_left, sends_expedited}
+use Rattle.section_model.specs.UserEnd.{user_takes, tells_confirm, tells_disconnect, collects, tells_expedited, tells_reset, user_counts_left as left_user, output_to}
 use Rattle.section_model.specs.declared.cell.UserState.TheVariants.{Gone}
 use Rattle.relay_base.specs.declared.words.Tell.TheVariants as tell
 use Rattle.section_model.specs.Acting.{section_takes, section_takes_by, user_takes_by, in_windows, by_line, by_windows, end_takes}
-use Rattle.section_model.specs.Coupling.{IsAnswer, AreAnswers, hands_of, NoHandIsLost}
+use Rattle.section_model.specs.Laws.{IsAnswer, AreAnswers, hands_of, NoHandIsLost}
 
 answers_either : {X : Type 0} (b : Bool) (r s : X × Acted) → AreAnswers (hands_of r.1) → AreAnswers (hands_of s.1) → AreAnswers (hands_of (if b then r else s).1)
 answers_either true r s f g = f
@@ -26,27 +26,27 @@ line_hands : (c : Cell) (h : Hand) (x : Line) → hands_of (line_takes c h x).1 
 unfolding line_takes
 line_hands cell.PassAccept h x = accepts h
   where
-    accepts : (h : Hand) → hands_of (accepted h x).1 ≡ []
+    accepts : (h : Hand) → hands_of (passes_accept h x).1 ≡ []
     accepts (hand.Accept class credit called body importance) = refl
     accepts _ = refl
 line_hands cell.PassRefuse h x = refuses h
   where
-    refuses : (h : Hand) → hands_of (refused h x).1 ≡ []
+    refuses : (h : Hand) → hands_of (passes_refuse h x).1 ≡ []
     refuses (hand.Refuse cause called body importance) = refl
     refuses _ = refl
 line_hands cell.PassEnd h x = ends h
   where
-    ends : (h : Hand) → hands_of (ended h x).1 ≡ []
+    ends : (h : Hand) → hands_of (passes_end h x).1 ≡ []
     ends (hand.End cause body importance) = refl
     ends _ = refl
 line_hands cell.KeepEnd h x = ends h
   where
-    ends : (h : Hand) → hands_of (ended_early h x).1 ≡ []
+    ends : (h : Hand) → hands_of (keeps_end h x).1 ≡ []
     ends (hand.End cause body importance) = refl
     ends _ = refl
 line_hands cell.PassUnit h x = takes h
   where
-    takes : (h : Hand) → hands_of (passed h x).1 ≡ []
+    takes : (h : Hand) → hands_of (passes_unit h x).1 ≡ []
     takes (hand.Unit more body) = refl
     takes _ = refl
 line_hands _ h x = refl
@@ -56,13 +56,13 @@ windowed_answers : (c : Cell) (h : Hand) (x : Windowed) → AreAnswers (hands_of
 unfolding windowed_takes
 windowed_answers cell.PassUnit h x = takes h
   where
-    takes : (h : Hand) → AreAnswers (hands_of (passes h x).1)
+    takes : (h : Hand) → AreAnswers (hands_of (queues_unit h x).1)
     takes (hand.Unit more body) = tt
     takes _ = tt
 windowed_answers cell.PassExpedited h x = takes h
   where
     takes : (h : Hand) → AreAnswers (hands_of (passes_expedited h x).1)
-    takes (hand.Expedited body) = answers_either (is_up x.head.state && not x.windows.unanswered) (expedites (Some body) x) (record x { windows = record x.windows { waiting = Some body } }, no_effect) (tt, tt) tt
+    takes (hand.Expedited body) = answers_either (is_up x.head.state && not x.windows.unanswered) (sends_expedited (Some body) x) (record x { windows = record x.windows { waiting = Some body } }, no_effect) (tt, tt) tt
     takes _ = tt
 windowed_answers cell.PassReset h x = takes h
   where
@@ -71,7 +71,7 @@ windowed_answers cell.PassReset h x = takes h
     takes _ = tt
 windowed_answers cell.Left h x = takes h
   where
-    takes : (h : Hand) → AreAnswers (hands_of (left h x).1)
+    takes : (h : Hand) → AreAnswers (hands_of (counts_left h x).1)
     takes (hand.Left units true) = tt
     takes (hand.Left units false) = tt
     takes _ = tt
@@ -82,7 +82,7 @@ windowed_ends : (c : Cell) (h : Hand) (x : Windowed) → IsAnswer h → hands_of
 unfolding windowed_takes
 windowed_ends cell.PassUnit h x a = absurd_answer h x a
   where
-    absurd_answer : (h : Hand) (x : Windowed) → IsAnswer h → hands_of (passes h x).1 ≡ []
+    absurd_answer : (h : Hand) (x : Windowed) → IsAnswer h → hands_of (queues_unit h x).1 ≡ []
     absurd_answer (hand.Unit more body) x a = refl
     absurd_answer _ x a = refl
 windowed_ends cell.PassExpedited h x a = other h a
@@ -97,7 +97,7 @@ windowed_ends cell.PassReset h x a = other h
     other _ = refl
 windowed_ends cell.Left h x a = other h
   where
-    other : (h : Hand) → hands_of (left h x).1 ≡ []
+    other : (h : Hand) → hands_of (counts_left h x).1 ≡ []
     other (hand.Left units true) = refl
     other (hand.Left units false) = refl
     other _ = refl
@@ -126,12 +126,12 @@ user_answers : (c : Cell) (h : Hand) (x : User) → AreAnswers (hands_of (user_t
 unfolding user_takes
 user_answers cell.TellConfirm h x = takes h
   where
-    takes : (h : Hand) → AreAnswers (hands_of (confirmed h x).1)
+    takes : (h : Hand) → AreAnswers (hands_of (tells_confirm h x).1)
     takes (hand.Accept class credit called body importance) = tt
     takes _ = tt
 user_answers cell.TellDisconnect h x = takes h
   where
-    takes : (h : Hand) → AreAnswers (hands_of (disconnected h x).1)
+    takes : (h : Hand) → AreAnswers (hands_of (tells_disconnect h x).1)
     takes (hand.Refuse cause called body importance) = tt
     takes (hand.End cause body importance) = tt
     takes _ = tt
@@ -140,9 +140,9 @@ user_answers cell.TellUnit h x = takes h
     takes : (h : Hand) → AreAnswers (hands_of (collects h x).1)
     takes (hand.Unit more body) = by_tests (nat_lt 8192 (length (x.text ++ body))) more (x.class == 3)
       where
-        by_tests : (a b c : Bool) → (let r : User × Acted = (if a then (record x { state = Gone }, record { first = hand.End 0x07 None None ∷ []; outs = told x (tell.Disc x.mine 0x07 None) ∷ []; then = [] })
+        by_tests : (a b c : Bool) → (let r : User × Acted = (if a then (record x { state = Gone }, record { first = hand.End 0x07 None None ∷ []; outs = output_to x (tell.Disc x.mine 0x07 None) ∷ []; then = [] })
             else (if b then (record x { text = x.text ++ body }, gives_then [] (if c then hand.Left 1 false ∷ [] else []))
-            else (record x { text = [] }, gives_then (told x (tell.Text x.mine (x.text ++ body)) ∷ []) (if c then hand.Left 1 false ∷ [] else [])))) in AreAnswers (hands_of r.1))
+            else (record x { text = [] }, gives_then (output_to x (tell.Text x.mine (x.text ++ body)) ∷ []) (if c then hand.Left 1 false ∷ [] else [])))) in AreAnswers (hands_of r.1))
         by_tests true b c = (tt, tt)
         by_tests false true true = (tt, tt)
         by_tests false true false = tt
@@ -151,12 +151,12 @@ user_answers cell.TellUnit h x = takes h
     takes _ = tt
 user_answers cell.TellExpedited h x = takes h
   where
-    takes : (h : Hand) → AreAnswers (hands_of (hears_expedited h x).1)
+    takes : (h : Hand) → AreAnswers (hands_of (tells_expedited h x).1)
     takes (hand.Expedited body) = taken_answers x 0 true (x.class == 3)
     takes _ = tt
 user_answers cell.TellReset h x = takes h
   where
-    takes : (h : Hand) → AreAnswers (hands_of (hears_reset h x).1)
+    takes : (h : Hand) → AreAnswers (hands_of (tells_reset h x).1)
     takes (hand.Reset cause) = tt
     takes _ = tt
 user_answers cell.Left h x = takes h
@@ -170,12 +170,12 @@ user_ends : (c : Cell) (h : Hand) (x : User) → IsAnswer h → hands_of (user_t
 unfolding user_takes
 user_ends cell.TellConfirm h x a = takes h
   where
-    takes : (h : Hand) → hands_of (confirmed h x).1 ≡ []
+    takes : (h : Hand) → hands_of (tells_confirm h x).1 ≡ []
     takes (hand.Accept class credit called body importance) = refl
     takes _ = refl
 user_ends cell.TellDisconnect h x a = takes h
   where
-    takes : (h : Hand) → hands_of (disconnected h x).1 ≡ []
+    takes : (h : Hand) → hands_of (tells_disconnect h x).1 ≡ []
     takes (hand.Refuse cause called body importance) = refl
     takes (hand.End cause body importance) = refl
     takes _ = refl
@@ -186,12 +186,12 @@ user_ends cell.TellUnit h x a = takes h a
     takes _ a = refl
 user_ends cell.TellExpedited h x a = takes h a
   where
-    takes : (h : Hand) → IsAnswer h → hands_of (hears_expedited h x).1 ≡ []
+    takes : (h : Hand) → IsAnswer h → hands_of (tells_expedited h x).1 ≡ []
     takes (hand.Expedited body) a = absurd a
     takes _ a = refl
 user_ends cell.TellReset h x a = takes h
   where
-    takes : (h : Hand) → hands_of (hears_reset h x).1 ≡ []
+    takes : (h : Hand) → hands_of (tells_reset h x).1 ≡ []
     takes (hand.Reset cause) = refl
     takes _ = refl
 user_ends cell.Left h x a = takes h

@@ -5,7 +5,7 @@ use Rattle.relay_base.specs.declared.words.Output.TheVariants.{Sent}
 use Rattle.section_model.specs.declared.hand.Hand.TheVariants as hand
 use Rattle.section_model.specs.declared.cell.Cell.{Cell}
 use Rattle.section_model.specs.declared.cell.Cell.TheVariants as cell
-use Rattle.section_model.specs.Parameters.{Parameters, Arrival, arrival_in}
+use Rattle.section_model.specs.Parameters.{Parameters}
 use Rattle.section_model.specs.declared.cell.Occasion.TheVariants as on
 use Rattle.section_model.specs.declared.cell.UserOccasion.TheVariants as by
 use Rattle.section_model.specs.Table.{section_cell, user_cell}
@@ -13,16 +13,12 @@ use Rattle.section_model.specs.declared.cell.SectionState.{SectionState}
 use Rattle.section_model.specs.declared.cell.UserState.{UserState}
 use Rattle.section_model.specs.declared.hand.Acted.{Acted}
 use Rattle.section_model.specs.declared.hand.Hand.{Hand}
-use Rattle.section_model.specs.declared.input.Input.{Input}
-use Rattle.section_model.specs.declared.input.Input.TheVariants as input
 use Rattle.plant_core.specs.declared.terms.Ticks.{Ticks}
-use Rattle.relay_base.specs.declared.words.Event.{Event}
-use Rattle.relay_base.specs.declared.words.Event.TheVariants.{Message as Arrived, Asked as Requested, Tick}
 use Rattle.relay_base.specs.declared.words.Output.{Output}
-use Rattle.section_model.specs.Ends.{Line, Windows, Section, User, End, wire, owner, no_effect, cleared, is_up, is_connected}
+use Rattle.section_model.specs.Ends.{Line, Windows, Section, User, End, wire, owner, cleared, is_up, is_connected}
 use Rattle.section_model.specs.Line.{line_hears, line_fires, line_takes}
-use Rattle.section_model.specs.Windowed.{Windowed, windowed_hears, windowed_fires, windowed_takes, leaves, acknowledges}
-use Rattle.section_model.specs.UserEnd.{user_takes, user_asks}
+use Rattle.section_model.specs.Windowed.{Windowed, windowed_hears, windowed_fires, windowed_takes}
+use Rattle.section_model.specs.UserEnd.{user_takes}
 use Rattle.section_model.specs.Timing.{timers_after}
 
 abbrev pub is_sent : Output → Bool
@@ -106,52 +102,3 @@ user_takes_by s (hand.Left units expedited) = cell.Left
 abbrev pub end_takes : Ticks → Hand → End → End × Acted
 end_takes ticks h (wire x) = section_takes ticks (section_takes_by x.head.state h) h x
 end_takes ticks h (owner x) = let done = user_takes (user_takes_by x.state h) h x in (owner done.0, done.1)
-
--- What a section's line, its windows, and a user's end do upon an input, by the cell that the table has for it.
-
-abbrev pub line_hears_arrival : Cell → ℕ → Option Arrival → Line → Line × Acted
-line_hears_arrival c point None x = (x, no_effect)
-line_hears_arrival c point (Some a) x = line_hears c point a.parameters x
-
-abbrev pub line_hears_event : Cell → Event → Line → Line × Acted
-line_hears_event c (Arrived point sls bytes) x = line_hears_arrival c point (arrival_in bytes) x
-line_hears_event c (Requested ssn r) x = (x, no_effect)
-line_hears_event c Tick x = (x, no_effect)
-
-abbrev pub line_acts : Cell → Input → Line → Line × Acted
-line_acts c (input.Event event) x = line_hears_event c event.now x
-line_acts c (input.Timer number) x = line_fires c x
-line_acts c (input.Hand h) x = line_takes c h.now x
-line_acts c input.Turn x = (x, no_effect)
-
-abbrev pub windows_hear_arrival : Cell → Option Arrival → Windowed → Windowed × Acted
-windows_hear_arrival c None x = (x, no_effect)
-windows_hear_arrival c (Some a) x = windowed_hears c a.parameters x
-
-abbrev pub windows_hear_event : Cell → Event → Windowed → Windowed × Acted
-windows_hear_event c (Arrived point sls bytes) x = windows_hear_arrival c (arrival_in bytes) x
-windows_hear_event c (Requested ssn r) x = (x, no_effect)
-windows_hear_event c Tick x = (x, no_effect)
-
--- the two parts of what follows each event
-abbrev pub windows_turn : Cell → Windowed → Windowed × Acted
-windows_turn cell.Leave x = leaves x
-windows_turn cell.Acknowledge x = acknowledges x
-windows_turn _ x = (x, no_effect)
-
-abbrev pub windows_act : Cell → Input → Windowed → Windowed × Acted
-windows_act c (input.Event event) x = windows_hear_event c event.now x
-windows_act c (input.Timer number) x = windowed_fires x
-windows_act c (input.Hand h) x = windowed_takes c h.now x
-windows_act c input.Turn x = windows_turn c x
-
-abbrev pub user_hears_event : Cell → Event → User → User × Acted
-user_hears_event c (Arrived point sls bytes) x = (x, no_effect)
-user_hears_event c (Requested ssn r) x = user_asks c r x
-user_hears_event c Tick x = (x, no_effect)
-
-abbrev pub user_acts : Cell → Input → User → User × Acted
-user_acts c (input.Event event) x = user_hears_event c event.now x
-user_acts c (input.Timer number) x = (x, no_effect)
-user_acts c (input.Hand h) x = user_takes c h.now x
-user_acts c input.Turn x = (x, no_effect)

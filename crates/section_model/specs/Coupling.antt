@@ -12,8 +12,8 @@ abbrev pub with_more : List Output → Connection × List Output → Connection 
 with_more outs r = (r.0, r.1 ++ outs)
 
 -- the other end takes an effect, and what it hands back goes on in turn
-abbrev pub offered : (End × Acted → End → Connection × List Output) → Ticks → Connection × List Output → Hand → Connection × List Output
-offered next ticks r h =
+abbrev pub other_takes : (End × Acted → End → Connection × List Output) → Ticks → Connection × List Output → Hand → Connection × List Output
+other_takes next ticks r h =
     let done = next (end_takes ticks h r.0.that) r.0.this in (turned done.0, r.1 ++ done.1)
 
 -- This end has acted. The other end takes what is handed over first, then the outputs stand, then it takes the rest; and
@@ -21,8 +21,8 @@ offered next ticks r h =
 unfoldable pub exchange : ℕ → Ticks → End × Acted → End → Connection × List Output
 exchange zero ticks acting that = (record { this = acting.0; that = that }, acting.1.outs)
 exchange (suc turns) ticks acting that =
-    fold (offered (exchange turns ticks) ticks)
-    (with_more acting.1.outs (fold (offered (exchange turns ticks) ticks) (record { this = acting.0; that = that }, []) acting.1.first))
+    fold (other_takes (exchange turns ticks) ticks)
+    (with_more acting.1.outs (fold (other_takes (exchange turns ticks) ticks) (record { this = acting.0; that = that }, []) acting.1.first))
     acting.1.then
 
 -- no act is handed back more than twice
@@ -35,21 +35,3 @@ and_then part r = let next = part r.0 in (next.0, r.1 ++ next.1)
 
 abbrev pub on_that : (Connection → Connection × List Output) → Connection → Connection × List Output
 on_that part c = let r = part (turned c) in (turned r.0, r.1)
-
--- No hand is lost: what an end hands back on an effect is an answer, and on an answer nothing is handed back.
-
-abbrev pub IsAnswer : Hand → Type 0
-IsAnswer (hand.Left units expedited) = Unit {0}
-IsAnswer (hand.End cause body importance) = Unit {0}
-IsAnswer _ = ⊥
-
-abbrev pub AreAnswers : List Hand → Type 0
-AreAnswers [] = Unit {0}
-AreAnswers (h ∷ hands) = IsAnswer h × AreAnswers hands
-
-abbrev pub hands_of : Acted → List Hand
-hands_of acted = acted.first ++ acted.then
-
-pub record NoHandIsLost : Type 0 where
-  pub answered : (ticks : Ticks) (h : Hand) (e : End) → AreAnswers (hands_of (end_takes ticks h e).1)
-  pub ended : (ticks : Ticks) (h : Hand) (e : End) → IsAnswer h → hands_of (end_takes ticks h e).1 ≡ []

@@ -1,7 +1,5 @@
 -- The two ends of a connection: a connection section of the network, or a user of this node.
 use Rattle.std.specs.Prelude.{ℕ, List, [], Bool, true, false, Option, None}
-use Rattle.section_model.specs.declared.wire.WireHead.{WireHead}
-use Rattle.section_model.specs.Table.{state_numbered}
 pub use Rattle.plant_core.specs.declared.terms.Terms.{Terms}
 pub use Rattle.plant_core.specs.declared.terms.Ticks.{Ticks}
 pub use Rattle.section_model.specs.declared.cell.SectionState.{SectionState}
@@ -11,7 +9,7 @@ pub use Rattle.section_model.specs.declared.cell.UserState.TheVariants as user
 pub use Rattle.section_model.specs.declared.hand.Unit.{Unit as DataUnit}
 pub use Rattle.section_model.specs.declared.hand.Hand.{Hand}
 pub use Rattle.section_model.specs.declared.hand.Acted.{Acted}
-pub use Rattle.section_model.specs.declared.hand.Kept.{Kept}
+pub use Rattle.section_model.specs.declared.hand.KeptRelease.{KeptRelease}
 pub use Rattle.relay_base.specs.declared.words.Output.{Output}
 use Rattle.section_model.specs.declared.cell.SectionState.TheVariants.{Asking, Waning, Up, Resetting, Gone}
 
@@ -26,18 +24,6 @@ pub record SectionHead : Type 0 where
   pub class : ℕ
   pub credit : ℕ
 
--- a section as its head says
-abbrev pub section_of : WireHead → SectionHead
-section_of x = record {
-  point = x.point;
-  mine = x.mine;
-  other = x.other;
-  sls = x.sls;
-  state = state_numbered x.state;
-  class = x.class;
-  credit = x.credit;
-}
-
 -- The timers of a section: the ticks that are left, where it runs.
 pub record Timers : Type 0 where
   pub connect : Option ℕ
@@ -51,7 +37,7 @@ pub record Timers : Type 0 where
 -- A section without the counts of class 3.
 pub record Line : Type 0 where
   pub head : SectionHead
-  pub kept : Kept
+  pub kept : KeptRelease
 
 -- The counts of class 3, as whole numbers since they were last cleared, and what waits.
 pub record Windows : Type 0 where
@@ -68,7 +54,7 @@ pub record Windows : Type 0 where
 
 pub record Section : Type 0 where
   pub head : SectionHead
-  pub kept : Kept
+  pub kept : KeptRelease
   pub windows : Windows
   pub timers : Timers
 
@@ -105,10 +91,10 @@ abbrev pub gives_then : List Output → List Hand → Acted
 gives_then outs hands = record { first = []; outs = outs; then = hands }
 
 -- what a release says that has a cause alone
-abbrev pub only_cause : ℕ → Kept
+abbrev pub only_cause : ℕ → KeptRelease
 only_cause cause = record { cause = cause; body = None; importance = None }
 
-abbrev pub no_kept : Kept
+abbrev pub no_kept : KeptRelease
 no_kept = only_cause 0
 
 -- the counts when they begin, with the credit that was agreed on

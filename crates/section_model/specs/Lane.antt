@@ -53,15 +53,15 @@ pub record Opening : Type 0 where
   pub first : Connection
   pub since : List Event
 
-abbrev pub state_of : Ticks → Opening → Connection
-state_of ticks o = follow ticks o.first (heard ticks o.first o.since)
+abbrev pub connection_of : Ticks → Opening → Connection
+connection_of ticks o = follow ticks o.first (heard ticks o.first o.since)
 
 -- its outputs at an event, none where it does not hear it
 abbrev pub part_by : Ticks → Event → Connection → List Output
 part_by ticks event c = elim (hears c event) [ true ↦ (connection_step ticks c event).1 | false ↦ [] ]
 
 abbrev pub part_of : Ticks → Event → Opening → List Output
-part_of ticks event o = part_by ticks event (state_of ticks o)
+part_of ticks event o = part_by ticks event (connection_of ticks o)
 
 -- The local references (Q.714, freezing of local references). A lane has the slots 1 to 4,095.
 
@@ -167,7 +167,7 @@ outputs_of_hearing ticks event (Some o) = part_of ticks event o
 outputs_of_hearing ticks event None = stray_answer event
 
 abbrev pub hearing : Ticks → List Opening → Event → Option Opening
-hearing ticks openings event = find (λ o. hears (state_of ticks o) event) openings
+hearing ticks openings event = find (λ o. hears (connection_of ticks o) event) openings
 
 abbrev pub other_outputs : Lane → List Opening → Event → List Output
 other_outputs lane openings (Arrived point sls bytes) =
@@ -214,32 +214,3 @@ IsLegalFrom lane openings (entry ∷ entries) =
 
 abbrev pub IsConnectionJournal : Lane → List Entry → Type 0
 IsConnectionJournal lane journal = IsLegalFrom lane [] journal
-
--- the legal outputs of a whole run, for these events and answers
-unfoldable pub runs : Lane → List Opening → List (Event × Option Answer) → List (List Output)
-runs lane openings [] = []
-runs lane openings (x ∷ rest) =
-    legal_outputs lane openings x.0 x.1 ∷ runs lane (openings_after lane openings x.0 x.1) rest
-
--- Laws.
-
--- what a connection is after one more event hangs on what it was alone
-abbrev pub StepByStep : Type 0
-StepByStep = (ticks : Ticks) (c : Connection) (events : List Event) (event : Event) →
-    follow ticks c (heard ticks c (events ++ event ∷ [])) ≡ fed ticks (follow ticks c (heard ticks c events)) event
-
--- two worlds: equal openings that hear the same have the same part in the next event
-abbrev pub TwoWorlds : Type 0
-TwoWorlds = (ticks : Ticks) (c : Connection) (one other : List Event) (event : Event) →
-    heard ticks c one ≡ heard ticks c other →
-    part_of ticks event (record { first = c; since = one }) ≡ part_of ticks event (record { first = c; since = other })
-
--- the openings that a journal leaves
-abbrev pub openings_from : Lane → List Opening → List Entry → List Opening
-openings_from lane openings [] = openings
-openings_from lane openings (entry ∷ entries) = openings_from lane (openings_after lane openings entry.event (answer_of entry)) entries
-
--- a legal journal with one more legal entry is legal
-abbrev pub JournalGrows : Type 0
-JournalGrows = (lane : Lane) (journal : List Entry) (entry : Entry) →
-    IsConnectionJournal lane journal → IsLegalEntry lane (openings_from lane [] journal) entry → IsConnectionJournal lane (journal ++ entry ∷ [])

@@ -8,7 +8,7 @@ use Rattle.section_model.specs.declared.cell.Occasion.TheVariants as on
 use Rattle.section_model.specs.declared.hand.Hand.{Hand}
 use Rattle.section_model.specs.declared.hand.Hand.TheVariants as hand
 use Rattle.section_model.specs.declared.hand.Acted.{Acted}
-use Rattle.section_model.specs.declared.hand.Kept.{Kept}
+use Rattle.section_model.specs.declared.hand.KeptRelease.{KeptRelease}
 use Rattle.section_model.specs.declared.input.Input.{Input}
 use Rattle.section_model.specs.declared.input.Input.TheVariants as input
 use Rattle.section_model.specs.Parameters.{Arrival, arrival_in}
@@ -62,7 +62,7 @@ HandsWithin (h ∷ hands) = HandWithin h × HandsWithin hands
 abbrev pub ActedWithin : Acted → Type 0
 ActedWithin acted = HandsWithin acted.first × HandsWithin acted.then
 
-abbrev pub KeptWithin : Kept → Type 0
+abbrev pub KeptWithin : KeptRelease → Type 0
 KeptWithin kept = IsData kept.body
 
 -- the same of units that wait, and of expedited data that wait

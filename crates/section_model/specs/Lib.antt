@@ -12,3 +12,4 @@ pub mod Step
 pub mod Opening
 pub mod Lane
 pub mod Lengths
+pub mod Laws

@@ -10,7 +10,7 @@ use Rattle.q713_codec.specs.declared.message.Message.{Message}
 use Rattle.q713_codec.specs.declared.message.Message.TheVariants.{Cc, Cref, Rlsd, Rlc, Dt1, It}
 use Rattle.q713_codec.specs.Writing.{spelling_of}
 use Rattle.section_model.specs.Parameters.{Parameters}
-use Rattle.section_model.specs.declared.hand.Kept.{Kept}
+use Rattle.section_model.specs.declared.hand.KeptRelease.{KeptRelease}
 use Rattle.section_model.specs.declared.hand.Acted.{Acted}
 use Rattle.section_model.specs.declared.hand.Hand.{Hand}
 use Rattle.section_model.specs.declared.cell.SectionState.{SectionState}
@@ -39,7 +39,7 @@ released cause body importance x = record {
   kept = record { cause = cause; body = body; importance = importance };
 }
 
-abbrev pub rlsd : SectionHead → Kept → Output
+abbrev pub rlsd : SectionHead → KeptRelease → Output
 rlsd x kept = sent_on x (Rlsd x.other x.mine kept.cause kept.body kept.importance)
 
 abbrev pub rlc : SectionHead → Output
@@ -57,8 +57,8 @@ reached point other x = record x { head = record x.head { point = point; other =
 abbrev pub agreed : SectionHead → Parameters → ℕ
 agreed x m = if m.class == 3 then granted (unwrap_or m.credit x.credit) x.credit else 0
 
-abbrev pub confirmed : ℕ → Parameters → Line → Line × Acted
-confirmed point m asked =
+abbrev pub confirms : ℕ → Parameters → Line → Line × Acted
+confirms point m asked =
     let x = reached point m.slr asked in
     if (m.class == 2 || m.class == 3) && nat_le m.class x.head.class
     then (
@@ -70,32 +70,32 @@ confirmed point m asked =
       gives_then (rlsd x.head (only_cause 0x05) ∷ []) (hand.Refuse 0x0F None None None ∷ []),
     )
 
-abbrev pub confirmed_late : ℕ → Parameters → Line → Line × Acted
-confirmed_late point m waning =
+abbrev pub confirms_late : ℕ → Parameters → Line → Line × Acted
+confirms_late point m waning =
     let x = reached point m.slr waning in
     (released x.kept.cause None None x, gives (rlsd x.head (only_cause x.kept.cause) ∷ []))
 
 -- ERR with cause 3 is answered by RLSD, another one frees the section.
-abbrev pub failed : Parameters → Line → Line × Acted
-failed m x =
+abbrev pub hears_error : Parameters → Line → Line × Acted
+hears_error m x =
     if m.cause == 3
     then (released 0x0F None None x, gives_then (rlsd x.head (only_cause 0x0F) ∷ []) (hand.End 0x0F None None ∷ []))
     else (in_state Gone x, gives_then [] (hand.End 0x0F None None ∷ []))
 
-abbrev pub tested : Parameters → Line → Line × Acted
-tested m x = if m.slr == x.head.other && m.class == x.head.class then (x, no_effect) else breaks 0x05 x
+abbrev pub hears_test : Parameters → Line → Line × Acted
+hears_test m x = if m.slr == x.head.other && m.class == x.head.class then (x, no_effect) else breaks 0x05 x
 
 -- A message from a point. It has passed the checks, and the cell is the table's for it.
 unfoldable pub line_hears : Cell → ℕ → Parameters → Line → Line × Acted
-line_hears cell.Confirm point m x = confirmed point m x
-line_hears cell.ConfirmLate point m x = confirmed_late point m x
+line_hears cell.Confirm point m x = confirms point m x
+line_hears cell.ConfirmLate point m x = confirms_late point m x
 line_hears cell.Refused point m x = (in_state Gone x, gives_then [] (hand.Refuse m.cause m.called m.body m.importance ∷ []))
 line_hears cell.Free point m x = (in_state Gone x, no_effect)
 line_hears cell.Released point m x = (in_state Gone x, gives_then (rlc x.head ∷ []) (hand.End m.cause m.body m.importance ∷ []))
 line_hears cell.ReleaseCollision point m x = (in_state Gone x, gives (rlc x.head ∷ []))
 line_hears cell.TakeData point m x = (x, gives_then [] (hand.Unit m.more m.data_octets ∷ []))
-line_hears cell.ErrorReceived point m x = failed m x
-line_hears cell.TestReceived point m x = tested m x
+line_hears cell.ErrorReceived point m x = hears_error m x
+line_hears cell.TestReceived point m x = hears_test m x
 line_hears cell.Discard point m x = (x, gives (Dropped lost.State ∷ []))
 line_hears _ point m x = (x, no_effect)
 
@@ -110,37 +110,37 @@ line_fires cell.RepeatRelease x = (x, gives (rlsd x.head x.kept ∷ []))
 line_fires cell.Free x = (in_state Gone x, no_effect)
 line_fires _ x = (x, no_effect)
 
-abbrev pub accepted : Hand → Line → Line × Acted
-accepted (hand.Accept class credit called body importance) x = (
+abbrev pub passes_accept : Hand → Line → Line × Acted
+passes_accept (hand.Accept class credit called body importance) x = (
   record x { head = record x.head { state = Up; class = class; credit = credit } },
   gives (sent_on x.head (Cc x.head.other x.head.mine class (credit_of class credit) called body importance) ∷ []),
 )
-accepted _ x = (x, no_effect)
+passes_accept _ x = (x, no_effect)
 
-abbrev pub refused : Hand → Line → Line × Acted
-refused (hand.Refuse cause called body importance) x = (in_state Gone x, gives (sent_on x.head (Cref x.head.other cause called body importance) ∷ []))
-refused _ x = (x, no_effect)
+abbrev pub passes_refuse : Hand → Line → Line × Acted
+passes_refuse (hand.Refuse cause called body importance) x = (in_state Gone x, gives (sent_on x.head (Cref x.head.other cause called body importance) ∷ []))
+passes_refuse _ x = (x, no_effect)
 
-abbrev pub ended : Hand → Line → Line × Acted
-ended (hand.End cause body importance) x =
+abbrev pub passes_end : Hand → Line → Line × Acted
+passes_end (hand.End cause body importance) x =
     (released cause body importance x, gives (rlsd x.head (record { cause = cause; body = body; importance = importance }) ∷ []))
-ended _ x = (x, no_effect)
+passes_end _ x = (x, no_effect)
 
 -- the section is to be released as soon as its other end is known
-abbrev pub ended_early : Hand → Line → Line × Acted
-ended_early (hand.End cause body importance) x =
+abbrev pub keeps_end : Hand → Line → Line × Acted
+keeps_end (hand.End cause body importance) x =
     (record { head = record x.head { state = Waning }; kept = only_cause cause }, no_effect)
-ended_early _ x = (x, no_effect)
+keeps_end _ x = (x, no_effect)
 
-abbrev pub passed : Hand → Line → Line × Acted
-passed (hand.Unit more body) x = (x, gives (sent_on x.head (Dt1 x.head.other (if more then 1 else 0) body) ∷ []))
-passed _ x = (x, no_effect)
+abbrev pub passes_unit : Hand → Line → Line × Acted
+passes_unit (hand.Unit more body) x = (x, gives (sent_on x.head (Dt1 x.head.other (if more then 1 else 0) body) ∷ []))
+passes_unit _ x = (x, no_effect)
 
 -- An effect of the other end.
 unfoldable pub line_takes : Cell → Hand → Line → Line × Acted
-line_takes cell.PassAccept h x = accepted h x
-line_takes cell.PassRefuse h x = refused h x
-line_takes cell.PassEnd h x = ended h x
-line_takes cell.KeepEnd h x = ended_early h x
-line_takes cell.PassUnit h x = passed h x
+line_takes cell.PassAccept h x = passes_accept h x
+line_takes cell.PassRefuse h x = passes_refuse h x
+line_takes cell.PassEnd h x = passes_end h x
+line_takes cell.KeepEnd h x = keeps_end h x
+line_takes cell.PassUnit h x = passes_unit h x
 line_takes _ h x = (x, no_effect)

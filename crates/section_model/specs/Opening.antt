@@ -158,8 +158,8 @@ asking_section terms point mine w = new_section terms.ticks (record {
 })
 
 -- CREF goes to where CR came from
-abbrev pub refused : Wanted → ℕ → Output
-refused w cause = Sent w.point w.sls (spelling_of (Cref w.slr cause None None None))
+abbrev pub cref_to : Wanted → ℕ → Output
+cref_to w cause = Sent w.point w.sls (spelling_of (Cref w.slr cause None None None))
 
 -- The connection that is opened, if any, and the outputs.
 pub record Opened : Type 0 where
@@ -186,13 +186,13 @@ opened_onward terms w point rewrite hop mine next =
 
 -- CR, with the references that are free for it: as many as it needs, or none where there are too few
 unfoldable pub opened_by_cr : Terms → Wanted → Answer → List ℕ → Opened
-opened_by_cr terms w (Refused cause local) refs = not_opened (refused w (refusal_code cause) ∷ status_outputs terms.own w.point w.sls local)
-opened_by_cr terms w (Local ssn) [] = not_opened (refused w 0x07 ∷ [])
+opened_by_cr terms w (Refused cause local) refs = not_opened (cref_to w (refusal_code cause) ∷ status_outputs terms.own w.point w.sls local)
+opened_by_cr terms w (Local ssn) [] = not_opened (cref_to w 0x07 ∷ [])
 opened_by_cr terms w (Local ssn) (mine ∷ refs) = opened_locally terms w ssn mine
-opened_by_cr terms w (Forward point rewrite hop) [] = not_opened (refused w (if fits w rewrite hop then 0x07 else 0x0F) ∷ [])
-opened_by_cr terms w (Forward point rewrite hop) (mine ∷ []) = not_opened (refused w (if fits w rewrite hop then 0x07 else 0x0F) ∷ [])
+opened_by_cr terms w (Forward point rewrite hop) [] = not_opened (cref_to w (if fits w rewrite hop then 0x07 else 0x0F) ∷ [])
+opened_by_cr terms w (Forward point rewrite hop) (mine ∷ []) = not_opened (cref_to w (if fits w rewrite hop then 0x07 else 0x0F) ∷ [])
 opened_by_cr terms w (Forward point rewrite hop) (mine ∷ next ∷ refs) =
-    if fits w rewrite hop then opened_onward terms w point rewrite hop mine next else not_opened (refused w 0x0F ∷ [])
+    if fits w rewrite hop then opened_onward terms w point rewrite hop mine next else not_opened (cref_to w 0x0F ∷ [])
 
 -- from a user to a section
 abbrev pub opened_out : Terms → ℕ → ℕ → Wanted → ℕ → Rewrite → ℕ → Opened
@@ -222,7 +222,7 @@ slots_needed no_wish answer = 0
 -- The opening. Routing is answered where it was asked; else CR is refused, as one of another class or without a called address.
 unfoldable pub opened : Terms → Wish → Option Answer → List ℕ → Opened
 opened terms (by_cr w) (Some answer) refs = opened_by_cr terms w answer refs
-opened terms (by_cr w) None refs = not_opened (refused w 0x0F ∷ [])
+opened terms (by_cr w) None refs = not_opened (cref_to w 0x0F ∷ [])
 opened terms (by_user ssn tag w) (Some answer) refs = opened_by_user terms ssn tag w answer refs
 opened terms (by_user ssn tag w) None refs = not_opened []
 opened terms no_wish answer refs = not_opened []

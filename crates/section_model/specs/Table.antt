@@ -70,24 +70,6 @@ user_row by.ExpeditedTold = ┃ no ┃ no ┃ TellExpedited ┃ TellExpedited �
 user_row by.ResetTold = ┃ no ┃ no ┃ TellReset ┃ no ┃
 user_row by.DoneTold = ┃ no ┃ no ┃ no ┃ TellResetDone ┃
 
--- The states and the events by their numbers from 0, in the order in which the table names them.
-abbrev pub state_numbered : ℕ → SectionState
-state_numbered n = slice_index_or (state.Asked ∷ state.Asking ∷ state.Waning ∷ state.Up ∷ state.Resetting ∷ state.Ending ∷ state.Gone ∷ []) n state.Gone
-
-abbrev pub occasions : List Occasion
-occasions =
-    on.Cc ∷ on.Cref ∷ on.Rlsd ∷ on.Rlc ∷ on.Dt1 ∷ on.Dt2 ∷ on.Ak ∷ on.Ed ∷ on.Ea ∷ on.Rsr ∷ on.Rsc ∷ on.Err ∷ on.It
-    ∷ on.ConnectFires ∷ on.ResetFires ∷ on.IarFires ∷ on.IasFires ∷ on.RelFires ∷ on.IntFires ∷ on.RepeatFires
-    ∷ on.AcceptComes ∷ on.RefuseComes ∷ on.EndComes ∷ on.UnitComes ∷ on.ExpeditedComes ∷ on.ResetComes ∷ on.DoneComes ∷ []
-
-abbrev pub user_state_numbered : ℕ → UserState
-user_state_numbered n = slice_index_or (end.Offered ∷ end.Calling ∷ end.Ready ∷ end.Renewing ∷ end.Gone ∷ []) n end.Gone
-
-abbrev pub user_occasions : List UserOccasion
-user_occasions =
-    by.Accepts ∷ by.Refuses ∷ by.Sends ∷ by.Expedites ∷ by.Resets ∷ by.Disconnects
-    ∷ by.AcceptTold ∷ by.RefuseTold ∷ by.EndTold ∷ by.UnitTold ∷ by.ExpeditedTold ∷ by.ResetTold ∷ by.DoneTold ∷ []
-
 abbrev pub in_state : SectionState → Row → Cell
 in_state state.Asked (│ a │ b │ c │ d │ e │ f │) = a
 in_state state.Asking (│ a │ b │ c │ d │ e │ f │) = b

@@ -17,8 +17,8 @@ use Rattle.relay_base.specs.declared.words.Output.{Output}
 use Rattle.section_model.specs.Ends.{User, no_effect, gives, gives_then}
 use Rattle.section_model.specs.Line.{granted}
 
-abbrev pub told : User → Tell → Output
-told x t = Told x.ssn t
+abbrev pub output_to : User → Tell → Output
+output_to x t = Told x.ssn t
 
 -- no octets are no data
 abbrev pub given : List ℕ → Option (List ℕ)
@@ -69,15 +69,15 @@ user_asks cell.UserResets r x = (record x { state = Renewing; text = []; got = [
 user_asks cell.UserDisconnects r x = disconnects r x
 user_asks _ r x = (x, no_effect)
 
-abbrev pub confirmed : Hand → User → User × Acted
-confirmed (hand.Accept class credit called body importance) x =
-    (record x { state = Ready; class = class; credit = credit }, gives (told x (tell.Confirm x.mine class credit called body) ∷ []))
-confirmed _ x = (x, no_effect)
+abbrev pub tells_confirm : Hand → User → User × Acted
+tells_confirm (hand.Accept class credit called body importance) x =
+    (record x { state = Ready; class = class; credit = credit }, gives (output_to x (tell.Confirm x.mine class credit called body) ∷ []))
+tells_confirm _ x = (x, no_effect)
 
-abbrev pub disconnected : Hand → User → User × Acted
-disconnected (hand.Refuse cause called body importance) x = (record x { state = Gone }, gives (told x (tell.Disc x.mine cause body) ∷ []))
-disconnected (hand.End cause body importance) x = (record x { state = Gone }, gives (told x (tell.Disc x.mine cause body) ∷ []))
-disconnected _ x = (x, no_effect)
+abbrev pub tells_disconnect : Hand → User → User × Acted
+tells_disconnect (hand.Refuse cause called body importance) x = (record x { state = Gone }, gives (output_to x (tell.Disc x.mine cause body) ∷ []))
+tells_disconnect (hand.End cause body importance) x = (record x { state = Gone }, gives (output_to x (tell.Disc x.mine cause body) ∷ []))
+tells_disconnect _ x = (x, no_effect)
 
 -- in class 3 what a user took has left
 abbrev pub taken : User → ℕ → Bool → List Hand
@@ -88,30 +88,30 @@ abbrev pub collects : Hand → User → User × Acted
 collects (hand.Unit more body) x =
     let text = x.text ++ body in
     if nat_lt 8192 (length text)
-    then (record x { state = Gone }, record { first = hand.End 0x07 None None ∷ []; outs = told x (tell.Disc x.mine 0x07 None) ∷ []; then = [] })
+    then (record x { state = Gone }, record { first = hand.End 0x07 None None ∷ []; outs = output_to x (tell.Disc x.mine 0x07 None) ∷ []; then = [] })
     else if more then (record x { text = text }, gives_then [] (taken x 1 false))
-    else (record x { text = [] }, gives_then (told x (tell.Text x.mine text) ∷ []) (taken x 1 false))
+    else (record x { text = [] }, gives_then (output_to x (tell.Text x.mine text) ∷ []) (taken x 1 false))
 collects _ x = (x, no_effect)
 
-abbrev pub hears_expedited : Hand → User → User × Acted
-hears_expedited (hand.Expedited body) x = (x, gives_then (told x (tell.Expedited x.mine body) ∷ []) (taken x 0 true))
-hears_expedited _ x = (x, no_effect)
+abbrev pub tells_expedited : Hand → User → User × Acted
+tells_expedited (hand.Expedited body) x = (x, gives_then (output_to x (tell.Expedited x.mine body) ∷ []) (taken x 0 true))
+tells_expedited _ x = (x, no_effect)
 
-abbrev pub hears_reset : Hand → User → User × Acted
-hears_reset (hand.Reset cause) x = (record x { text = []; got = []; passed = 0 }, gives (told x (tell.Renewed x.mine cause) ∷ []))
-hears_reset _ x = (x, no_effect)
+abbrev pub tells_reset : Hand → User → User × Acted
+tells_reset (hand.Reset cause) x = (record x { text = []; got = []; passed = 0 }, gives (output_to x (tell.Renewed x.mine cause) ∷ []))
+tells_reset _ x = (x, no_effect)
 
-abbrev pub left : Hand → User → User × Acted
-left (hand.Left units is_expedited) x = (record x { passed = x.passed + units }, no_effect)
-left _ x = (x, no_effect)
+abbrev pub user_counts_left : Hand → User → User × Acted
+user_counts_left (hand.Left units is_expedited) x = (record x { passed = x.passed + units }, no_effect)
+user_counts_left _ x = (x, no_effect)
 
 -- An effect of the section.
 unfoldable pub user_takes : Cell → Hand → User → User × Acted
-user_takes cell.TellConfirm h x = confirmed h x
-user_takes cell.TellDisconnect h x = disconnected h x
+user_takes cell.TellConfirm h x = tells_confirm h x
+user_takes cell.TellDisconnect h x = tells_disconnect h x
 user_takes cell.TellUnit h x = collects h x
-user_takes cell.TellExpedited h x = hears_expedited h x
-user_takes cell.TellReset h x = hears_reset h x
-user_takes cell.TellResetDone h x = (record x { state = Ready }, gives (told x (tell.ResetDone x.mine) ∷ []))
-user_takes cell.Left h x = left h x
+user_takes cell.TellExpedited h x = tells_expedited h x
+user_takes cell.TellReset h x = tells_reset h x
+user_takes cell.TellResetDone h x = (record x { state = Ready }, gives (output_to x (tell.ResetDone x.mine) ∷ []))
+user_takes cell.Left h x = user_counts_left h x
 user_takes _ h x = (x, no_effect)

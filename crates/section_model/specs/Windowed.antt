@@ -77,16 +77,16 @@ takes_expedited m x =
     else (record x { windows = record x.windows { owed = true } }, gives_then [] (hand.Expedited m.data_octets ∷ []))
 
 -- Expedited data leaves, and its EA is awaited.
-abbrev pub expedites : Option (List ℕ) → Windowed → Windowed × Acted
-expedites None x = (x, no_effect)
-expedites (Some body) x = (
+abbrev pub sends_expedited : Option (List ℕ) → Windowed → Windowed × Acted
+sends_expedited None x = (x, no_effect)
+sends_expedited (Some body) x = (
   record x { windows = record x.windows { waiting = None; unanswered = true } },
   gives_then (sent_on x.head (Ed x.head.other body) ∷ []) (hand.Left 0 true ∷ []),
 )
 
 abbrev pub takes_answer : Windowed → Windowed × Acted
 takes_answer x =
-    if x.windows.unanswered then expedites x.windows.waiting (record x { windows = record x.windows { unanswered = false } })
+    if x.windows.unanswered then sends_expedited x.windows.waiting (record x { windows = record x.windows { unanswered = false } })
     else (x, gives (Dropped lost.State ∷ []))
 
 -- A message.
@@ -105,13 +105,13 @@ unfoldable pub windowed_fires : Windowed → Windowed × Acted
 windowed_fires x =
     (x, gives (sent_on x.head (It x.head.other x.head.mine x.head.class (sequence x.windows.sent ∷ sequence x.windows.passed ∷ []) x.head.credit) ∷ []))
 
-abbrev pub passes : Hand → Windowed → Windowed × Acted
-passes (hand.Unit more body) x = (record x { windows = record x.windows { waits = x.windows.waits ++ record { more = more; body = body } ∷ [] } }, no_effect)
-passes _ x = (x, no_effect)
+abbrev pub queues_unit : Hand → Windowed → Windowed × Acted
+queues_unit (hand.Unit more body) x = (record x { windows = record x.windows { waits = x.windows.waits ++ record { more = more; body = body } ∷ [] } }, no_effect)
+queues_unit _ x = (x, no_effect)
 
 abbrev pub passes_expedited : Hand → Windowed → Windowed × Acted
 passes_expedited (hand.Expedited body) x =
-    if is_up x.head.state && not x.windows.unanswered then expedites (Some body) x
+    if is_up x.head.state && not x.windows.unanswered then sends_expedited (Some body) x
     else (record x { windows = record x.windows { waiting = Some body } }, no_effect)
 passes_expedited _ x = (x, no_effect)
 
@@ -126,21 +126,21 @@ passes_reset _ x = (x, no_effect)
 abbrev pub passed_after : ℕ → Windows → ℕ
 passed_after units w = min (w.passed + units) (length w.got)
 
-abbrev pub left : Hand → Windowed → Windowed × Acted
-left (hand.Left units false) x = (record x { windows = record x.windows { passed = passed_after units x.windows } }, no_effect)
-left (hand.Left units true) x = (
+abbrev pub counts_left : Hand → Windowed → Windowed × Acted
+counts_left (hand.Left units false) x = (record x { windows = record x.windows { passed = passed_after units x.windows } }, no_effect)
+counts_left (hand.Left units true) x = (
   record x { windows = record x.windows { passed = passed_after units x.windows; owed = false } },
   gives (sent_on x.head (Ea x.head.other) ∷ []),
 )
-left _ x = (x, no_effect)
+counts_left _ x = (x, no_effect)
 
 -- An effect of the other end.
 unfoldable pub windowed_takes : Cell → Hand → Windowed → Windowed × Acted
-windowed_takes cell.PassUnit h x = passes h x
+windowed_takes cell.PassUnit h x = queues_unit h x
 windowed_takes cell.PassExpedited h x = passes_expedited h x
 windowed_takes cell.PassReset h x = passes_reset h x
 windowed_takes cell.ClearCounts h x = (record x { windows = cleared x.head.credit }, no_effect)
-windowed_takes cell.Left h x = left h x
+windowed_takes cell.Left h x = counts_left h x
 windowed_takes _ h x = (x, no_effect)
 
 -- The units as DT2 with P(S) from a count on.

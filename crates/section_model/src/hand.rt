@@ -105,18 +105,18 @@ impl Acted {
 
 /// What a repeated release says: its cause, its data of 1 to 128 octets, and its importance.
 #[derive(Drop)]
-pub struct Kept {
+pub struct KeptRelease {
     pub cause: u8,
     pub body: Option<Octets>,
     pub importance: Option<u8>,
 }
 
-impl Kept {
+impl KeptRelease {
     /// A cause alone.
-    pub fn cause(cause: u8) -> Kept
+    pub fn with_cause(cause: u8) -> KeptRelease
         ensures { result ≡ only_cause cause }
     {
-        Kept {
+        KeptRelease {
             cause,
             body: None,
             importance: None,

@@ -1,6 +1,5 @@
 //! Laws of the definitions, each as the contract of a function.
-ghost use Rattle.section_model.specs.Lane.{JournalGrows, StepByStep, TwoWorlds};
-ghost use Rattle.section_model.specs.Coupling.{NoHandIsLost};
+ghost use Rattle.section_model.specs.Laws.{JournalGrows, StepByStep, TwoWorlds, NoHandIsLost};
 ghost use Rattle.section_model.specs.Lengths.{ArrivesWithin, ReadsWithin, WritesWithin};
 
 /// What a connection is after one more event hangs on what it was alone.

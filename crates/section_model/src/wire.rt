@@ -1,6 +1,6 @@
 //! The fixed part of a connection section.
 ghost use Rattle.std.specs.Prelude.{◌≡◌};
-ghost use Rattle.section_model.specs.Ends.{section_of};
+ghost use Rattle.section_model.specs.Views.{section_of};
 
 use crate::cell::SectionState;
 use relay_base::{Pc, Ref24, Sls};

@@ -1,5 +1,6 @@
 -- Runs for examples. A proof that unfolds `played` unfolds all that a run computes with.
-use Rattle.std.specs.Prelude.{List, [], map}
+use Rattle.std.specs.Prelude.{List, [], ◌∷◌, map, Option}
+use Rattle.plant_core.specs.declared.answer.Answer.{Answer}
 use Rattle.relay_base.specs.declared.words.Event.{Event}
 use Rattle.relay_base.specs.declared.words.Output.{Output}
 use Rattle.gtt_table.specs.Translation.{translation_of}
@@ -24,8 +25,14 @@ use Rattle.section_model.specs.Acting.{section_hears, section_fires, section_tak
 use Rattle.section_model.specs.Coupling.{exchange}
 use Rattle.section_model.specs.Step.{hears_message, asks, fires_due, after_event, connection_step, hears}
 use Rattle.section_model.specs.Opening.{wish_of, question_of, opened_by_cr, opened_by_user, slots_needed, opened}
-use Rattle.section_model.specs.Lane.{Lane, heard, follow, outputs_along, gone_for, lowest_free, stray_message, stray_answer, legal_outputs, openings_after, runs}
+use Rattle.section_model.specs.Lane.{Lane, heard, follow, outputs_along, gone_for, lowest_free, stray_message, stray_answer, legal_outputs, openings_after, Opening}
 use Rattle.section_rows.specs.Examples.{routed}
+
+-- the legal outputs of a whole run, for these events and answers
+unfoldable pub runs : Lane → List Opening → List (Event × Option Answer) → List (List Output)
+runs lane openings [] = []
+runs lane openings (x ∷ rest) =
+    legal_outputs lane openings x.0 x.1 ∷ runs lane (openings_after lane openings x.0 x.1) rest
 
 -- the outputs of a lane for these events
 unfoldable pub played : Lane → List Event → List (List Output)

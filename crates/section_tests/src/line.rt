@@ -4,7 +4,7 @@ ghost use Rattle.section_model.specs.Lengths.{HandWithin, InputWithin, KeptWithi
 
 use relay_base::{Event, Lost, Memory, Octets, Output, Outs, Pc, Ref24, Sls};
 use section_class2::Line;
-use section_model::{Cell, Hand, HandList, Input, Kept, SectionState, WireHead};
+use section_model::{Cell, Hand, HandList, Input, KeptRelease, SectionState, WireHead};
 use std::alloc::Global;
 use std::process::Abort;
 use std::test::Fail;
@@ -42,7 +42,7 @@ fn section() -> Result<(WireHead, Line), Memory>
         credit: 0,
     };
     let line = Line {
-        kept: Kept::cause(3),
+        kept: KeptRelease::with_cause(3),
     };
     Ok((wire, line))
 }

@@ -18,10 +18,9 @@ use Rattle.section_model.specs.declared.input.Input.{Input}
 use Rattle.section_model.specs.declared.input.Input.TheVariants as input
 use Rattle.section_model.specs.Ends.{User}
 use Rattle.section_model.specs.Step.{is_in_range}
-use Rattle.section_model.specs.UserEnd.{given, handed, unit_count, units_of, user_asks, accepts, refuses, sends, expedites, disconnects, user_takes, confirmed, disconnected, collects, hears_expedited, hears_reset, left, taken}
-use Rattle.section_model.specs.Acting.{user_acts, user_hears_event}
+use Rattle.section_model.specs.UserEnd.{given, handed, unit_count, units_of, user_asks, accepts, refuses, sends, expedites, disconnects, user_takes, tells_confirm, tells_disconnect, collects, tells_expedited, tells_reset, user_counts_left, taken}
 use Rattle.section_user.specs.declared.side.UserSide.{UserSide}
-use Rattle.section_user.specs.Side.{ActsAs, user_of, unit_at, overruns, continues, completes}
+use Rattle.section_user.specs.Side.{ActsAs, user_of, unit_at, overruns, continues, completes, user_acts, user_hears_event}
 use Rattle.section_model.specs.Lengths.{IsData, HandWithin, HandsWithin, ActedWithin}
 use Rattle.section_user.specs.Lengths.{IsRequestInRange, IsInputInRange}
 use Rattle.section_user.proofs.Cutting.{starts_within}
@@ -108,12 +107,12 @@ takes-within : (c : Cell) (h : Hand) (x : User) → ActedWithin (user_takes c h 
 unfolding user_takes
 takes-within cell.TellConfirm h x = takes h
   where
-    takes : (h : Hand) → ActedWithin (confirmed h x).1
+    takes : (h : Hand) → ActedWithin (tells_confirm h x).1
     takes (hand.Accept class credit called body importance) = none
     takes _ = none
 takes-within cell.TellDisconnect h x = takes h
   where
-    takes : (h : Hand) → ActedWithin (disconnected h x).1
+    takes : (h : Hand) → ActedWithin (tells_disconnect h x).1
     takes (hand.Refuse cause called body importance) = none
     takes (hand.End cause body importance) = none
     takes _ = none
@@ -126,17 +125,17 @@ takes-within cell.TellUnit h x = takes h
     takes _ = none
 takes-within cell.TellExpedited h x = takes h
   where
-    takes : (h : Hand) → ActedWithin (hears_expedited h x).1
+    takes : (h : Hand) → ActedWithin (tells_expedited h x).1
     takes (hand.Expedited body) = (tt, taken-within x 0 true)
     takes _ = none
 takes-within cell.TellReset h x = takes h
   where
-    takes : (h : Hand) → ActedWithin (hears_reset h x).1
+    takes : (h : Hand) → ActedWithin (tells_reset h x).1
     takes (hand.Reset cause) = none
     takes _ = none
 takes-within cell.Left h x = takes h
   where
-    takes : (h : Hand) → ActedWithin (left h x).1
+    takes : (h : Hand) → ActedWithin (user_counts_left h x).1
     takes (hand.Left units expedited) = none
     takes _ = none
 takes-within _ h x = none

@@ -1,13 +1,18 @@
 -- A user's end as the code keeps it: without the counts of class 3.
 use Rattle.std.specs.Prelude.{◌≡◌, ℕ, ◌+◌, ◌*◌, ◌==◌, nat_lt, false, List, [], ◌∷◌, ◌++◌, take, drop, if◌then◌else◌, None}
+use Rattle.relay_base.specs.declared.words.Event.{Event}
+use Rattle.relay_base.specs.declared.words.Event.TheVariants.{Message as Arrived, Asked as Requested, Tick}
 use Rattle.relay_base.specs.declared.words.Tell.TheVariants as tell
+use Rattle.section_model.specs.declared.cell.Cell.{Cell}
+use Rattle.section_model.specs.declared.input.Input.{Input}
+use Rattle.section_model.specs.declared.input.Input.TheVariants as input
 use Rattle.section_model.specs.declared.cell.UserState.TheVariants.{Ready, Renewing, Gone}
 use Rattle.section_model.specs.declared.hand.Unit.{Unit as DataUnit}
 use Rattle.section_model.specs.declared.hand.Acted.{Acted}
 use Rattle.section_model.specs.declared.hand.Hand.TheVariants as hand
-use Rattle.section_model.specs.Ends.{User, gives, gives_then}
+use Rattle.section_model.specs.Ends.{User, no_effect, gives, gives_then}
 use Rattle.section_model.specs.Line.{granted}
-use Rattle.section_model.specs.UserEnd.{told, taken, unit_count}
+use Rattle.section_model.specs.UserEnd.{output_to, taken, unit_count, user_asks, user_takes}
 use Rattle.section_user.specs.declared.side.UserSide.{UserSide}
 
 -- with the units that the user gave since the counts were cleared, and how many of them left
@@ -23,14 +28,14 @@ user_of x got passed = record {
   passed = passed;
 }
 
-abbrev pub side_of : User → UserSide
-side_of x = record { ssn = x.ssn; mine = x.mine; state = x.state; class = x.class; credit = x.credit; text = x.text }
+abbrev pub user_side_of : User → UserSide
+user_side_of x = record { ssn = x.ssn; mine = x.mine; state = x.state; class = x.class; credit = x.credit; text = x.text }
 
 -- Whatever the counts are, the act makes this end of the one before, and does this.
 abbrev pub ActsAs : (User → User × Acted) → UserSide → UserSide → Acted → Type 0
 ActsAs act old new done =
     (got : List DataUnit) (passed : ℕ) →
-    let r = act (user_of old got passed) in (side_of r.0 ≡ new) × (r.1 ≡ done)
+    let r = act (user_of old got passed) in (user_side_of r.0 ≡ new) × (r.1 ≡ done)
 
 -- Whatever end it is, the act keeps it as it is, and does this.
 abbrev pub KeepsEnd : (User → User × Acted) → Acted → Type 0
@@ -50,14 +55,27 @@ abbrev pub resets : User → User × Acted
 resets x = (record x { state = Renewing; text = []; got = []; passed = 0 }, gives_then [] (hand.Reset 0 ∷ []))
 
 abbrev pub reset_done : User → User × Acted
-reset_done x = (record x { state = Ready }, gives (told x (tell.ResetDone x.mine) ∷ []))
+reset_done x = (record x { state = Ready }, gives (output_to x (tell.ResetDone x.mine) ∷ []))
 
 -- a text that is too long, one of which more follows, and a whole one
 abbrev pub overruns : User → User × Acted
-overruns x = (record x { state = Gone }, record { first = hand.End 0x07 None None ∷ []; outs = told x (tell.Disc x.mine 0x07 None) ∷ []; then = [] })
+overruns x = (record x { state = Gone }, record { first = hand.End 0x07 None None ∷ []; outs = output_to x (tell.Disc x.mine 0x07 None) ∷ []; then = [] })
 
 abbrev pub continues : List ℕ → User → User × Acted
 continues body x = (record x { text = x.text ++ body }, gives_then [] (taken x 1 false))
 
 abbrev pub completes : List ℕ → User → User × Acted
-completes body x = (record x { text = [] }, gives_then (told x (tell.Text x.mine (x.text ++ body)) ∷ []) (taken x 1 false))
+completes body x = (record x { text = [] }, gives_then (output_to x (tell.Text x.mine (x.text ++ body)) ∷ []) (taken x 1 false))
+
+-- What a user's end does upon an input, by the cell that the table has for it.
+
+abbrev pub user_hears_event : Cell → Event → User → User × Acted
+user_hears_event c (Arrived point sls bytes) x = (x, no_effect)
+user_hears_event c (Requested ssn r) x = user_asks c r x
+user_hears_event c Tick x = (x, no_effect)
+
+abbrev pub user_acts : Cell → Input → User → User × Acted
+user_acts c (input.Event event) x = user_hears_event c event.now x
+user_acts c (input.Timer number) x = (x, no_effect)
+user_acts c (input.Hand h) x = user_takes c h.now x
+user_acts c input.Turn x = (x, no_effect)

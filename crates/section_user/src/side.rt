@@ -2,8 +2,7 @@
 ghost use Rattle.std.specs.Prelude.{◌≡◌, ◌++◌, [], IfOk, OnErr};
 ghost use Rattle.relay_base.specs.declared.words.Output.TheVariants.{Told};
 ghost use Rattle.section_model.specs.UserEnd.{taken};
-ghost use Rattle.section_model.specs.Acting.{user_acts, user_hears_event};
-ghost use Rattle.section_user.specs.Side.{ActsAs, user_of};
+ghost use Rattle.section_user.specs.Side.{ActsAs, user_of, user_acts, user_hears_event};
 ghost use Rattle.section_model.specs.Lengths.{ActedWithin};
 ghost use Rattle.section_user.specs.Lengths.{IsInputInRange};
 

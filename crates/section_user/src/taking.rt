@@ -1,6 +1,6 @@
 //! What a user's end does upon the effects of the section.
 ghost use Rattle.std.specs.Prelude.{◌≡◌, IfOk, OnErr};
-ghost use Rattle.section_model.specs.UserEnd.{confirmed, disconnected, hears_expedited, hears_reset, user_takes};
+ghost use Rattle.section_model.specs.UserEnd.{tells_confirm, tells_disconnect, tells_expedited, tells_reset, user_takes};
 ghost use Rattle.section_user.specs.Side.{ActsAs, reset_done};
 
 use crate::side::UserSide;
@@ -11,8 +11,8 @@ use std::alloc::Global;
 
 impl UserSide {
     /// The other end accepted: its class and its credit are agreed on.
-    fn confirmed(&mut self, alloc: Global, hand: &Hand) -> Result<Acted, Memory>
-        ensures ok { IfOk result (λ done. ActsAs (confirmed hand.now) self.old self.new done) }
+    fn tells_confirm(&mut self, alloc: Global, hand: &Hand) -> Result<Acted, Memory>
+        ensures ok { IfOk result (λ done. ActsAs (tells_confirm hand.now) self.old self.new done) }
         ensures err { OnErr result (self.new ≡ self.old) }
     {
         let Hand::Accept {
@@ -40,8 +40,8 @@ impl UserSide {
     }
 
     /// The other end refused, or the connection ended.
-    fn disconnected(&mut self, alloc: Global, hand: &Hand) -> Result<Acted, Memory>
-        ensures ok { IfOk result (λ done. ActsAs (disconnected hand.now) self.old self.new done) }
+    fn tells_disconnect(&mut self, alloc: Global, hand: &Hand) -> Result<Acted, Memory>
+        ensures ok { IfOk result (λ done. ActsAs (tells_disconnect hand.now) self.old self.new done) }
         ensures err { OnErr result (self.new ≡ self.old) }
     {
         let (cause, body) = match hand {
@@ -60,8 +60,8 @@ impl UserSide {
     }
 
     /// Expedited data comes.
-    fn hears_expedited(&self, alloc: Global, hand: &Hand) -> Result<Acted, Memory>
-        ensures { IfOk result (λ done. ActsAs (hears_expedited hand.now) self.now self.now done) }
+    fn tells_expedited(&self, alloc: Global, hand: &Hand) -> Result<Acted, Memory>
+        ensures { IfOk result (λ done. ActsAs (tells_expedited hand.now) self.now self.now done) }
     {
         let Hand::Expedited { body } = hand else {
             return Ok(Acted::nothing(alloc));
@@ -76,8 +76,8 @@ impl UserSide {
     }
 
     /// The other end resets: what was put together of a text is lost.
-    fn hears_reset(&mut self, alloc: Global, hand: &Hand) -> Result<Acted, Memory>
-        ensures ok { IfOk result (λ done. ActsAs (hears_reset hand.now) self.old self.new done) }
+    fn tells_reset(&mut self, alloc: Global, hand: &Hand) -> Result<Acted, Memory>
+        ensures ok { IfOk result (λ done. ActsAs (tells_reset hand.now) self.old self.new done) }
         ensures err { OnErr result (self.new ≡ self.old) }
     {
         let Hand::Reset { cause } = hand else {
@@ -110,11 +110,11 @@ impl UserSide {
         ensures err { OnErr result (self.new ≡ self.old) }
     {
         match cell {
-            Cell::TellConfirm => self.confirmed(alloc, hand),
-            Cell::TellDisconnect => self.disconnected(alloc, hand),
+            Cell::TellConfirm => self.tells_confirm(alloc, hand),
+            Cell::TellDisconnect => self.tells_disconnect(alloc, hand),
             Cell::TellUnit => self.collects(alloc, hand),
-            Cell::TellExpedited => self.hears_expedited(alloc, hand),
-            Cell::TellReset => self.hears_reset(alloc, hand),
+            Cell::TellExpedited => self.tells_expedited(alloc, hand),
+            Cell::TellReset => self.tells_reset(alloc, hand),
             Cell::TellResetDone => self.reset_done(alloc),
             // Only the definition counts what left.
             _ => Ok(Acted::nothing(alloc)),

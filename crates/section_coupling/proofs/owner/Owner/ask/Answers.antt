@@ -1,6 +1,5 @@
-use Rattle.section_model.specs.Acting.{user_hears_event}
 use Rattle.std.proofs.Common.{ap, sym, ◌∙◌}
-use Rattle.section_user.specs.Side.{user_of}
+use Rattle.section_user.specs.Side.{user_of, user_hears_event}
 use Rattle.section_coupling.specs.Views.{user_at}
 use Rattle.section_coupling.proofs.SoundUsers.{event-granted, user_acted, acted_granted}
 use Rattle.section_coupling.proofs.owner.Owner.ask.Goals as goal

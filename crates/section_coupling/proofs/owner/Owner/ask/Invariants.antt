@@ -1,4 +1,4 @@
-use Rattle.section_model.specs.Acting.{user_hears_event}
+use Rattle.section_user.specs.Side.{user_hears_event}
 use Rattle.section_coupling.specs.Views.{user_at}
 use Rattle.section_coupling.proofs.owner.Owner.ask.Given as goal
 

@@ -1,5 +1,6 @@
 use Rattle.std.proofs.Common.{◌≡◌, ◌&&◌, not, false, sym, subst, ◌∙◌}
-use Rattle.section_model.specs.Ends.{section_of, is_up, is_connected}
+use Rattle.section_model.specs.Ends.{is_up, is_connected}
+use Rattle.section_model.specs.Views.{section_of}
 use Rattle.section_coupling.proofs.SoundLines.{line_acted, begun-or-same}
 use Rattle.section_coupling.proofs.wire.Wire.by_line.Goals as goal
 

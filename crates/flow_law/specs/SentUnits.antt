@@ -10,10 +10,10 @@ use Rattle.section_model.specs.Windowed.{may_leave, leaves}
 use Rattle.section_model.specs.Step.{event_step, on_windows}
 use Rattle.section_model.specs.Opening.{wish_of, opened}
 use Rattle.section_model.specs.Lane.{next, heard, follow}
-use Rattle.flow_law.specs.Kept.{passed_at, got_at}
+use Rattle.flow_law.specs.InStep.{passed_at, got_at}
 
 -- The units that left on the one end and on the other, in order.
-pub record Sent : Type 0 where
+pub record SentUnits : Type 0 where
   pub this : List DataUnit
   pub that : List DataUnit
 
@@ -35,13 +35,13 @@ abbrev pub with_leaving : End → List DataUnit → List DataUnit
 with_leaving e before = since_cleared e before ++ leaving e
 
 -- after one more event: units leave on the one end, and then on the other
-abbrev pub sent_next : Ticks → Connection → Event → Sent → Sent
+abbrev pub sent_next : Ticks → Connection → Event → SentUnits → SentUnits
 sent_next ticks c event before =
     let acted = (event_step ticks c event).0 in
     let this_left = (on_windows ticks leaves acted.this acted.that).0 in
     record { this = with_leaving acted.this before.this; that = with_leaving this_left.that before.that }
 
-unfoldable pub sent_along : Ticks → Connection → List Event → Sent → Sent
+unfoldable pub sent_along : Ticks → Connection → List Event → SentUnits → SentUnits
 sent_along ticks c [] before = before
 sent_along ticks c (event ∷ events) before = sent_along ticks (next ticks c event) events (sent_next ticks c event before)
 
@@ -50,7 +50,7 @@ abbrev pub AreSentInOrder : List DataUnit → End → End → Type 0
 AreSentInOrder units (wire x) other = x.head.class ≡ 3 → (units ≡ take (passed_at other) (got_at other)) × (length units ≡ x.windows.sent)
 AreSentInOrder units (owner u) other = Unit {0}
 
-abbrev pub AllSentInOrder : Sent → Connection → Type 0
+abbrev pub AllSentInOrder : SentUnits → Connection → Type 0
 AllSentInOrder sent c = AreSentInOrder sent.this c.this c.that × AreSentInOrder sent.that c.that c.this
 
 -- The law, from an opening on.

@@ -102,13 +102,13 @@ IsFresh (owner u) = GaveNothing u.state u.got u.passed
 
 -- The two ends: their stages meet, they are of one class, no credit is above 127, and a user gave nothing too early; in class 3 a user
 -- awaits the end of its reset only where its section isn't up, and data flow both ways.
-abbrev pub AreKept : End → End → Type 0
-AreKept this that =
+abbrev pub AreInStep : End → End → Type 0
+AreInStep this that =
     Meets (stage_at this) (stage_at that)
     × (class_at this ≡ class_at that)
     × ((credit_at this ≤ 127) × (credit_at that ≤ 127))
     × (IsFresh this × IsFresh that)
     × (class_at this ≡ 3 → ResetIsAwaited this that × Flows this that × Flows that this)
 
-abbrev pub IsKept : Connection → Type 0
-IsKept c = AreKept c.this c.that
+abbrev pub IsInStep : Connection → Type 0
+IsInStep c = AreInStep c.this c.that
