@@ -1,4 +1,4 @@
--- An act of one end: of a section, by its line or its windows and with its timers, or of a user.
+-- An act of one end (Q.714, Annex B): of a section, by its line or its windows and with its timers, or of a user.
 use Rattle.std.specs.Prelude.{ℕ, ◌==◌, ◌||◌, ◌&&◌, not, Bool, true, false, List, if◌then◌else◌, Option, Some, None}
 use Rattle.std.specs.List.{list_any}
 use Rattle.relay_base.specs.declared.words.Output.TheVariants.{Sent}

@@ -99,18 +99,7 @@ no_kept = only_cause 0
 
 -- the counts when they begin, with the credit that was agreed on
 abbrev pub cleared : ℕ → Windows
-cleared credit = record {
-  got = [];
-  passed = 0;
-  told = 0;
-  sent = 0;
-  acked = 0;
-  credit = credit;
-  waits = [];
-  waiting = None;
-  unanswered = false;
-  owed = false;
-}
+cleared credit = record { got = []; passed = 0; told = 0; sent = 0; acked = 0; credit = credit; waits = []; waiting = None; unanswered = false; owed = false }
 
 abbrev pub no_timers : Timers
 no_timers = record { connect = None; reset = None; iar = None; ias = None; rel = None; int = None; repeat = None }

@@ -1,8 +1,6 @@
 -- A legal connection journal: each entry has the outputs that the entries before it determine.
 use Rattle.std.specs.Prelude.{◌≡◌, ℕ, ◌+◌, ◌*◌, ◌/◌, ◌==◌, ◌&&◌, ◌||◌, nat_lt, not, Bool, true, false, List, [], ◌∷◌, ◌++◌, length, map, take, filter, find, if◌then◌else◌, Option, Some, None, Ok, Err, option_map, is_some, flat_map, count_by}
 use Rattle.std.specs.List.{list_any, range_with_len}
-use Rattle.std.specs.declared.result.Result.{Result}
-use Rattle.relay_base.specs.declared.words.ReadFault.{ReadFault}
 use Rattle.relay_base.specs.declared.words.Output.{Output}
 use Rattle.relay_base.specs.declared.words.Output.TheVariants.{Sent, Told, Lost as Dropped}
 use Rattle.relay_base.specs.declared.words.Lost.TheVariants as lost
@@ -14,10 +12,12 @@ use Rattle.plant_core.specs.declared.answer.Answer.{Answer}
 use Rattle.plant_core.specs.declared.entry.Entry.{Entry}
 use Rattle.plant_core.specs.declared.terms.Terms.{Terms}
 use Rattle.plant_core.specs.declared.terms.Ticks.{Ticks}
-use Rattle.q713_codec.specs.declared.message.Message.{Message}
-use Rattle.q713_codec.specs.declared.message.Message.TheVariants.{Cr, Cc, Cref, Rlsd, Rlc, Dt1, Dt2, Ak, Udt, Udts, Ed, Ea, Rsr, Rsc, Err as Error, It, Xudt, Xudts, Ludt, Ludts}
-use Rattle.q713_codec.specs.Reading.{reading_of}
+use Rattle.q713_codec.specs.declared.message.Message.TheVariants.{Rlc, Err as Error}
 use Rattle.q713_codec.specs.Writing.{spelling_of}
+use Rattle.section_model.specs.declared.cell.Occasion.{Occasion}
+use Rattle.section_model.specs.declared.cell.Occasion.TheVariants as on
+use Rattle.section_model.specs.declared.limits.TheConstants.{SLOTS}
+use Rattle.section_model.specs.Parameters.{Parameters, Arrival, arrival_in}
 use Rattle.section_model.specs.Ends.{End, wire, owner, Connection}
 use Rattle.section_model.specs.Step.{connection_step, hears, is_in_range, end_is_gone}
 use Rattle.section_model.specs.Opening.{Wish, by_cr, by_user, no_wish, wish_of, question_of, slots_needed, opened, Opened, not_opened}
@@ -42,12 +42,6 @@ unfoldable pub follow : Ticks → Connection → List Event → Connection
 follow ticks c [] = c
 follow ticks c (event ∷ events) = follow ticks (next ticks c event) events
 
--- and its outputs, one list for each
-unfoldable pub outputs_along : Ticks → Connection → List Event → List (List Output)
-outputs_along ticks c [] = []
-outputs_along ticks c (event ∷ events) =
-    (connection_step ticks c event).1 ∷ outputs_along ticks (next ticks c event) events
-
 -- A connection as an entry opened it, and the events of the lane since.
 pub record Opening : Type 0 where
   pub first : Connection
@@ -63,7 +57,7 @@ part_by ticks event c = elim (hears c event) [ true ↦ (connection_step ticks c
 abbrev pub part_of : Ticks → Event → Opening → List Output
 part_of ticks event o = part_by ticks event (connection_of ticks o)
 
--- The local references (Q.714, freezing of local references). A lane has the slots 1 to 4,095.
+-- The local references, and how long they are frozen (Q.714, 3.3.2). A lane has slots from 1 on.
 
 abbrev pub is_tick : Event → Bool
 is_tick (Arrived point sls bytes) = false
@@ -112,7 +106,7 @@ abbrev pub is_held : Ticks → List Opening → ℕ → Bool
 is_held ticks openings slot = list_any (holds ticks slot) openings
 
 abbrev pub free_slots : Ticks → List Opening → List ℕ
-free_slots ticks openings = filter (λ slot. not (is_held ticks openings slot)) (range_with_len 1 4095)
+free_slots ticks openings = filter (λ slot. not (is_held ticks openings slot)) (range_with_len 1 SLOTS)
 
 -- the references of the lowest free slots, or none where there are too few
 abbrev pub enough : Lane → ℕ → List ℕ → List ℕ
@@ -121,36 +115,22 @@ enough lane count free = if length free == count then map (reference_at lane) fr
 unfoldable pub lowest_free : Lane → List Opening → ℕ → List ℕ
 lowest_free lane openings count = enough lane count (take count (free_slots lane.terms.ticks openings))
 
--- What nobody hears (Q.714, messages for an unassigned local reference).
+-- What nobody hears (Q.714, messages for an unassigned local reference): CC, RSR and IT are answered by ERR, RLSD by RLC, and another message
+-- for a connection is lost. CR, and a message of the connectionless service, are none.
 
-unfoldable pub stray_message : ℕ → ℕ → Message → List Output
-stray_message point sls (Cr _ _ _ _ _ _ _ _) = []
-stray_message point sls (Cc dlr slr class credit called body importance) = Sent point sls (spelling_of (Error slr 0)) ∷ []
-stray_message point sls (Cref dlr cause called body importance) = Dropped lost.Stray ∷ []
-stray_message point sls (Rlsd dlr slr cause body importance) = Sent point sls (spelling_of (Rlc slr dlr)) ∷ []
-stray_message point sls (Rlc dlr slr) = Dropped lost.Stray ∷ []
-stray_message point sls (Dt1 dlr segmenting body) = Dropped lost.Stray ∷ []
-stray_message point sls (Dt2 dlr sequencing body) = Dropped lost.Stray ∷ []
-stray_message point sls (Ak dlr receive credit) = Dropped lost.Stray ∷ []
-stray_message point sls (Udt _ _ _ _) = []
-stray_message point sls (Udts _ _ _ _) = []
-stray_message point sls (Ed dlr body) = Dropped lost.Stray ∷ []
-stray_message point sls (Ea dlr) = Dropped lost.Stray ∷ []
-stray_message point sls (Rsr dlr slr cause) = Sent point sls (spelling_of (Error slr 0)) ∷ []
-stray_message point sls (Rsc dlr slr) = Dropped lost.Stray ∷ []
-stray_message point sls (Error dlr cause) = Dropped lost.Stray ∷ []
-stray_message point sls (It dlr slr class sequencing credit) = Sent point sls (spelling_of (Error slr 0)) ∷ []
-stray_message point sls (Xudt _ _ _ _ _ _ _) = []
-stray_message point sls (Xudts _ _ _ _ _ _ _) = []
-stray_message point sls (Ludt _ _ _ _ _ _ _) = []
-stray_message point sls (Ludts _ _ _ _ _ _ _) = []
+abbrev pub stray_output : ℕ → ℕ → Occasion → Parameters → Output
+stray_output point sls on.Cc m = Sent point sls (spelling_of (Error m.slr 0))
+stray_output point sls on.Rsr m = Sent point sls (spelling_of (Error m.slr 0))
+stray_output point sls on.It m = Sent point sls (spelling_of (Error m.slr 0))
+stray_output point sls on.Rlsd m = Sent point sls (spelling_of (Rlc m.slr m.dlr))
+stray_output point sls _ m = Dropped lost.Stray
 
-abbrev pub stray_reading : ℕ → ℕ → Result Message ReadFault → List Output
-stray_reading point sls (Ok message) = stray_message point sls message
-stray_reading point sls (Err fault) = []
+abbrev pub stray_arrival : ℕ → ℕ → Option Arrival → List Output
+stray_arrival point sls None = []
+stray_arrival point sls (Some a) = stray_output point sls a.occasion a.parameters ∷ []
 
 unfoldable pub stray_answer : Event → List Output
-stray_answer (Arrived point sls bytes) = stray_reading point sls (reading_of bytes)
+stray_answer (Arrived point sls bytes) = stray_arrival point sls (arrival_in bytes)
 stray_answer (Requested ssn r) = if is_in_range r then Told ssn (tell.No reason.Unknown) ∷ [] else []
 stray_answer Tick = []
 

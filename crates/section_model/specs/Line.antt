@@ -1,4 +1,4 @@
--- What a connection section does in both classes (Q.714, connection establishment, release, inactivity control), and the data of class 2.
+-- What a connection section does in both classes (Q.714, 3.1, 3.3 and 3.4), and the data of class 2 (3.5).
 use Rattle.std.specs.Prelude.{ℕ, ◌==◌, ◌||◌, ◌&&◌, nat_le, List, [], ◌∷◌, if◌then◌else◌, Option, Some, None, unwrap_or, min, max}
 use Rattle.relay_base.specs.declared.words.Output.TheVariants.{Sent, Lost as Dropped}
 use Rattle.relay_base.specs.declared.words.Lost.TheVariants as lost
@@ -21,18 +21,18 @@ use Rattle.section_model.specs.Ends.{SectionHead, Line, only_cause, no_effect, g
 abbrev pub sent_on : SectionHead → Message → Output
 sent_on x message = Sent x.point x.sls (spelling_of message)
 
--- a credit is written in class 3 alone
+-- a credit is written in class 3 alone (Q.713, 3.10)
 abbrev pub credit_of : ℕ → ℕ → Option ℕ
 credit_of class credit = if class == 3 then Some credit else None
 
--- a credit of 0 counts as 1, and one above the greatest as that
+-- a credit of 0 counts as 1, and one above the greatest as that (Q.714, 3.1.3)
 abbrev pub granted : ℕ → ℕ → ℕ
 granted credit most = min (max credit 1) most
 
 abbrev pub in_state : SectionState → Line → Line
 in_state state x = record x { head = record x.head { state = state } }
 
--- The section is to be released: it sends RLSD, and keeps what it says.
+-- The section is to be released (Q.714, 3.3): it sends RLSD, and keeps what it says.
 abbrev pub released : ℕ → Option (List ℕ) → Option ℕ → Line → Line
 released cause body importance x = record {
   head = record x.head { state = Ending };
@@ -45,15 +45,18 @@ rlsd x kept = sent_on x (Rlsd x.other x.mine kept.cause kept.body kept.importanc
 abbrev pub rlc : SectionHead → Output
 rlc x = sent_on x (Rlc x.other x.mine)
 
--- RLSD with this cause here, and the end for the other end.
-abbrev pub breaks : ℕ → Line → Line × Acted
-breaks cause x = (released cause None None x, gives_then (rlsd x.head (only_cause cause) ∷ []) (hand.End cause None None ∷ []))
+-- RLSD with this cause here, and an effect on the other end: the end, with the same cause.
+abbrev pub releases : ℕ → Hand → Line → Line × Acted
+releases cause h x = (released cause None None x, gives_then (rlsd x.head (only_cause cause) ∷ []) (h ∷ []))
 
--- CC comes from this point: the other end of the section is known.
+abbrev pub breaks : ℕ → Line → Line × Acted
+breaks cause x = releases cause (hand.End cause None None) x
+
+-- CC comes from this point (Q.714, 3.1): the other end of the section is known.
 abbrev pub reached : ℕ → ℕ → Line → Line
 reached point other x = record x { head = record x.head { point = point; other = other } }
 
--- The class and the credit that CC agrees on.
+-- The class and the credit that CC agrees on (Q.714, 3.1.3).
 abbrev pub agreed : SectionHead → Parameters → ℕ
 agreed x m = if m.class == 3 then granted (unwrap_or m.credit x.credit) x.credit else 0
 
@@ -65,27 +68,24 @@ confirms point m asked =
       record x { head = record x.head { state = Up; class = m.class; credit = agreed x.head m } },
       gives_then [] (hand.Accept m.class (agreed x.head m) m.called m.body m.importance ∷ []),
     )
-    else (
-      released 0x05 None None x,
-      gives_then (rlsd x.head (only_cause 0x05) ∷ []) (hand.Refuse 0x0F None None None ∷ []),
-    )
+    else releases 0x05 (hand.Refuse 0x0F None None None) x
 
 abbrev pub confirms_late : ℕ → Parameters → Line → Line × Acted
 confirms_late point m waning =
     let x = reached point m.slr waning in
     (released x.kept.cause None None x, gives (rlsd x.head (only_cause x.kept.cause) ∷ []))
 
--- ERR with cause 3 is answered by RLSD, another one frees the section.
+-- ERR (Q.713, 3.14) is answered by RLSD where the class is mismatched; another one frees the section.
 abbrev pub hears_error : Parameters → Line → Line × Acted
 hears_error m x =
-    if m.cause == 3
-    then (released 0x0F None None x, gives_then (rlsd x.head (only_cause 0x0F) ∷ []) (hand.End 0x0F None None ∷ []))
+    if m.cause == 3 then breaks 0x0F x
     else (in_state Gone x, gives_then [] (hand.End 0x0F None None ∷ []))
 
+-- IT (Q.714, 3.4) names the other reference and the class: where one is another, the section is released.
 abbrev pub hears_test : Parameters → Line → Line × Acted
 hears_test m x = if m.slr == x.head.other && m.class == x.head.class then (x, no_effect) else breaks 0x05 x
 
--- A message from a point. It has passed the checks, and the cell is the table's for it.
+-- A message from a point, which the checks let through, by the table's cell for it (Q.714, 3.1, 3.3, 3.4 and 3.5).
 unfoldable pub line_hears : Cell → ℕ → Parameters → Line → Line × Acted
 line_hears cell.Confirm point m x = confirms point m x
 line_hears cell.ConfirmLate point m x = confirms_late point m x
@@ -99,7 +99,7 @@ line_hears cell.TestReceived point m x = hears_test m x
 line_hears cell.Discard point m x = (x, gives (Dropped lost.State ∷ []))
 line_hears _ point m x = (x, no_effect)
 
--- A timer fires.
+-- A timer fires: T(conn est) (Q.714, 3.1), T(rel), T(repeat rel) and T(int) (3.3), T(iar) and T(ias) (3.4), T(reset) (3.7).
 unfoldable pub line_fires : Cell → Line → Line × Acted
 line_fires cell.NotAnswered x = (in_state Gone x, gives_then [] (hand.Refuse 0x0C None None None ∷ []))
 line_fires cell.ResetExpired x = breaks 0x0C x

@@ -1,4 +1,4 @@
--- How a connection is opened (Q.714, connection establishment): by CR from the network, or by a user's request.
+-- How a connection is opened (Q.714, 3.1): by CR from the network, or by a user's N-CONNECT request.
 use Rattle.std.specs.Prelude.{ℕ, ◌%◌, ◌==◌, ◌||◌, ◌&&◌, nat_le, Bool, true, false, List, [], ◌∷◌, ◌++◌, length, if◌then◌else◌, Option, Some, None, Ok, Err, unwrap_or, is_ok}
 use Rattle.std.specs.declared.result.Result.{Result}
 use Rattle.relay_base.specs.declared.words.ReadFault.{ReadFault}
@@ -27,6 +27,8 @@ use Rattle.q713_codec.specs.Writing.{spelling_of, is_in_range}
 use Rattle.plant_core.specs.Asking.{Question}
 use Rattle.plant_core.specs.Rewriting.{called_onward}
 use Rattle.scmg_messages.specs.Messages.{status_outputs}
+use Rattle.section_model.specs.declared.limits.TheConstants.{GREATEST_CREDIT, LONGEST_DATA}
+use Rattle.section_model.specs.declared.cell.SectionState.{SectionState}
 use Rattle.section_model.specs.declared.cell.SectionState.TheVariants as section
 use Rattle.section_model.specs.declared.cell.UserState.{UserState}
 use Rattle.section_model.specs.declared.cell.UserState.TheVariants as user
@@ -56,7 +58,7 @@ pub data Wish : Type 0 where
   by_user : ℕ → ℕ → Wanted → Wish
   no_wish : Wish
 
--- the credit that is offered on: in class 3 none and 0 count as 1, and one above the node's greatest as that
+-- the credit that is offered on (Q.714, 3.1.3): in class 3 none and 0 count as 1, and one above the node's greatest as that
 abbrev pub offered : Terms → ℕ → ℕ → ℕ
 offered terms class credit = if class == 3 then granted credit terms.credit else 0
 
@@ -82,7 +84,7 @@ wish_of_reading terms point sls (Err fault) = no_wish
 -- a request for a connection in its ranges
 abbrev pub may_be_wanted : ℕ → ℕ → List ℕ → List ℕ → Bool
 may_be_wanted class credit called body =
-    (class == 2 || class == 3) && nat_le credit 127 && nat_le (length called) 40 && is_ok (address_of called) && nat_le (length body) 128
+    (class == 2 || class == 3) && nat_le credit GREATEST_CREDIT && nat_le (length called) 40 && is_ok (address_of called) && nat_le (length body) LONGEST_DATA
 
 -- A user's connection: the calling address is its subsystem, the hop counter is 15, and the link selection comes of its tag.
 abbrev pub wanted_by_user : Terms → ℕ → ℕ → ℕ → ℕ → List ℕ → List ℕ → Wanted
@@ -109,7 +111,7 @@ wish_of terms (Arrived point sls bytes) = wish_of_reading terms point sls (readi
 wish_of terms (Requested ssn r) = wish_of_request terms ssn r
 wish_of terms Tick = no_wish
 
--- What routing is asked: nothing for a CR of another class, or whose called address is none.
+-- What routing is asked (Q.714, 2.3): nothing for a CR of another class, or whose called address is none.
 abbrev pub asked_for : Option ℕ → Origin → Result Form AddressFault → Option Question
 asked_for hop origin (Ok a) = Some (record { called = a; hop = hop; origin = origin })
 asked_for hop origin (Err fault) = None
@@ -135,29 +137,18 @@ abbrev pub new_user : UserState → ℕ → ℕ → Wanted → End
 new_user state ssn mine w = owner (record { ssn = ssn; mine = mine; state = state; class = w.class; credit = w.credit; text = []; got = []; passed = 0 })
 
 -- the section from which CR came, and the one that CR goes out on
+abbrev pub section_between : SectionState → Terms → ℕ → ℕ → ℕ → Wanted → End
+section_between state terms point mine other w =
+    new_section terms.ticks
+    (record { point = point; mine = mine; other = other; sls = w.sls; state = state; class = w.class; credit = w.credit })
+
 abbrev pub asked_section : Terms → ℕ → Wanted → End
-asked_section terms mine w = new_section terms.ticks (record {
-  point = w.point;
-  mine = mine;
-  other = w.slr;
-  sls = w.sls;
-  state = section.Asked;
-  class = w.class;
-  credit = w.credit;
-})
+asked_section terms mine w = section_between section.Asked terms w.point mine w.slr w
 
 abbrev pub asking_section : Terms → ℕ → ℕ → Wanted → End
-asking_section terms point mine w = new_section terms.ticks (record {
-  point = point;
-  mine = mine;
-  other = 0;
-  sls = w.sls;
-  state = section.Asking;
-  class = w.class;
-  credit = w.credit;
-})
+asking_section terms point mine w = section_between section.Asking terms point mine 0 w
 
--- CREF goes to where CR came from
+-- CREF (Q.713, 4.4) goes to where CR came from
 abbrev pub cref_to : Wanted → ℕ → Output
 cref_to w cause = Sent w.point w.sls (spelling_of (Cref w.slr cause None None None))
 
@@ -184,15 +175,18 @@ opened_onward terms w point rewrite hop mine next =
     opened_with (record { this = asked_section terms mine w; that = asking_section terms point next w })
     (Sent point w.sls (spelling_of (onward w rewrite hop next)) ∷ [])
 
--- CR, with the references that are free for it: as many as it needs, or none where there are too few
+-- where two references are free
+abbrev pub opened_through : Terms → Wanted → ℕ → Rewrite → Option ℕ → List ℕ → Opened
+opened_through terms w point rewrite hop (mine ∷ next ∷ refs) = opened_onward terms w point rewrite hop mine next
+opened_through terms w point rewrite hop _ = not_opened (cref_to w 0x07 ∷ [])
+
+-- CR, with the references that are free for it: as many as it needs, or fewer where too few are free. One that goes on has to fit first.
 unfoldable pub opened_by_cr : Terms → Wanted → Answer → List ℕ → Opened
 opened_by_cr terms w (Refused cause local) refs = not_opened (cref_to w (refusal_code cause) ∷ status_outputs terms.own w.point w.sls local)
 opened_by_cr terms w (Local ssn) [] = not_opened (cref_to w 0x07 ∷ [])
 opened_by_cr terms w (Local ssn) (mine ∷ refs) = opened_locally terms w ssn mine
-opened_by_cr terms w (Forward point rewrite hop) [] = not_opened (cref_to w (if fits w rewrite hop then 0x07 else 0x0F) ∷ [])
-opened_by_cr terms w (Forward point rewrite hop) (mine ∷ []) = not_opened (cref_to w (if fits w rewrite hop then 0x07 else 0x0F) ∷ [])
-opened_by_cr terms w (Forward point rewrite hop) (mine ∷ next ∷ refs) =
-    if fits w rewrite hop then opened_onward terms w point rewrite hop mine next else not_opened (cref_to w 0x0F ∷ [])
+opened_by_cr terms w (Forward point rewrite hop) refs =
+    if fits w rewrite hop then opened_through terms w point rewrite hop refs else not_opened (cref_to w 0x0F ∷ [])
 
 -- from a user to a section
 abbrev pub opened_out : Terms → ℕ → ℕ → Wanted → ℕ → Rewrite → ℕ → Opened
@@ -211,13 +205,8 @@ opened_by_user terms ssn tag w (Forward point rewrite hop) (mine ∷ refs) = ope
 unfoldable pub slots_needed : Wish → Option Answer → ℕ
 slots_needed (by_cr w) (Some (Local ssn)) = 1
 slots_needed (by_cr w) (Some (Forward point rewrite hop)) = if fits w rewrite hop then 2 else 0
-slots_needed (by_cr w) (Some (Refused cause local)) = 0
-slots_needed (by_cr w) None = 0
 slots_needed (by_user ssn tag w) (Some (Forward point rewrite hop)) = 1
-slots_needed (by_user ssn tag w) (Some (Local other)) = 0
-slots_needed (by_user ssn tag w) (Some (Refused cause local)) = 0
-slots_needed (by_user ssn tag w) None = 0
-slots_needed no_wish answer = 0
+slots_needed _ _ = 0
 
 -- The opening. Routing is answered where it was asked; else CR is refused, as one of another class or without a called address.
 unfoldable pub opened : Terms → Wish → Option Answer → List ℕ → Opened

@@ -3,12 +3,12 @@ use Rattle.std.specs.Prelude.{ℕ, ◌/◌, ◌%◌, ◌==◌, Bool, false, List
 use Rattle.std.specs.declared.result.Result.{Result}
 use Rattle.relay_base.specs.declared.words.ReadFault.{ReadFault}
 use Rattle.q713_codec.specs.declared.message.Message.{Message}
-use Rattle.q713_codec.specs.declared.message.Message.TheVariants.{Cr, Cc, Cref, Rlsd, Rlc, Dt1, Dt2, Ak, Udt, Udts, Ed, Ea, Rsr, Rsc, Err as Error, It, Xudt, Xudts, Ludt, Ludts}
+use Rattle.q713_codec.specs.declared.message.Message.TheVariants.{Cc, Cref, Rlsd, Rlc, Dt1, Dt2, Ak, Ed, Ea, Rsr, Rsc, Err as Error, It}
 use Rattle.q713_codec.specs.Reading.{reading_of}
 use Rattle.section_model.specs.declared.cell.Occasion.{Occasion}
 use Rattle.section_model.specs.declared.cell.Occasion.TheVariants as on
 
--- The parameters of a message for a connection; 0, none and no octets stand for those that its type lacks.
+-- The parameters of a message for a connection (Q.713, 3); 0, none and no octets stand for those that its type lacks.
 pub record Parameters : Type 0 where
   pub dlr : ℕ
   pub slr : ℕ
@@ -24,23 +24,9 @@ pub record Parameters : Type 0 where
   pub pr : ℕ
 
 abbrev pub only_dlr : ℕ → Parameters
-only_dlr dlr = record {
-  dlr = dlr;
-  slr = 0;
-  class = 0;
-  cause = 0;
-  credit = None;
-  called = None;
-  body = None;
-  importance = None;
-  data_octets = [];
-  more = false;
-  ps = 0;
-  pr = 0;
-}
+only_dlr dlr = record { dlr = dlr; slr = 0; class = 0; cause = 0; credit = None; called = None; body = None; importance = None; data_octets = []; more = false; ps = 0; pr = 0 }
 
--- the class, the flag M and the sequence numbers in their octets (Q.713, protocol class, segmenting/reassembling,
--- sequencing/segmenting)
+-- the class (Q.713, 3.6), the flag M (3.7 and 3.9) and the sequence numbers (3.8 and 3.9) in their octets
 abbrev pub class_in : ℕ → ℕ
 class_in octet = octet % 16
 
@@ -58,8 +44,8 @@ pub record Arrival : Type 0 where
 abbrev arrival : Occasion → Parameters → Option Arrival
 arrival o p = Some (record { occasion = o; parameters = p })
 
+-- the message for a connection that a message is: none where it is CR or one of the connectionless service
 unfoldable pub arrival_of : Message → Option Arrival
-arrival_of (Cr _ _ _ _ _ _ _ _) = None
 arrival_of (Cc dlr slr class credit called body importance) = arrival on.Cc (record (only_dlr dlr) { slr = slr; class = class_in class; credit = credit; called = called; body = body; importance = importance })
 arrival_of (Cref dlr cause called body importance) = arrival on.Cref (record (only_dlr dlr) { cause = cause; called = called; body = body; importance = importance })
 arrival_of (Rlsd dlr slr cause body importance) = arrival on.Rlsd (record (only_dlr dlr) { slr = slr; cause = cause; body = body; importance = importance })
@@ -72,18 +58,13 @@ arrival_of (Dt2 dlr sequencing body) = arrival on.Dt2 (record (only_dlr dlr) {
   pr = number_in (slice_index sequencing 1);
 })
 arrival_of (Ak dlr receive credit) = arrival on.Ak (record (only_dlr dlr) { pr = number_in receive; credit = Some credit })
-arrival_of (Udt _ _ _ _) = None
-arrival_of (Udts _ _ _ _) = None
 arrival_of (Ed dlr body) = arrival on.Ed (record (only_dlr dlr) { data_octets = body })
 arrival_of (Ea dlr) = arrival on.Ea (only_dlr dlr)
 arrival_of (Rsr dlr slr cause) = arrival on.Rsr (record (only_dlr dlr) { slr = slr; cause = cause })
 arrival_of (Rsc dlr slr) = arrival on.Rsc (record (only_dlr dlr) { slr = slr })
 arrival_of (Error dlr cause) = arrival on.Err (record (only_dlr dlr) { cause = cause })
 arrival_of (It dlr slr class sequencing credit) = arrival on.It (record (only_dlr dlr) { slr = slr; class = class_in class })
-arrival_of (Xudt _ _ _ _ _ _ _) = None
-arrival_of (Xudts _ _ _ _ _ _ _) = None
-arrival_of (Ludt _ _ _ _ _ _ _) = None
-arrival_of (Ludts _ _ _ _ _ _ _) = None
+arrival_of _ = None
 
 abbrev pub arrival_by : Result Message ReadFault → Option Arrival
 arrival_by (Ok message) = arrival_of message

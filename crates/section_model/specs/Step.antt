@@ -10,6 +10,7 @@ use Rattle.relay_base.specs.declared.words.Request.{Request}
 use Rattle.relay_base.specs.declared.words.Request.TheVariants as request
 use Rattle.relay_base.specs.declared.words.Event.{Event}
 use Rattle.relay_base.specs.declared.words.Event.TheVariants.{Message as Arrived, Asked as Requested, Tick}
+use Rattle.section_model.specs.declared.limits.TheConstants.{GREATEST_CREDIT, MOST_WAITING, LONGEST_DATA, LONGEST_EXPEDITED, LONGEST_TEXT}
 use Rattle.section_model.specs.declared.cell.Timer.{Timer}
 use Rattle.section_model.specs.declared.cell.Cell.{Cell}
 use Rattle.section_model.specs.declared.cell.Cell.TheVariants as cell
@@ -34,7 +35,7 @@ use Rattle.section_model.specs.Timing.{firing, is_due, lowered, heard_again, rea
 use Rattle.section_model.specs.Acting.{timed, by_windows, section_hears, section_fires}
 use Rattle.section_model.specs.Coupling.{settles, and_then, on_that}
 
--- The checks before the cell, on a message with this meaning that comes from a point.
+-- The checks before the cell (Q.714, Annex B), on a message with this meaning that comes from a point.
 
 abbrev pub names_both : Occasion → Bool
 names_both on.Rlsd = true
@@ -88,7 +89,7 @@ abbrev pub hears_checked : Ticks → Occasion → ℕ → Parameters → Section
 hears_checked ticks o point m x (Some out) = keeps ticks out x
 hears_checked ticks o point m x None = section_hears ticks (section_cell x.head.state o) point m x
 
--- a message from the section's point starts its receive inactivity timer again
+-- a message from the section's point starts its receive inactivity timer again (Q.714, 3.4)
 abbrev pub in_touch : Ticks → Section → Section
 in_touch ticks x = record x { timers = heard_again ticks x.timers }
 
@@ -115,12 +116,12 @@ named _ = None
 
 -- what may be asked on a connection
 abbrev pub is_in_range : Request → Bool
-is_in_range (request.Accept mine class credit body) = (class == 2 || class == 3) && nat_le credit 127 && nat_le (length body) 128
-is_in_range (request.Refuse mine cause body) = nat_le (length body) 128
-is_in_range (request.Send mine body) = nat_lt 0 (length body) && nat_le (length body) 8192
-is_in_range (request.Expedite mine body) = nat_lt 0 (length body) && nat_le (length body) 32
+is_in_range (request.Accept mine class credit body) = (class == 2 || class == 3) && nat_le credit GREATEST_CREDIT && nat_le (length body) LONGEST_DATA
+is_in_range (request.Refuse mine cause body) = nat_le (length body) LONGEST_DATA
+is_in_range (request.Send mine body) = nat_lt 0 (length body) && nat_le (length body) LONGEST_TEXT
+is_in_range (request.Expedite mine body) = nat_lt 0 (length body) && nat_le (length body) LONGEST_EXPEDITED
 is_in_range (request.Reset mine) = true
-is_in_range (request.Disc mine cause body) = nat_le (length body) 128
+is_in_range (request.Disc mine cause body) = nat_le (length body) LONGEST_DATA
 is_in_range _ = false
 
 abbrev pub asking_cell : UserState → Request → Cell
@@ -132,11 +133,11 @@ asking_cell s (request.Reset mine) = user_cell s by.Resets
 asking_cell s (request.Disc mine cause body) = user_cell s by.Disconnects
 asking_cell s _ = cell.Nothing
 
--- A request is refused for its class, and then for want of room.
+-- A request is refused for its class, and then for want of room (Q.714, 3.5 to 3.7).
 abbrev pub refusal : Request → User → Section → Option Reason
 refusal (request.Accept mine class credit body) u x = if nat_lt u.class class then Some reason.Class else None
 refusal (request.Send mine body) u x =
-    if u.class == 3 && nat_lt 127 (length x.windows.waits + unit_count body) then Some reason.Full else None
+    if u.class == 3 && nat_lt MOST_WAITING (length x.windows.waits + unit_count body) then Some reason.Full else None
 refusal (request.Expedite mine body) u x =
     if u.class == 2 then Some reason.Class else if is_some x.windows.waiting then Some reason.Expedited else None
 refusal (request.Reset mine) u x =
@@ -199,7 +200,7 @@ fires_due ticks c = fold (fires_next ticks) (c, []) firing_order
 abbrev pub ticks_by : Ticks → Connection → Connection × List Output
 ticks_by ticks c = and_then (on_that (fires_due ticks)) (fires_due ticks (record { this = ticked c.this; that = ticked c.that }))
 
--- After each event, on a section of class 3 that is up.
+-- After each event, on a section of class 3 that is up (Q.714, 3.5.2 and 3.6).
 abbrev pub on_windows : Ticks → (Windowed → Windowed × Acted) → End → End → Connection × List Output
 on_windows ticks act (wire x) that =
     if is_up x.head.state && x.head.class == 3 then settles ticks (timed ticks x (by_windows act x)) that

@@ -1,4 +1,5 @@
--- The timers of a section, in ticks. Each runs in the states that have it.
+-- The timers of a section, in ticks: T(conn est) (Q.714, 3.1), T(rel), T(int) and T(repeat rel) (3.3), T(iar) and T(ias) (3.4), T(reset)
+-- (3.7). Each runs in the states that have it.
 use Rattle.std.specs.Prelude.{ℕ, pred, ◌==◌, Bool, true, false, List, [], ◌∷◌, if◌then◌else◌, Option, Some, None, option_map}
 use Rattle.section_model.specs.declared.cell.Timer.{Timer}
 use Rattle.section_model.specs.declared.cell.Timer.TheVariants.{Connect, Reset, Iar, Ias, Rel, Int, Repeat}
@@ -72,7 +73,7 @@ abbrev pub again : ℕ → Option ℕ → Option ℕ
 again ticks None = None
 again ticks (Some left) = Some ticks
 
--- being sent a message starts ias again
+-- being sent a message starts T(ias) again (Q.714, 3.4)
 abbrev pub sent_again : Ticks → Timers → Timers
 sent_again ticks t = record t { ias = again ticks.ias t.ias }
 
@@ -84,11 +85,11 @@ unfoldable pub timers_after : Ticks → SectionState → SectionState → Bool �
 timers_after ticks old new is_sent t =
     if is_sent then sent_again ticks (in_new_state ticks old new t) else in_new_state ticks old new t
 
--- A message that comes from the section's point starts iar again.
+-- A message that comes from the section's point starts T(iar) again (Q.714, 3.4).
 abbrev pub heard_again : Ticks → Timers → Timers
 heard_again ticks t = record t { iar = again ticks.iar t.iar }
 
--- A timer that fired is armed anew, or no longer, where the section keeps its state.
+-- A timer that fired is armed anew, or no longer, where the section keeps its state (Q.714, 3.3).
 abbrev pub rearmed : Ticks → Timer → Timers → Timers
 rearmed ticks Rel t = record t { rel = None; int = Some ticks.int; repeat = Some ticks.repeat }
 rearmed ticks Repeat t = record t { repeat = Some ticks.repeat }

@@ -1,5 +1,5 @@
--- What a user's end does: its requests, the cutting of a text into units, and the putting together of one.
-use Rattle.std.specs.Prelude.{ℕ, ◌+◌, ◌*◌, ◌/◌, ◌==◌, nat_lt, Bool, true, false, List, [], ◌∷◌, ◌++◌, length, take, drop, map, if◌then◌else◌, Option, Some, None}
+-- What a user's end does (Q.711): its requests, the cutting of a text into units, and the putting together of one (Q.714, 3.5.3).
+use Rattle.std.specs.Prelude.{ℕ, ◌+◌, ◌-◌, ◌*◌, ◌/◌, ◌==◌, nat_lt, Bool, true, false, List, [], ◌∷◌, ◌++◌, length, take, drop, map, if◌then◌else◌, Option, Some, None}
 use Rattle.std.specs.List.{range_with_len}
 use Rattle.relay_base.specs.declared.words.Output.TheVariants.{Told}
 use Rattle.relay_base.specs.declared.words.Tell.{Tell}
@@ -9,6 +9,7 @@ use Rattle.relay_base.specs.declared.words.Request.TheVariants as request
 use Rattle.section_model.specs.declared.hand.Hand.TheVariants as hand
 use Rattle.section_model.specs.declared.cell.Cell.{Cell}
 use Rattle.section_model.specs.declared.cell.Cell.TheVariants as cell
+use Rattle.section_model.specs.declared.limits.TheConstants.{LONGEST_TEXT, LONGEST_UNIT}
 use Rattle.section_model.specs.declared.cell.UserState.TheVariants.{Ready, Renewing, Gone}
 use Rattle.section_model.specs.declared.hand.Unit.{Unit as DataUnit}
 use Rattle.section_model.specs.declared.hand.Acted.{Acted}
@@ -25,13 +26,13 @@ abbrev pub given : List ℕ → Option (List ℕ)
 given [] = None
 given (b ∷ body) = Some (b ∷ body)
 
--- A text in units of 255 octets, the last with the rest, and M on all but the last.
+-- A text in units as long as they may be, the last with the rest, and M on all but the last.
 abbrev pub unit_count : List ℕ → ℕ
-unit_count body = (length body + 254) / 255
+unit_count body = (length body + (LONGEST_UNIT - 1)) / LONGEST_UNIT
 
 abbrev pub units_of : List ℕ → List DataUnit
 units_of body =
-    map (λ k. record { more = nat_lt (k + 1) (unit_count body); body = take 255 (drop (255 * k) body) }) (range_with_len 0 (unit_count body))
+    map (λ k. record { more = nat_lt (k + 1) (unit_count body); body = take LONGEST_UNIT (drop (LONGEST_UNIT * k) body) }) (range_with_len 0 (unit_count body))
 
 abbrev pub handed : DataUnit → Hand
 handed u = hand.Unit u.more u.body
@@ -83,11 +84,11 @@ tells_disconnect _ x = (x, no_effect)
 abbrev pub taken : User → ℕ → Bool → List Hand
 taken x units is_expedited = if x.class == 3 then hand.Left units is_expedited ∷ [] else []
 
--- A unit joins the text; a text of more than 8,192 octets ends the connection, and a whole one is told.
+-- A unit joins the text; a text that is too long ends the connection, and a whole one is told.
 abbrev pub collects : Hand → User → User × Acted
 collects (hand.Unit more body) x =
     let text = x.text ++ body in
-    if nat_lt 8192 (length text)
+    if nat_lt LONGEST_TEXT (length text)
     then (record x { state = Gone }, record { first = hand.End 0x07 None None ∷ []; outs = output_to x (tell.Disc x.mine 0x07 None) ∷ []; then = [] })
     else if more then (record x { text = text }, gives_then [] (taken x 1 false))
     else (record x { text = [] }, gives_then (output_to x (tell.Text x.mine text) ∷ []) (taken x 1 false))

@@ -1,10 +1,11 @@
--- What a connection section does in class 3 alone (Q.714, flow control, expedited data transfer, reset): numbered data, its windows, expedited data, and the reset.
+-- What a connection section does in class 3 alone: numbered data and its windows (Q.714, 3.5.2), expedited data (3.6), and the reset (3.7).
 use Rattle.std.specs.Prelude.{ℕ, suc, ◌+◌, ◌-◌, ◌*◌, ◌%◌, ◌==◌, ◌||◌, ◌&&◌, nat_le, nat_lt, not, Bool, true, false, List, [], ◌∷◌, ◌++◌, length, take, drop, if◌then◌else◌, Option, Some, None, unwrap_or, is_some, min}
 use Rattle.relay_base.specs.declared.words.Output.TheVariants.{Lost as Dropped}
 use Rattle.relay_base.specs.declared.words.Lost.TheVariants as lost
 use Rattle.section_model.specs.declared.hand.Hand.TheVariants as hand
 use Rattle.section_model.specs.declared.cell.Cell.{Cell}
 use Rattle.section_model.specs.declared.cell.Cell.TheVariants as cell
+use Rattle.section_model.specs.declared.limits.TheConstants.{GREATEST_CREDIT, SEQUENCE_NUMBERS}
 use Rattle.section_model.specs.declared.cell.SectionState.TheVariants.{Up, Resetting}
 use Rattle.q713_codec.specs.declared.message.Message.TheVariants.{Dt2, Ak, Ed, Ea, Rsr, Rsc, It}
 use Rattle.section_model.specs.Parameters.{Parameters}
@@ -20,31 +21,31 @@ pub record Windowed : Type 0 where
   pub head : SectionHead
   pub windows : Windows
 
--- a count as the three messages of class 3 carry it, from bit 2 on
+-- a count as the messages of class 3 carry it, from bit 2 on (Q.713, 3.8 and 3.9)
 abbrev pub sequence : ℕ → ℕ
-sequence n = 2 * (n % 128)
+sequence n = 2 * (n % SEQUENCE_NUMBERS)
 
 -- how far a number of a message stands ahead of a count, modulo 128
 abbrev pub ahead : ℕ → ℕ → ℕ
-ahead number count = (number + 128 - count % 128) % 128
+ahead number count = (number + SEQUENCE_NUMBERS - count % SEQUENCE_NUMBERS) % SEQUENCE_NUMBERS
 
--- a P(R) is valid where it stands for a count from the last one received up to the units sent
+-- a P(R) is valid (Q.714, 3.5.2) where it stands for a count from the last one received up to the units sent
 abbrev pub is_valid : ℕ → Windows → Bool
 is_valid pr w = nat_le (ahead pr w.acked) (w.sent - w.acked)
 
 abbrev pub acknowledged : ℕ → Windows → Windows
 acknowledged pr w = record w { acked = w.acked + ahead pr w.acked }
 
--- RSR with a cause here, the counts of both ends cleared, and the reset for the other end.
+-- RSR with a cause here (Q.714, 3.7), the counts of both ends cleared, and the reset for the other end.
 abbrev pub resets : ℕ → Windowed → Windowed × Acted
 resets cause x = (
   record { head = record x.head { state = Resetting }; windows = cleared x.head.credit },
   gives_then (sent_on x.head (Rsr x.head.other x.head.mine cause) ∷ []) (hand.Reset cause ∷ []),
 )
 
--- DT2: it carries the next number, the window is not used up, and its P(R) is valid.
+-- DT2 (Q.714, 3.5.2): it carries the next number, the window is not used up, and its P(R) is valid.
 abbrev pub is_next : Parameters → Windowed → Bool
-is_next m x = m.ps == length x.windows.got % 128
+is_next m x = m.ps == length x.windows.got % SEQUENCE_NUMBERS
 
 abbrev pub is_used_up : Windowed → Bool
 is_used_up x = length x.windows.got - x.windows.told == x.head.credit
@@ -65,18 +66,20 @@ takes_data m x =
     else if not (is_valid m.pr x.windows) then resets 0x03 x
     else accepts_unit m x
 
+-- AK (Q.714, 3.5.2): its P(R) is taken, and its credit.
 abbrev pub takes_acknowledgement : Parameters → Windowed → Windowed × Acted
 takes_acknowledgement m x =
     if is_valid m.pr x.windows
-    then (record x { windows = record (acknowledged m.pr x.windows) { credit = min (unwrap_or m.credit 0) 127 } }, no_effect)
+    then (record x { windows = record (acknowledged m.pr x.windows) { credit = min (unwrap_or m.credit 0) GREATEST_CREDIT } }, no_effect)
     else resets 0x03 x
 
+-- ED (Q.714, 3.6): one whose EA is owed yet is an error.
 abbrev pub takes_expedited : Parameters → Windowed → Windowed × Acted
 takes_expedited m x =
     if x.windows.owed then resets 0x06 x
     else (record x { windows = record x.windows { owed = true } }, gives_then [] (hand.Expedited m.data_octets ∷ []))
 
--- Expedited data leaves, and its EA is awaited.
+-- Expedited data leaves, and its EA is awaited (Q.714, 3.6).
 abbrev pub sends_expedited : Option (List ℕ) → Windowed → Windowed × Acted
 sends_expedited None x = (x, no_effect)
 sends_expedited (Some body) x = (
@@ -84,6 +87,7 @@ sends_expedited (Some body) x = (
   gives_then (sent_on x.head (Ed x.head.other body) ∷ []) (hand.Left 0 true ∷ []),
 )
 
+-- EA (Q.714, 3.6): expedited data that waits leaves.
 abbrev pub takes_answer : Windowed → Windowed × Acted
 takes_answer x =
     if x.windows.unanswered then sends_expedited x.windows.waiting (record x { windows = record x.windows { unanswered = false } })
@@ -100,7 +104,7 @@ windowed_hears cell.ResetByPeer m x =
 windowed_hears cell.ResetComplete m x = (record x { head = record x.head { state = Up } }, gives_then [] (hand.Done ∷ []))
 windowed_hears _ m x = (x, no_effect)
 
--- The timer of inactivity fires.
+-- T(ias) fires (Q.714, 3.4).
 unfoldable pub windowed_fires : Windowed → Windowed × Acted
 windowed_fires x =
     (x, gives (sent_on x.head (It x.head.other x.head.mine x.head.class (sequence x.windows.sent ∷ sequence x.windows.passed ∷ []) x.head.credit) ∷ []))
@@ -153,7 +157,7 @@ numbered x ps pr (u ∷ units) =
 abbrev pub may_leave : Windows → ℕ
 may_leave w = min (length w.waits) (w.credit - (w.sent - w.acked))
 
--- After each event, on a section that is up: units leave as far as the window goes, and then expedited data.
+-- After each event, on a section that is up: units leave as far as the window goes (Q.714, 3.5.2), and then expedited data (3.6).
 unfoldable pub leaves : Windowed → Windowed × Acted
 leaves x =
     let w = x.windows in

@@ -6,6 +6,7 @@ mod cell;
 mod hand;
 mod input;
 mod laws;
+pub mod limits;
 mod wire;
 
 pub use arrival::{ArrivalView, ParametersView, arrival_in, arrival_of};

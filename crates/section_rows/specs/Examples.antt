@@ -14,8 +14,10 @@ use Rattle.plant_core.specs.declared.answer.Answer.{Answer}
 use Rattle.plant_core.specs.Plant.{RoutingData, start_of}
 use Rattle.plant_core.specs.Routing.{route_of}
 use Rattle.plant_core.specs.Asking.{Question}
+use Rattle.section_model.specs.Ends.{Connection}
+use Rattle.section_model.specs.Step.{connection_step}
 use Rattle.section_model.specs.Opening.{Opened, wish_of, question_of, slots_needed, opened}
-use Rattle.section_model.specs.Lane.{Lane, enough, outputs_along}
+use Rattle.section_model.specs.Lane.{Lane, next, enough}
 use Rattle.section_rows.specs.Text.{hex}
 
 -- The node: point 100 with subsystem 8. Titles that begin with 49 are those of subsystem 8 at point 300.
@@ -83,6 +85,12 @@ opening_in slots event =
     let answer = answer_to (question_of wish) in
     let count = slots_needed wish answer in
     opened first_lane.terms wish answer (enough first_lane count (take count slots))
+
+-- the outputs of a connection along events that it hears, one list for each
+unfoldable pub outputs_along : Ticks → Connection → List Event → List (List Output)
+outputs_along ticks c [] = []
+outputs_along ticks c (event ∷ events) =
+    (connection_step ticks c event).1 ∷ outputs_along ticks (next ticks c event) events
 
 -- the outputs of the connection that an event opens, with the lane's first two references, along events that it hears
 abbrev pub along : Lane → Event → List Event → Option (List (List Output))

@@ -25,8 +25,8 @@ use Rattle.section_model.specs.Acting.{section_hears, section_fires, section_tak
 use Rattle.section_model.specs.Coupling.{exchange}
 use Rattle.section_model.specs.Step.{hears_message, asks, fires_due, after_event, connection_step, hears}
 use Rattle.section_model.specs.Opening.{wish_of, question_of, opened_by_cr, opened_by_user, slots_needed, opened}
-use Rattle.section_model.specs.Lane.{Lane, heard, follow, outputs_along, gone_for, lowest_free, stray_message, stray_answer, legal_outputs, openings_after, Opening}
-use Rattle.section_rows.specs.Examples.{routed}
+use Rattle.section_model.specs.Lane.{Lane, heard, follow, gone_for, lowest_free, stray_answer, legal_outputs, openings_after, Opening}
+use Rattle.section_rows.specs.Examples.{routed, outputs_along}
 
 -- the legal outputs of a whole run, for these events and answers
 unfoldable pub runs : Lane → List Opening → List (Event × Option Answer) → List (List Output)
@@ -45,5 +45,5 @@ unfolding value_at variable_at variables_at options_in options_at values_of octe
     section_hears section_fires section_takes exchange
     hears_message asks fires_due after_event connection_step hears
     wish_of question_of opened_by_cr opened_by_user slots_needed opened
-    heard follow outputs_along gone_for lowest_free stray_message stray_answer legal_outputs openings_after runs
+    heard follow outputs_along gone_for lowest_free stray_answer legal_outputs openings_after runs
 played lane events = runs lane [] (map (routed lane) events)
