@@ -25,8 +25,10 @@ const SILENT: u8 = 0x0D;
 
 /// The other end is refused, and the section is freed.
 fn not_answered(alloc: Global, wire: &mut WireHead) -> Result<Acted, Memory>
-    ensures ok { IfOk result (λ done. section_of wire.new ≡ record (section_of wire.old) { state = Gone }) }
-    ensures done { IfOk result (λ done. done ≡ gives_then [] (hand.Refuse 0x0C None None None ∷ [])) }
+    ensures ok { IfOk result (λ done.
+        section_of wire.new ≡ record (section_of wire.old) { state = Gone }) }
+    ensures done { IfOk result (λ done.
+        done ≡ gives_then [] (hand.Refuse 0x0C None None None ∷ [])) }
     ensures err { OnErr result (wire.new ≡ wire.old) }
 {
     let refuse = Hand::Refuse {
@@ -50,7 +52,8 @@ impl Line {
         cell: Cell,
     ) -> Result<Acted, Memory>
         requires { KeptWithin self.old.kept }
-        ensures ok { IfOk result (λ done. line_fires cell (line_of wire.old self.old) ≡ (line_of wire.new self.new, done)) }
+        ensures ok { IfOk result (λ done.
+            line_fires cell (line_of wire.old self.old) ≡ (line_of wire.new self.new, done)) }
         ensures err { OnErr result ((wire.new ≡ wire.old) × (self.new ≡ self.old)) }
     {
         match cell {

@@ -45,8 +45,10 @@ fn refused(
     wire: &mut WireHead,
     message: &ParametersView<'_>,
 ) -> Result<Acted, Memory>
-    ensures ok { IfOk result (λ done. section_of wire.new ≡ record (section_of wire.old) { state = Gone }) }
-    ensures done { IfOk result (λ done. let p = seen_parameters message.now in done ≡ gives_then [] (hand.Refuse p.cause p.called p.body p.importance ∷ [])) }
+    ensures ok { IfOk result (λ done.
+        section_of wire.new ≡ record (section_of wire.old) { state = Gone }) }
+    ensures done { IfOk result (λ done. let p = seen_parameters message.now in
+        done ≡ gives_then [] (hand.Refuse p.cause p.called p.body p.importance ∷ [])) }
     ensures err { OnErr result (wire.new ≡ wire.old) }
 {
     let refuse = Hand::Refuse {
@@ -66,8 +68,10 @@ fn released(
     wire: &mut WireHead,
     message: &ParametersView<'_>,
 ) -> Result<Acted, Memory>
-    ensures ok { IfOk result (λ done. section_of wire.new ≡ record (section_of wire.old) { state = Gone }) }
-    ensures done { IfOk result (λ done. let p = seen_parameters message.now in done ≡ gives_then (rlc (section_of wire.old) ∷ []) (hand.End p.cause p.body p.importance ∷ [])) }
+    ensures ok { IfOk result (λ done.
+        section_of wire.new ≡ record (section_of wire.old) { state = Gone }) }
+    ensures done { IfOk result (λ done. let p = seen_parameters message.now in done ≡
+        gives_then (rlc (section_of wire.old) ∷ []) (hand.End p.cause p.body p.importance ∷ [])) }
     ensures err { OnErr result (wire.new ≡ wire.old) }
 {
     let end = Hand::End {
@@ -82,7 +86,8 @@ fn released(
 
 /// RLC answers, and the section is freed.
 fn collided(alloc: Global, wire: &mut WireHead) -> Result<Acted, Memory>
-    ensures ok { IfOk result (λ done. section_of wire.new ≡ record (section_of wire.old) { state = Gone }) }
+    ensures ok { IfOk result (λ done.
+        section_of wire.new ≡ record (section_of wire.old) { state = Gone }) }
     ensures done { IfOk result (λ done. done ≡ gives (rlc (section_of wire.old) ∷ [])) }
     ensures err { OnErr result (wire.new ≡ wire.old) }
 {
@@ -93,7 +98,8 @@ fn collided(alloc: Global, wire: &mut WireHead) -> Result<Acted, Memory>
 
 /// A unit of data for the other end.
 fn unit(alloc: Global, message: &ParametersView<'_>) -> Result<Acted, Memory>
-    ensures { IfOk result (λ done. done ≡ gives_then [] (hand.Unit message.now.more message.now.data_octets.now ∷ [])) }
+    ensures { IfOk result (λ done.
+        done ≡ gives_then [] (hand.Unit message.now.more message.now.data_octets.now ∷ [])) }
 {
     let unit = Hand::Unit {
         more: message.more,
@@ -111,7 +117,9 @@ impl Line {
         point: Pc,
         message: &ParametersView<'_>,
     ) -> Result<Acted, Memory>
-        ensures ok { IfOk result (λ done. confirms point (seen_parameters message.now) (line_of wire.old self.old) ≡ (line_of wire.new self.new, done)) }
+        ensures ok { IfOk result (λ done.
+            confirms point (seen_parameters message.now) (line_of wire.old self.old) ≡
+                (line_of wire.new self.new, done)) }
         ensures err { OnErr result ((wire.new ≡ wire.old) × (self.new ≡ self.old)) }
     {
         let mut reached = *wire;
@@ -150,7 +158,9 @@ impl Line {
         point: Pc,
         message: &ParametersView<'_>,
     ) -> Result<Acted, Memory>
-        ensures ok { IfOk result (λ done. confirms_late point (seen_parameters message.now) (line_of wire.old self.old) ≡ (line_of wire.new self.new, done)) }
+        ensures ok { IfOk result (λ done.
+            confirms_late point (seen_parameters message.now) (line_of wire.old self.old) ≡
+                (line_of wire.new self.new, done)) }
         ensures err { OnErr result ((wire.new ≡ wire.old) × (self.new ≡ self.old)) }
     {
         let mut reached = *wire;
@@ -172,7 +182,9 @@ impl Line {
         wire: &mut WireHead,
         message: &ParametersView<'_>,
     ) -> Result<Acted, Memory>
-        ensures ok { IfOk result (λ done. hears_error (seen_parameters message.now) (line_of wire.old self.old) ≡ (line_of wire.new self.new, done)) }
+        ensures ok { IfOk result (λ done.
+            hears_error (seen_parameters message.now) (line_of wire.old self.old) ≡
+                (line_of wire.new self.new, done)) }
         ensures err { OnErr result ((wire.new ≡ wire.old) × (self.new ≡ self.old)) }
     {
         if message.cause == CLASS_MISMATCH {
@@ -195,7 +207,9 @@ impl Line {
         wire: &mut WireHead,
         message: &ParametersView<'_>,
     ) -> Result<Acted, Memory>
-        ensures ok { IfOk result (λ done. hears_test (seen_parameters message.now) (line_of wire.old self.old) ≡ (line_of wire.new self.new, done)) }
+        ensures ok { IfOk result (λ done.
+            hears_test (seen_parameters message.now) (line_of wire.old self.old) ≡
+                (line_of wire.new self.new, done)) }
         ensures err { OnErr result ((wire.new ≡ wire.old) × (self.new ≡ self.old)) }
     {
         if message.slr == wire.other && message.class == wire.class {
@@ -214,7 +228,9 @@ impl Line {
         point: Pc,
         message: &ParametersView<'_>,
     ) -> Result<Acted, Memory>
-        ensures ok { IfOk result (λ done. line_hears cell point (seen_parameters message.now) (line_of wire.old self.old) ≡ (line_of wire.new self.new, done)) }
+        ensures ok { IfOk result (λ done.
+            line_hears cell point (seen_parameters message.now) (line_of wire.old self.old) ≡
+                (line_of wire.new self.new, done)) }
         ensures err { OnErr result ((wire.new ≡ wire.old) × (self.new ≡ self.old)) }
     {
         match cell {
@@ -243,7 +259,9 @@ impl Line {
         cell: Cell,
         event: &Event,
     ) -> Result<Acted, Memory>
-        ensures ok { IfOk result (λ done. line_hears_event cell event.now (line_of wire.old self.old) ≡ (line_of wire.new self.new, done)) }
+        ensures ok { IfOk result (λ done.
+            line_hears_event cell event.now (line_of wire.old self.old) ≡
+                (line_of wire.new self.new, done)) }
         ensures err { OnErr result ((wire.new ≡ wire.old) × (self.new ≡ self.old)) }
     {
         let Event::Message { opc, bytes, .. } = event else {

@@ -32,7 +32,8 @@ impl Line {
     ) -> Result<Acted, Memory>
         requires kept { KeptWithin self.old.kept }
         requires input { InputWithin input.now }
-        ensures ok { IfOk result (λ done. line_acts cell input.now (line_of wire.old self.old) ≡ (line_of wire.new self.new, done)) }
+        ensures ok { IfOk result (λ done. line_acts cell input.now (line_of wire.old self.old) ≡
+            (line_of wire.new self.new, done)) }
         ensures err { OnErr result ((wire.new ≡ wire.old) × (self.new ≡ self.old)) }
         ensures keeps { KeptWithin self.new.kept }
         ensures hands { TakesDataOfDt1 cell input.now → IfOk result ActedWithin }
@@ -67,8 +68,10 @@ impl Line {
         cause: u8,
         hand: Hand,
     ) -> Result<Acted, Memory>
-        ensures line { IfOk result (λ done. line_of wire.new self.new ≡ released cause None None (line_of reached self.old)) }
-        ensures done { IfOk result (λ done. done ≡ gives_then (rlsd (section_of reached) (only_cause cause) ∷ []) (hand ∷ [])) }
+        ensures line { IfOk result (λ done.
+            line_of wire.new self.new ≡ released cause None None (line_of reached self.old)) }
+        ensures done { IfOk result (λ done.
+            done ≡ gives_then (rlsd (section_of reached) (only_cause cause) ∷ []) (hand ∷ [])) }
         ensures err { OnErr result ((wire.new ≡ wire.old) × (self.new ≡ self.old)) }
     {
         let kept = KeptRelease::with_cause(cause);
@@ -87,7 +90,8 @@ impl Line {
         wire: &mut WireHead,
         cause: u8,
     ) -> Result<Acted, Memory>
-        ensures ok { IfOk result (λ done. breaks cause (line_of wire.old self.old) ≡ (line_of wire.new self.new, done)) }
+        ensures ok { IfOk result (λ done.
+            breaks cause (line_of wire.old self.old) ≡ (line_of wire.new self.new, done)) }
         ensures err { OnErr result ((wire.new ≡ wire.old) × (self.new ≡ self.old)) }
     {
         let reached = *wire;

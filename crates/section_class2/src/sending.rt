@@ -68,7 +68,9 @@ pub fn rlc(alloc: Global, wire: &WireHead) -> Result<Output, Memory>
 
 /// IT, with no sequence numbers.
 pub fn test(alloc: Global, wire: &WireHead) -> Result<Output, Memory>
-    ensures { IfOk result (λ output. output ≡ sent_on (section_of wire.now) (It wire.now.other wire.now.mine wire.now.class (0 ∷ 0 ∷ []) wire.now.credit)) }
+    ensures { IfOk result (λ output.
+        output ≡ sent_on (section_of wire.now)
+            (It wire.now.other wire.now.mine wire.now.class (0 ∷ 0 ∷ []) wire.now.credit)) }
 {
     let message = Message::It {
         dlr: wire.other,
@@ -92,7 +94,10 @@ pub fn confirmation(
 ) -> Result<Output, Memory>
     requires called { IsAddress called.now }
     requires body { IsData body.now }
-    ensures { IfOk result (λ output. output ≡ sent_on (section_of wire.now) (Cc wire.now.other wire.now.mine class (credit_of class credit) called.now body.now importance)) }
+    ensures { IfOk result (λ output.
+        output ≡ sent_on (section_of wire.now)
+            (Cc wire.now.other wire.now.mine class (credit_of class credit)
+                called.now body.now importance)) }
 {
     let credit = if class == 3 { Some(credit) } else { None };
     let message = Message::Cc {
@@ -118,7 +123,8 @@ pub fn refusal(
 ) -> Result<Output, Memory>
     requires called { IsAddress called.now }
     requires body { IsData body.now }
-    ensures { IfOk result (λ output. output ≡ sent_on (section_of wire.now) (Cref wire.now.other cause called.now body.now importance)) }
+    ensures { IfOk result (λ output. output ≡
+        sent_on (section_of wire.now) (Cref wire.now.other cause called.now body.now importance)) }
 {
     let message = Message::Cref {
         dlr: wire.other,
@@ -133,7 +139,8 @@ pub fn refusal(
 /// DT1 with a unit of data.
 pub fn data(alloc: Global, wire: &WireHead, more: bool, body: &Octets) -> Result<Output, Memory>
     requires { IsWithin 1 255 body.now }
-    ensures { IfOk result (λ output. output ≡ sent_on (section_of wire.now) (Dt1 wire.now.other (if more then 1 else 0) body.now)) }
+    ensures { IfOk result (λ output. output ≡
+        sent_on (section_of wire.now) (Dt1 wire.now.other (if more then 1 else 0) body.now)) }
 {
     let message = Message::Dt1 {
         dlr: wire.other,

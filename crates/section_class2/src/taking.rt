@@ -70,7 +70,8 @@ impl Line {
     /// The other end ends: RLSD, which is kept.
     fn passes_end(&mut self, alloc: Global, wire: &mut WireHead, hand: &Hand) -> Result<Acted, Memory>
         requires { HandWithin hand.now }
-        ensures ok { IfOk result (λ done. passes_end hand.now (line_of wire.old self.old) ≡ (line_of wire.new self.new, done)) }
+        ensures ok { IfOk result (λ done.
+            passes_end hand.now (line_of wire.old self.old) ≡ (line_of wire.new self.new, done)) }
         ensures err { OnErr result ((wire.new ≡ wire.old) × (self.new ≡ self.old)) }
     {
         let Hand::End {
@@ -95,7 +96,8 @@ impl Line {
 
     /// The other end ends before the section's other end is known: it is to be released as soon as that is.
     fn keeps_end(&mut self, alloc: Global, wire: &mut WireHead, hand: &Hand) -> Acted
-        ensures { keeps_end hand.now (line_of wire.old self.old) ≡ (line_of wire.new self.new, result) }
+        ensures { keeps_end hand.now (line_of wire.old self.old) ≡
+            (line_of wire.new self.new, result) }
     {
         if let Hand::End { cause, .. } = hand {
             self.kept = KeptRelease::with_cause(*cause);
@@ -114,7 +116,8 @@ impl Line {
         hand: &Hand,
     ) -> Result<Acted, Memory>
         requires { HandWithin hand.now }
-        ensures ok { IfOk result (λ done. line_takes cell hand.now (line_of wire.old self.old) ≡ (line_of wire.new self.new, done)) }
+        ensures ok { IfOk result (λ done. line_takes cell hand.now (line_of wire.old self.old) ≡
+            (line_of wire.new self.new, done)) }
         ensures err { OnErr result ((wire.new ≡ wire.old) × (self.new ≡ self.old)) }
     {
         match cell {

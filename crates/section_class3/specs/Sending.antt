@@ -1,11 +1,19 @@
 -- What leaves a section after an event.
-use Rattle.std.specs.Prelude.{ℕ, ◌+◌, ◌==◌, List, [], ◌∷◌, take, drop, if◌then◌else◌, Option, Some, None}
-use Rattle.q713_codec.specs.declared.message.Message.TheVariants.{Ed}
+use Rattle.std.specs.Prelude.{ℕ, ◌+◌, ◌*◌, ◌==◌, List, [], ◌∷◌, take, drop, if◌then◌else◌, Option, Some, None}
+use Rattle.q713_codec.specs.declared.message.Message.TheVariants.{Dt2, Ed, It}
 use Rattle.relay_base.specs.declared.words.Output.{Output}
+use Rattle.section_model.specs.declared.hand.Unit.{Unit as DataUnit}
 use Rattle.section_model.specs.Ends.{SectionHead, Windows}
 use Rattle.section_model.specs.Line.{sent_on}
 use Rattle.section_model.specs.Windowed.{may_leave, numbered}
 use Rattle.section_flow.specs.Flow.{FlowState, windows_of}
+
+-- DT2 with a unit of data, P(S) and P(R), and IT with P(S) and P(R)
+abbrev pub numbered_output : SectionHead → ℕ → ℕ → DataUnit → Output
+numbered_output x ps pr u = sent_on x (Dt2 x.other (2 * ps ∷ (2 * pr + (if u.more then 1 else 0)) ∷ []) u.body)
+
+abbrev pub test_output : SectionHead → ℕ → ℕ → Output
+test_output x ps pr = sent_on x (It x.other x.mine x.class (2 * ps ∷ 2 * pr ∷ []) x.credit)
 
 -- the flow control when all units that may leave were sent, but for its room
 abbrev pub all_sent : FlowState → FlowState

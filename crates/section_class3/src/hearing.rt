@@ -26,7 +26,8 @@ impl Windows {
     /// RSR with a cause here, the counts begin again, and the reset for the other end.
     fn reset(&mut self, alloc: Global, wire: &mut WireHead, cause: u8) -> Result<Acted, Memory>
         requires agreed { self.old.agreed ≡ wire.old.credit }
-        ensures ok { IfOk result (λ done. resets cause (windowed_of wire.old self.old) ≡ (windowed_of wire.new self.new, done)) }
+        ensures ok { IfOk result (λ done.
+            resets cause (windowed_of wire.old self.old) ≡ (windowed_of wire.new self.new, done)) }
         ensures err { OnErr result ((wire.new ≡ wire.old) × (self.new ≡ self.old)) }
         ensures agreed { self.new.agreed ≡ wire.new.credit }
     {
@@ -45,7 +46,9 @@ impl Windows {
         message: &ParametersView<'_>,
     ) -> Result<Acted, Memory>
         requires agreed { self.old.agreed ≡ wire.old.credit }
-        ensures ok { IfOk result (λ done. takes_data (seen_parameters message.now) (windowed_of wire.old self.old) ≡ (windowed_of wire.new self.new, done)) }
+        ensures ok { IfOk result (λ done.
+            takes_data (seen_parameters message.now) (windowed_of wire.old self.old) ≡
+                (windowed_of wire.new self.new, done)) }
         ensures err { OnErr result ((wire.new ≡ wire.old) × (self.new ≡ self.old)) }
         ensures agreed { self.new.agreed ≡ wire.new.credit }
     {
@@ -71,7 +74,9 @@ impl Windows {
         message: &ParametersView<'_>,
     ) -> Result<Acted, Memory>
         requires agreed { self.old.agreed ≡ wire.old.credit }
-        ensures ok { IfOk result (λ done. takes_acknowledgement (seen_parameters message.now) (windowed_of wire.old self.old) ≡ (windowed_of wire.new self.new, done)) }
+        ensures ok { IfOk result (λ done.
+            takes_acknowledgement (seen_parameters message.now) (windowed_of wire.old self.old) ≡
+                (windowed_of wire.new self.new, done)) }
         ensures err { OnErr result ((wire.new ≡ wire.old) × (self.new ≡ self.old)) }
         ensures agreed { self.new.agreed ≡ wire.new.credit }
     {
@@ -90,7 +95,9 @@ impl Windows {
         message: &ParametersView<'_>,
     ) -> Result<Acted, Memory>
         requires agreed { self.old.agreed ≡ wire.old.credit }
-        ensures ok { IfOk result (λ done. takes_expedited (seen_parameters message.now) (windowed_of wire.old self.old) ≡ (windowed_of wire.new self.new, done)) }
+        ensures ok { IfOk result (λ done.
+            takes_expedited (seen_parameters message.now) (windowed_of wire.old self.old) ≡
+                (windowed_of wire.new self.new, done)) }
         ensures err { OnErr result ((wire.new ≡ wire.old) × (self.new ≡ self.old)) }
         ensures agreed { self.new.agreed ≡ wire.new.credit }
     {
@@ -106,7 +113,8 @@ impl Windows {
     /// EA: expedited data that wait leave; the message is lost where none was awaited.
     fn take_answer(&mut self, alloc: Global, wire: &WireHead) -> Result<Acted, Memory>
         requires { WindowsWithin self.old.windows }
-        ensures ok { IfOk result (λ done. takes_answer (windowed_of wire.now self.old) ≡ (windowed_of wire.now self.new, done)) }
+        ensures ok { IfOk result (λ done.
+            takes_answer (windowed_of wire.now self.old) ≡ (windowed_of wire.now self.new, done)) }
         ensures err { OnErr result (self.new ≡ self.old) }
         ensures agreed { self.new.agreed ≡ self.old.agreed }
     {
@@ -135,7 +143,9 @@ impl Windows {
         message: &ParametersView<'_>,
     ) -> Result<Acted, Memory>
         requires agreed { self.old.agreed ≡ wire.now.credit }
-        ensures ok { IfOk result (λ done. windowed_hears cell.ResetByPeer (seen_parameters message.now) (windowed_of wire.now self.old) ≡ (windowed_of wire.now self.new, done)) }
+        ensures ok { IfOk result (λ done.
+            windowed_hears cell.ResetByPeer (seen_parameters message.now)
+                (windowed_of wire.now self.old) ≡ (windowed_of wire.now self.new, done)) }
         ensures err { OnErr result (self.new ≡ self.old) }
         ensures agreed { self.new.agreed ≡ self.old.agreed }
     {
@@ -158,7 +168,9 @@ impl Windows {
     ) -> Result<Acted, Memory>
         requires agreed { self.old.agreed ≡ wire.old.credit }
         requires waits { WindowsWithin self.old.windows }
-        ensures ok { IfOk result (λ done. windowed_hears cell (seen_parameters message.now) (windowed_of wire.old self.old) ≡ (windowed_of wire.new self.new, done)) }
+        ensures ok { IfOk result (λ done.
+            windowed_hears cell (seen_parameters message.now) (windowed_of wire.old self.old) ≡
+                (windowed_of wire.new self.new, done)) }
         ensures err { OnErr result ((wire.new ≡ wire.old) × (self.new ≡ self.old)) }
         ensures agreed { self.new.agreed ≡ wire.new.credit }
     {
@@ -187,7 +199,9 @@ impl Windows {
     ) -> Result<Acted, Memory>
         requires agreed { self.old.agreed ≡ wire.old.credit }
         requires waits { WindowsWithin self.old.windows }
-        ensures ok { IfOk result (λ done. windows_hear_event cell event.now (windowed_of wire.old self.old) ≡ (windowed_of wire.new self.new, done)) }
+        ensures ok { IfOk result (λ done.
+            windows_hear_event cell event.now (windowed_of wire.old self.old) ≡
+                (windowed_of wire.new self.new, done)) }
         ensures err { OnErr result ((wire.new ≡ wire.old) × (self.new ≡ self.old)) }
         ensures agreed { self.new.agreed ≡ wire.new.credit }
     {

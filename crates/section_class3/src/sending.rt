@@ -1,9 +1,10 @@
 //! The messages that a section sends in class 3 alone.
-ghost use Rattle.std.specs.Prelude.{◌≡◌, ◌<◌, ◌*◌, ◌+◌, [], ◌∷◌, IfOk, if◌then◌else◌};
-ghost use Rattle.q713_codec.specs.declared.message.Message.TheVariants.{Dt2, Ak, Ed, Ea, Rsr, Rsc, It};
+ghost use Rattle.std.specs.Prelude.{◌≡◌, ◌<◌, ◌*◌, IfOk};
+ghost use Rattle.q713_codec.specs.declared.message.Message.TheVariants.{Ak, Ed, Ea, Rsr, Rsc};
 ghost use Rattle.section_model.specs.Views.{section_of};
 ghost use Rattle.section_model.specs.Line.{sent_on};
 ghost use Rattle.section_model.specs.Lengths.{IsWithin};
+ghost use Rattle.section_class3.specs.Sending.{numbered_output, test_output};
 
 use q713_codec::Message;
 use relay_base::{Memory, Octets, Output};
@@ -21,7 +22,7 @@ pub fn numbered(
 ) -> Result<Output, Memory>
     requires body { IsWithin 1 255 unit.now.body }
     requires numbers { (ps < 128) × (pr < 128) }
-    ensures { IfOk result (λ output. output ≡ sent_on (section_of wire.now) (Dt2 wire.now.other (2 * ps ∷ (2 * pr + (if unit.now.more then 1 else 0)) ∷ []) unit.now.body)) }
+    ensures { IfOk result (λ output. output ≡ numbered_output (section_of wire.now) ps pr unit.now) }
 {
     let message = Message::Dt2 {
         dlr: wire.other,
@@ -34,7 +35,8 @@ pub fn numbered(
 /// AK with P(R) below 128, and the credit that was agreed on.
 pub fn acknowledgement(alloc: Global, wire: &WireHead, pr: u8) -> Result<Output, Memory>
     requires { pr < 128 }
-    ensures { IfOk result (λ output. output ≡ sent_on (section_of wire.now) (Ak wire.now.other (2 * pr) wire.now.credit)) }
+    ensures { IfOk result (λ output.
+        output ≡ sent_on (section_of wire.now) (Ak wire.now.other (2 * pr) wire.now.credit)) }
 {
     let message = Message::Ak {
         dlr: wire.other,
@@ -47,7 +49,8 @@ pub fn acknowledgement(alloc: Global, wire: &WireHead, pr: u8) -> Result<Output,
 /// ED.
 pub fn expedited(alloc: Global, wire: &WireHead, body: &Octets) -> Result<Output, Memory>
     requires { IsWithin 1 32 body.now }
-    ensures { IfOk result (λ output. output ≡ sent_on (section_of wire.now) (Ed wire.now.other body.now)) }
+    ensures { IfOk result (λ output.
+        output ≡ sent_on (section_of wire.now) (Ed wire.now.other body.now)) }
 {
     let message = Message::Ed {
         dlr: wire.other,
@@ -66,7 +69,8 @@ pub fn expedited_acknowledgement(alloc: Global, wire: &WireHead) -> Result<Outpu
 
 /// RSR.
 pub fn reset_request(alloc: Global, wire: &WireHead, cause: u8) -> Result<Output, Memory>
-    ensures { IfOk result (λ output. output ≡ sent_on (section_of wire.now) (Rsr wire.now.other wire.now.mine cause)) }
+    ensures { IfOk result (λ output.
+        output ≡ sent_on (section_of wire.now) (Rsr wire.now.other wire.now.mine cause)) }
 {
     let message = Message::Rsr {
         dlr: wire.other,
@@ -78,7 +82,8 @@ pub fn reset_request(alloc: Global, wire: &WireHead, cause: u8) -> Result<Output
 
 /// RSC.
 pub fn reset_confirmation(alloc: Global, wire: &WireHead) -> Result<Output, Memory>
-    ensures { IfOk result (λ output. output ≡ sent_on (section_of wire.now) (Rsc wire.now.other wire.now.mine)) }
+    ensures { IfOk result (λ output.
+        output ≡ sent_on (section_of wire.now) (Rsc wire.now.other wire.now.mine)) }
 {
     let message = Message::Rsc {
         dlr: wire.other,
@@ -90,7 +95,7 @@ pub fn reset_confirmation(alloc: Global, wire: &WireHead) -> Result<Output, Memo
 /// IT with P(S) and P(R) below 128.
 pub fn test(alloc: Global, wire: &WireHead, ps: u8, pr: u8) -> Result<Output, Memory>
     requires { (ps < 128) × (pr < 128) }
-    ensures { IfOk result (λ output. output ≡ sent_on (section_of wire.now) (It wire.now.other wire.now.mine wire.now.class (2 * ps ∷ 2 * pr ∷ []) wire.now.credit)) }
+    ensures { IfOk result (λ output. output ≡ test_output (section_of wire.now) ps pr) }
 {
     let message = Message::It {
         dlr: wire.other,

@@ -14,7 +14,8 @@ use std::alloc::Global;
 impl Windows {
     /// A unit of data: it waits.
     fn pass(&mut self, alloc: Global, hand: &Hand) -> Result<Acted, Memory>
-        ensures ok { IfOk result (λ done. (wire : WireHead) → queues_unit hand.now (windowed_of wire self.old) ≡ (windowed_of wire self.new, done)) }
+        ensures ok { IfOk result (λ done. (wire : WireHead) →
+            queues_unit hand.now (windowed_of wire self.old) ≡ (windowed_of wire self.new, done)) }
         ensures err { OnErr result (self.new ≡ self.old) }
         ensures agreed { self.new.agreed ≡ self.old.agreed }
     {
@@ -32,7 +33,9 @@ impl Windows {
     /// Expedited data leave, and their EA is awaited.
     fn expedite(&mut self, alloc: Global, wire: &WireHead, body: &Octets) -> Result<Acted, Memory>
         requires { IsWithin 1 32 body.now }
-        ensures ok { IfOk result (λ done. sends_expedited (Some body.now) (windowed_of wire.now self.old) ≡ (windowed_of wire.now self.new, done)) }
+        ensures ok { IfOk result (λ done.
+            sends_expedited (Some body.now) (windowed_of wire.now self.old) ≡
+                (windowed_of wire.now self.new, done)) }
         ensures err { OnErr result (self.new ≡ self.old) }
         ensures agreed { self.new.agreed ≡ self.old.agreed }
     {
@@ -54,7 +57,9 @@ impl Windows {
         hand: &Hand,
     ) -> Result<Acted, Memory>
         requires { HandWithin hand.now }
-        ensures ok { IfOk result (λ done. passes_expedited hand.now (windowed_of wire.now self.old) ≡ (windowed_of wire.now self.new, done)) }
+        ensures ok { IfOk result (λ done.
+            passes_expedited hand.now (windowed_of wire.now self.old) ≡
+                (windowed_of wire.now self.new, done)) }
         ensures err { OnErr result (self.new ≡ self.old) }
         ensures agreed { self.new.agreed ≡ self.old.agreed }
     {
@@ -76,7 +81,8 @@ impl Windows {
         hand: &Hand,
     ) -> Result<Acted, Memory>
         requires agreed { self.old.agreed ≡ wire.old.credit }
-        ensures ok { IfOk result (λ done. passes_reset hand.now (windowed_of wire.old self.old) ≡ (windowed_of wire.new self.new, done)) }
+        ensures ok { IfOk result (λ done. passes_reset hand.now (windowed_of wire.old self.old) ≡
+            (windowed_of wire.new self.new, done)) }
         ensures err { OnErr result ((wire.new ≡ wire.old) × (self.new ≡ self.old)) }
         ensures agreed { self.new.agreed ≡ wire.new.credit }
     {
@@ -91,7 +97,8 @@ impl Windows {
 
     /// Units that came in here left on the other end; EA, where expedited data did.
     fn count_left(&mut self, alloc: Global, wire: &WireHead, hand: &Hand) -> Result<Acted, Memory>
-        ensures ok { IfOk result (λ done. counts_left hand.now (windowed_of wire.now self.old) ≡ (windowed_of wire.now self.new, done)) }
+        ensures ok { IfOk result (λ done. counts_left hand.now (windowed_of wire.now self.old) ≡
+            (windowed_of wire.now self.new, done)) }
         ensures err { OnErr result (self.new ≡ self.old) }
         ensures agreed { self.new.agreed ≡ self.old.agreed }
     {
@@ -119,7 +126,9 @@ impl Windows {
     ) -> Result<Acted, Memory>
         requires agreed { self.old.agreed ≡ wire.old.credit }
         requires hand { HandWithin hand.now }
-        ensures ok { IfOk result (λ done. windowed_takes cell hand.now (windowed_of wire.old self.old) ≡ (windowed_of wire.new self.new, done)) }
+        ensures ok { IfOk result (λ done.
+            windowed_takes cell hand.now (windowed_of wire.old self.old) ≡
+                (windowed_of wire.new self.new, done)) }
         ensures err { OnErr result ((wire.new ≡ wire.old) × (self.new ≡ self.old)) }
         ensures agreed { self.new.agreed ≡ wire.new.credit }
     {

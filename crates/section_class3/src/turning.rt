@@ -30,7 +30,8 @@ fn send_units(alloc: Global, wire: &WireHead, flow: &mut Flow) -> Result<Outs, M
 
 /// What the other end is told of units and of expedited data that left.
 fn told(alloc: Global, units: u8, expedited: bool) -> Result<HandList, Memory>
-    ensures { IfOk result (λ hands. hands ≡ (if expedited || nat_lt 0 units then hand.Left units expedited ∷ [] else [])) }
+    ensures { IfOk result (λ hands.
+        hands ≡ (if expedited || nat_lt 0 units then hand.Left units expedited ∷ [] else [])) }
 {
     let mut hands = HandList::new(alloc);
     if expedited || units > 0 {
@@ -47,7 +48,8 @@ fn send_expedited(
     outs: &mut Outs,
 ) -> Result<bool, Memory>
     requires { ExpeditedWithin (option_map (λ b. b.now) body) }
-    ensures { IfOk result (λ sent. (sent ≡ is_some body.entry) × (outs.new ≡ outs.old ++ expedited_output (section_of wire.now) (option_map (λ b. b.now) body.entry))) }
+    ensures { IfOk result (λ sent. (sent ≡ is_some body.entry) × (outs.new ≡
+        outs.old ++ expedited_output (section_of wire.now) (option_map (λ b. b.now) body.entry))) }
 {
     match body {
         Some(body) => {
@@ -73,7 +75,8 @@ impl Windows {
     #[tactic(auto, unfolding(section_model::specs::Windowed::leaves))]
     fn leave(&mut self, alloc: Global, wire: &WireHead) -> Result<Acted, Memory>
         requires { WindowsWithin self.old.windows }
-        ensures ok { IfOk result (λ done. leaves (windowed_of wire.now self.old) ≡ (windowed_of wire.now self.new, done)) }
+        ensures ok { IfOk result (λ done.
+            leaves (windowed_of wire.now self.old) ≡ (windowed_of wire.now self.new, done)) }
         ensures err { OnErr result (self.new ≡ self.old) }
         ensures agreed { self.new.agreed ≡ self.old.agreed }
     {
@@ -97,7 +100,8 @@ impl Windows {
     /// AK, where units left on the other end beyond the last P(R) sent.
     #[tactic(auto, unfolding(section_model::specs::Windowed::acknowledges))]
     fn acknowledge(&mut self, alloc: Global, wire: &WireHead) -> Result<Acted, Memory>
-        ensures ok { IfOk result (λ done. acknowledges (windowed_of wire.now self.old) ≡ (windowed_of wire.now self.new, done)) }
+        ensures ok { IfOk result (λ done.
+            acknowledges (windowed_of wire.now self.old) ≡ (windowed_of wire.now self.new, done)) }
         ensures err { OnErr result (self.new ≡ self.old) }
         ensures agreed { self.new.agreed ≡ self.old.agreed }
     {
@@ -117,7 +121,8 @@ impl Windows {
         cell: Cell,
     ) -> Result<Acted, Memory>
         requires { WindowsWithin self.old.windows }
-        ensures ok { IfOk result (λ done. windows_turn cell (windowed_of wire.now self.old) ≡ (windowed_of wire.now self.new, done)) }
+        ensures ok { IfOk result (λ done. windows_turn cell (windowed_of wire.now self.old) ≡
+            (windowed_of wire.now self.new, done)) }
         ensures err { OnErr result (self.new ≡ self.old) }
         ensures agreed { self.new.agreed ≡ self.old.agreed }
     {

@@ -63,7 +63,9 @@ impl Windows {
         requires agreed { self.old.agreed ≡ wire.old.credit }
         requires waits { WindowsWithin self.old.windows }
         requires input { InputWithin input.now }
-        ensures ok { IfOk result (λ done. windows_act cell input.now (windowed_of wire.old self.old) ≡ (windowed_of wire.new self.new, done)) }
+        ensures ok { IfOk result (λ done.
+            windows_act cell input.now (windowed_of wire.old self.old) ≡
+                (windowed_of wire.new self.new, done)) }
         ensures err { OnErr result ((wire.new ≡ wire.old) × (self.new ≡ self.old)) }
         ensures agreed { self.new.agreed ≡ wire.new.credit }
         ensures waits { WindowsWithin self.new.windows }
@@ -112,7 +114,8 @@ impl Windows {
 
     /// The counts begin again, and nothing waits.
     pub(crate) fn clear(&mut self)
-        ensures { self.new ≡ record { agreed = self.old.agreed; windows = cleared self.old.agreed } }
+        ensures { self.new ≡
+            record { agreed = self.old.agreed; windows = cleared self.old.agreed } }
     {
         self.flow.clear();
         self.waiting = None;
@@ -123,7 +126,8 @@ impl Windows {
     /// The timer of inactivity fires.
     #[tactic(auto, unfolding(section_model::specs::Windowed::windowed_fires))]
     fn fire(&self, alloc: Global, wire: &WireHead) -> Result<Acted, Memory>
-        ensures { IfOk result (λ done. windowed_fires (windowed_of wire.now self.now) ≡ (windowed_of wire.now self.now, done)) }
+        ensures { IfOk result (λ done. windowed_fires (windowed_of wire.now self.now) ≡
+            (windowed_of wire.now self.now, done)) }
     {
         let (ps, pr) = (self.flow.send_number(), self.flow.receive_number());
         Acted::giving(alloc, test(alloc, wire, ps, pr)?)

@@ -1,6 +1,7 @@
--- The flow control of a section (Q.714): its counts as whole numbers, its credits, and the units that wait.
+-- The flow control of a section (Q.714, 3.5.2): its counts as whole numbers, its credits, and the units that wait.
 use Rattle.std.specs.Prelude.{ℕ, suc, ◌+◌, ◌-◌, ◌%◌, ◌==◌, Bool, false, not, List, [], ◌∷◌, ◌++◌, length, if◌then◌else◌, Option, Some, None, min}
 use Rattle.section_model.specs.declared.hand.Unit.{Unit as DataUnit}
+use Rattle.section_model.specs.declared.limits.TheConstants.{SEQUENCE_NUMBERS}
 use Rattle.section_model.specs.Ends.{Windows}
 use Rattle.section_model.specs.Windowed.{ahead, is_valid}
 use Rattle.section_flow.specs.declared.counts.Counts.{Counts}
@@ -44,7 +45,7 @@ wrong_number f = if length f.counts.got == 0 then 0x05 else 0x02
 
 abbrev pub unit_refusal : ℕ → ℕ → FlowState → Option ℕ
 unit_refusal ps pr f =
-    if not (ps == length f.counts.got % 128) then Some (wrong_number f)
+    if not (ps == length f.counts.got % SEQUENCE_NUMBERS) then Some (wrong_number f)
     else if length f.counts.got - f.counts.told == f.agreed then Some 0x04
     else if not (is_valid pr (windows_of f)) then Some 0x03
     else None
@@ -74,4 +75,4 @@ counts_after_telling c = record c { told = c.passed }
 
 -- the P(R) that is to be sent, where it isn't the last one sent
 abbrev pub due_of : Counts → Option ℕ
-due_of c = if c.passed == c.told then None else Some (c.passed % 128)
+due_of c = if c.passed == c.told then None else Some (c.passed % SEQUENCE_NUMBERS)

@@ -3,6 +3,7 @@ ghost use Rattle.std.specs.Prelude.{◌≡◌, ◌≤◌, ◌<◌, ◌+◌, ◌-
 
 use relay_base::PlainList;
 use section_model::Unit;
+use section_model::limits::SEQUENCE_NUMBERS;
 
 /// Units of data, in order.
 pub type UnitList = PlainList<Unit>;
@@ -42,7 +43,8 @@ pub struct Remainders {
 impl Remainders {
     /// What is held of counts of 0.
     pub fn none() -> Remainders
-        ensures { result ≡ record { acked = 0; outstanding = 0; expected = 0; untold = 0; unleft = 0; has_accepted = false } }
+        ensures { result ≡ record {
+            acked = 0; outstanding = 0; expected = 0; untold = 0; unleft = 0; has_accepted = false } }
     {
         Remainders {
             acked: 0,
@@ -56,10 +58,15 @@ impl Remainders {
 
     /// One more unit came in.
     pub fn accept(&mut self)
-        requires { (self.old.expected < 128) × (self.old.untold < 128) × (self.old.unleft < 128) }
-        ensures { self.new ≡ record self.old { expected = (self.old.expected + 1) % 128; untold = self.old.untold + 1; unleft = self.old.unleft + 1; has_accepted = true } }
+        requires { (self.old.expected < SEQUENCE_NUMBERS) × (self.old.untold < SEQUENCE_NUMBERS)
+            × (self.old.unleft < SEQUENCE_NUMBERS) }
+        ensures { self.new ≡ record self.old {
+            expected = (self.old.expected + 1) % SEQUENCE_NUMBERS;
+            untold = self.old.untold + 1;
+            unleft = self.old.unleft + 1;
+            has_accepted = true } }
     {
-        self.expected = (self.expected + 1) % 128;
+        self.expected = (self.expected + 1) % SEQUENCE_NUMBERS;
         self.untold += 1;
         self.unleft += 1;
         self.has_accepted = true;
@@ -67,10 +74,13 @@ impl Remainders {
 
     /// A P(R) came in that stands so far ahead of the last one.
     pub fn acknowledge(&mut self, ahead: u8)
-        requires { (self.old.acked < 128) × (self.old.outstanding < 128) × (ahead ≤ self.old.outstanding) }
-        ensures { self.new ≡ record self.old { acked = (self.old.acked + ahead) % 128; outstanding = self.old.outstanding - ahead } }
+        requires { (self.old.acked < SEQUENCE_NUMBERS) × (self.old.outstanding < SEQUENCE_NUMBERS)
+            × (ahead ≤ self.old.outstanding) }
+        ensures { self.new ≡ record self.old {
+            acked = (self.old.acked + ahead) % SEQUENCE_NUMBERS;
+            outstanding = self.old.outstanding - ahead } }
     {
-        self.acked = (self.acked + ahead) % 128;
+        self.acked = (self.acked + ahead) % SEQUENCE_NUMBERS;
         self.outstanding -= ahead;
     }
 }

@@ -7,6 +7,7 @@ use crate::counts::{Counts, Remainders};
 use mark::Mark;
 use relay_base::Memory;
 use section_model::Unit;
+use section_model::limits::{GREATEST_CREDIT, SEQUENCE_NUMBERS};
 use std::alloc::Global;
 use std::collections::VecDeque;
 use std::marker::Model;
@@ -99,7 +100,7 @@ fn copied_units(units: &VecDeque<Unit>) -> Result<VecDeque<Unit>, Memory>
 impl Flow {
     /// The flow control of a section that agreed on a credit (0 to 127): all counts are 0, and nothing waits.
     pub fn new(alloc: Global, credit: u8) -> Flow
-        requires { credit ≤ 127 }
+        requires { credit ≤ GREATEST_CREDIT }
         ensures { result ≡ cleared_flow credit result.room }
     {
         Flow {
@@ -129,23 +130,23 @@ impl Flow {
 
     /// The P(S) that the next unit is sent with, 0 to 127.
     pub fn send_number(&self) -> u8
-        ensures { result ≡ self.now.counts.sent % 128 }
+        ensures { result ≡ self.now.counts.sent % SEQUENCE_NUMBERS }
     {
-        (self.held.acked + self.held.outstanding) % 128
+        (self.held.acked + self.held.outstanding) % SEQUENCE_NUMBERS
     }
 
     /// The P(R) that is sent next, 0 to 127.
     pub fn receive_number(&self) -> u8
-        ensures { result ≡ self.now.counts.passed % 128 }
+        ensures { result ≡ self.now.counts.passed % SEQUENCE_NUMBERS }
     {
-        (self.held.expected + 128 - self.held.unleft) % 128
+        (self.held.expected + SEQUENCE_NUMBERS - self.held.unleft) % SEQUENCE_NUMBERS
     }
 
     /// How far a P(R) stands ahead of the last one received, modulo 128.
     fn ahead(&self, pr: u8) -> u8
         ensures { result ≡ ahead pr self.now.counts.acked }
     {
-        (pr % 128 + 128 - self.held.acked) % 128
+        (pr % SEQUENCE_NUMBERS + SEQUENCE_NUMBERS - self.held.acked) % SEQUENCE_NUMBERS
     }
 
     /// Whether a P(R) stands for a count from the last one received up to the units sent.
@@ -169,7 +170,8 @@ impl Flow {
     /// Why a unit isn't accepted, as the cause of the reset.
     fn unit_refusal(&self, ps: u8, pr: u8) -> Option<u8>
         ensures refusal { result ≡ unit_refusal ps pr self.now }
-        ensures window { IfNone result (length self.now.counts.got < self.now.counts.told + self.now.agreed) }
+        ensures window { IfNone result
+            (length self.now.counts.got < self.now.counts.told + self.now.agreed) }
         ensures valid { IfNone result (is_valid pr (windows_of self.now) ≡ true) }
     {
         if ps != self.held.expected {
@@ -188,8 +190,11 @@ impl Flow {
     /// reset: 05 where the first P(S) isn't 0, 02 where a later one isn't the next, 04 where the window is used up, 03 where P(R) isn't
     /// valid; the flow is then as before.
     pub fn accept(&mut self, ps: u8, pr: u8, more: bool, body: &[u8]) -> Result<(), u8>
-        ensures ok { IfOk result (λ _. (unit_refusal ps pr self.old ≡ None) × (self.new ≡ record self.old { counts = counts_after_unit pr more body.now self.old.counts })) }
-        ensures err { IfErr result (λ cause. (unit_refusal ps pr self.old ≡ Some cause) × (self.new ≡ self.old)) }
+        ensures ok { IfOk result (λ _. (unit_refusal ps pr self.old ≡ None)
+            × (self.new ≡ record self.old {
+                counts = counts_after_unit pr more body.now self.old.counts })) }
+        ensures err { IfErr result (λ cause.
+            (unit_refusal ps pr self.old ≡ Some cause) × (self.new ≡ self.old)) }
     {
         if let Some(cause) = self.unit_refusal(ps, pr) {
             return Err(cause);
@@ -210,8 +215,12 @@ impl Flow {
     /// Takes a P(R) that comes in, and how many units may be sent beyond it (above 127 as 127). The error is the cause of the reset: 03
     /// where P(R) isn't valid; the flow is then as before.
     pub fn acknowledge(&mut self, pr: u8, credit: u8) -> Result<(), u8>
-        ensures ok { IfOk result (λ _. (is_valid pr (windows_of self.old) ≡ true) × (self.new ≡ record self.old { credit = min credit 127; counts = counts_after_acknowledgement pr self.old.counts })) }
-        ensures err { IfErr result (λ cause. (is_valid pr (windows_of self.old) ≡ false) × (cause ≡ 0x03) × (self.new ≡ self.old)) }
+        ensures ok { IfOk result (λ _. (is_valid pr (windows_of self.old) ≡ true)
+            × (self.new ≡ record self.old {
+                credit = min credit GREATEST_CREDIT;
+                counts = counts_after_acknowledgement pr self.old.counts })) }
+        ensures err { IfErr result (λ cause.
+            (is_valid pr (windows_of self.old) ≡ false) × (cause ≡ 0x03) × (self.new ≡ self.old)) }
     {
         if !self.is_valid(pr) {
             return Err(WRONG_ACKNOWLEDGEMENT);
@@ -222,7 +231,7 @@ impl Flow {
             number: pr,
         });
         self.held.acknowledge(ahead);
-        self.credit = credit.min(127);
+        self.credit = credit.min(GREATEST_CREDIT);
         self.counts = counts;
         Ok(())
     }
@@ -230,7 +239,8 @@ impl Flow {
     /// Puts a unit behind those that wait. Room was reserved.
     pub fn wait(&mut self, unit: Unit)
         requires { 0 < self.old.room }
-        ensures { self.new ≡ record self.old { waits = self.old.waits ++ unit ∷ []; room = self.old.room - 1 } }
+        ensures { self.new ≡
+            record self.old { waits = self.old.waits ++ unit ∷ []; room = self.old.room - 1 } }
     {
         self.waits.push_back_reserved(unit);
     }
@@ -248,9 +258,17 @@ impl Flow {
 
     /// The next unit that is sent, with its P(S) and P(R); None exactly where nothing waits or the window is full.
     pub fn next(&mut self) -> Option<(u8, u8, Unit)>
-        ensures some { IfSome result (λ sent. (may_leave (windows_of self.old) ≡ suc (may_leave (windows_of self.new))) × (sent.0 ≡ self.old.counts.sent % 128) × (sent.1 ≡ self.old.counts.passed % 128) × (self.old.waits ≡ sent.2 ∷ self.new.waits)) }
-        ensures left { IfSome result (λ sent. self.new ≡ record self.old { waits = self.new.waits; counts = counts_after_sending self.old.counts; room = self.old.room + 1 }) }
-        ensures none { IfNone result ((may_leave (windows_of self.old) ≡ 0) × (self.new ≡ self.old)) }
+        ensures some { IfSome result (λ sent.
+            (may_leave (windows_of self.old) ≡ suc (may_leave (windows_of self.new)))
+            × (sent.0 ≡ self.old.counts.sent % SEQUENCE_NUMBERS)
+            × (sent.1 ≡ self.old.counts.passed % SEQUENCE_NUMBERS)
+            × (self.old.waits ≡ sent.2 ∷ self.new.waits)) }
+        ensures left { IfSome result (λ sent. self.new ≡ record self.old {
+            waits = self.new.waits;
+            counts = counts_after_sending self.old.counts;
+            room = self.old.room + 1 }) }
+        ensures none { IfNone result
+            ((may_leave (windows_of self.old) ≡ 0) × (self.new ≡ self.old)) }
     {
         if self.held.outstanding >= self.credit {
             return None;
@@ -267,7 +285,8 @@ impl Flow {
 
     /// So many of the units that came in left on the other end; no more than came are counted.
     pub fn left(&mut self, units: u8)
-        ensures { self.new ≡ record self.old { counts = counts_after_leaving units self.old.counts } }
+        ensures { self.new ≡
+            record self.old { counts = counts_after_leaving units self.old.counts } }
     {
         let counts = Mark::after(&Counting {
             flow: self,

@@ -134,7 +134,8 @@ impl UserSide {
         cell: Cell,
         request: &Request,
     ) -> Result<Acted, Memory>
-        ensures ok { IfOk result (λ done. ActsAs (user_asks cell request.now) self.old self.new done) }
+        ensures ok { IfOk result (λ done.
+            ActsAs (user_asks cell request.now) self.old self.new done) }
         ensures err { OnErr result (self.new ≡ self.old) }
     {
         match cell {

@@ -26,7 +26,8 @@ impl UserSide {
     /// What the end does upon an input, by the cell of the table of states and events that it meets. Requests, and the other end's
     /// effects, have one; a cell for another input has no effect. After `Memory` the end is as before.
     pub fn act(&mut self, alloc: Global, cell: Cell, input: &Input<'_>) -> Result<Acted, Memory>
-        ensures ok { IfOk result (λ done. ActsAs (user_acts cell input.now) self.old self.new done) }
+        ensures ok { IfOk result (λ done.
+            ActsAs (user_acts cell input.now) self.old self.new done) }
         ensures err { OnErr result (self.new ≡ self.old) }
         ensures lengths { IfOk result (λ done. IsInputInRange input.now → ActedWithin done) }
     {
@@ -39,7 +40,8 @@ impl UserSide {
 
     /// What comes of a request; no other event is for a user's end.
     fn hear(&mut self, alloc: Global, cell: Cell, event: &Event) -> Result<Acted, Memory>
-        ensures ok { IfOk result (λ done. ActsAs (user_hears_event cell event.now) self.old self.new done) }
+        ensures ok { IfOk result (λ done.
+            ActsAs (user_hears_event cell event.now) self.old self.new done) }
         ensures err { OnErr result (self.new ≡ self.old) }
     {
         match event {

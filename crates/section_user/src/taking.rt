@@ -41,7 +41,8 @@ impl UserSide {
 
     /// The other end refused, or the connection ended.
     fn tells_disconnect(&mut self, alloc: Global, hand: &Hand) -> Result<Acted, Memory>
-        ensures ok { IfOk result (λ done. ActsAs (tells_disconnect hand.now) self.old self.new done) }
+        ensures ok { IfOk result (λ done.
+            ActsAs (tells_disconnect hand.now) self.old self.new done) }
         ensures err { OnErr result (self.new ≡ self.old) }
     {
         let (cause, body) = match hand {
@@ -106,7 +107,8 @@ impl UserSide {
     /// An effect of the section, by its cell.
     #[tactic(auto, unfolding(section_model::specs::UserEnd::user_takes))]
     pub(crate) fn take(&mut self, alloc: Global, cell: Cell, hand: &Hand) -> Result<Acted, Memory>
-        ensures ok { IfOk result (λ done. ActsAs (user_takes cell hand.now) self.old self.new done) }
+        ensures ok { IfOk result (λ done.
+            ActsAs (user_takes cell hand.now) self.old self.new done) }
         ensures err { OnErr result (self.new ≡ self.old) }
     {
         match cell {
