@@ -4,6 +4,7 @@ use Rattle.std.specs.declared.result.Result.{Result}
 use Rattle.relay_base.specs.Giving.{◌>>=◌}
 use Rattle.sccp_address.specs.declared.address.Selector.{Selector}
 use Rattle.gtt_table.specs.declared.row.Entity.{Entity}
+use Rattle.gtt_table.specs.declared.row.Row.{Row}
 use Rattle.plant_core.specs.declared.change.Change.{Change}
 use Rattle.plant_core.specs.declared.change.Change.TheVariants.{AddRow, DelRow, BarPoint, FreePoint, LocalUp, LocalDown}
 use Rattle.node_head.specs.declared.head.Head.{Head}
@@ -38,16 +39,22 @@ second_of own (word ∷ more) = do
   entity ← lead_of own word
   Ok (Some entity)
 
+-- a row of this selector, of the words for its digits and its one or two entities
+abbrev pub row_of : ℕ → Selector → List ℕ → List ℕ → List (List ℕ) → Result Row LineKind
+row_of own selector digits lead more = do
+  prefix ← prefix_of digits
+  first ← lead_of own lead
+  second ← second_of own more
+  Ok (record { selector = selector; prefix = prefix; first = first; second = second })
+
 -- add <gti> <tt> <np> <nai> <digits> <first> [<second>]
 abbrev pub add_form : ℕ → List (List ℕ) → Result Change LineKind
 add_form own (gti ∷ type ∷ plan ∷ nature ∷ digits ∷ lead ∷ more) =
     if nat_lt 1 (length more) then Err Words
     else (do
       selector ← selector_of gti type plan nature
-      prefix ← prefix_of digits
-      first ← lead_of own lead
-      second ← second_of own more
-      Ok (AddRow record { selector = selector; prefix = prefix; first = first; second = second }))
+      row ← row_of own selector digits lead more
+      Ok (AddRow row))
 add_form own _ = Err Words
 
 -- del <gti> <tt> <np> <nai> <digits>

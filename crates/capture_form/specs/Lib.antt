@@ -1,5 +1,7 @@
 pub mod Capture
 pub mod Changes
+pub mod Events
+pub mod Inner
 pub mod Line
 pub mod Note
 pub mod Place

@@ -1,10 +1,11 @@
 -- What a user asks for in the words of a request, or what is wrong with them.
-use Rattle.std.specs.Prelude.{ℕ, ◌==◌, ◌&&◌, codes, Bool, false, List, [], ◌∷◌, length, if◌then◌else◌, Ok, Err}
-use Rattle.std.specs.List.{list_any}
+use Rattle.std.specs.Prelude.{ℕ, ◌==◌, codes, Bool, false, List, [], ◌∷◌, length, if◌then◌else◌, Option, Some, None, Ok, Err}
 use Rattle.std.specs.declared.result.Result.{Result}
 use Rattle.relay_base.specs.Giving.{◌>>=◌}
 use Rattle.relay_base.specs.declared.words.Request.{Request}
 use Rattle.relay_base.specs.declared.words.Request.TheVariants as request
+use Rattle.capture_form.specs.declared.requests.RequestForm.{RequestForm}
+use Rattle.capture_form.specs.declared.requests.RequestForm.TheVariants as form
 use Rattle.capture_form.specs.Text.{same}
 use Rattle.capture_form.specs.Words.{below, class_of, called_of, calling_of, body_of, text_of, asks_return, is_return}
 use Rattle.capture_form.specs.declared.fault.LineKind.{LineKind}
@@ -103,34 +104,48 @@ grant_asked (point ∷ []) = do
   Ok (request.Grant to)
 grant_asked _ = Err Words
 
+-- the form of a request, by its first word
+abbrev pub form_of : List ℕ → Option RequestForm
+form_of word =
+    if same word (codes "unit") then Some form.Unit
+    else if same word (codes "conn") then Some form.Conn
+    else if same word (codes "accept") then Some form.Accept
+    else if same word (codes "refuse") then Some form.Refuse
+    else if same word (codes "send") then Some form.Send
+    else if same word (codes "ed") then Some form.Expedite
+    else if same word (codes "reset") then Some form.Reset
+    else if same word (codes "disc") then Some form.Disc
+    else if same word (codes "coord") then Some form.Coord
+    else if same word (codes "grant") then Some form.Grant
+    else None
+
 -- the six words after `unit`, of which the third says whether return on error is asked
 abbrev pub is_unit : List (List ℕ) → Bool
 is_unit (sls ∷ class ∷ ret ∷ called ∷ calling ∷ body ∷ []) = is_return ret
 is_unit _ = false
 
--- how many words follow the word of any other request
-abbrev pub request_lengths : List (List ℕ × ℕ)
-request_lengths =
-    (codes "conn", 5) ∷ (codes "accept", 4) ∷ (codes "refuse", 3) ∷ (codes "send", 2) ∷ (codes "ed", 2) ∷ (codes "reset", 1)
-    ∷ (codes "disc", 3) ∷ (codes "coord", 0) ∷ (codes "grant", 1) ∷ []
+-- whether the words after the first are as a whole a request of this form
+abbrev pub has_form : RequestForm → List (List ℕ) → Bool
+has_form form.Unit more = is_unit more
+has_form form.Conn more = length more == 5
+has_form form.Accept more = length more == 4
+has_form form.Refuse more = length more == 3
+has_form form.Send more = length more == 2
+has_form form.Expedite more = length more == 2
+has_form form.Reset more = length more == 1
+has_form form.Disc more = length more == 3
+has_form form.Coord more = length more == 0
+has_form form.Grant more = length more == 1
 
--- whether these words are as a whole a request
-abbrev pub is_request : List ℕ → List (List ℕ) → Bool
-is_request word more =
-    if same word (codes "unit") then is_unit more
-    else list_any (λ form. same word form.0 && length more == form.1) request_lengths
-
--- what the words of a request ask for, by the first of them
-abbrev pub request_of : List ℕ → List (List ℕ) → Result Request LineKind
-request_of word more =
-    if same word (codes "unit") then unit_asked more
-    else if same word (codes "conn") then conn_asked more
-    else if same word (codes "accept") then accept_asked more
-    else if same word (codes "refuse") then refuse_asked more
-    else if same word (codes "send") then send_asked more
-    else if same word (codes "ed") then ed_asked more
-    else if same word (codes "reset") then reset_asked more
-    else if same word (codes "disc") then disc_asked more
-    else if same word (codes "coord") then coord_asked more
-    else if same word (codes "grant") then grant_asked more
-    else Err Words
+-- what the words after the first of a request ask for
+abbrev pub request_of : RequestForm → List (List ℕ) → Result Request LineKind
+request_of form.Unit more = unit_asked more
+request_of form.Conn more = conn_asked more
+request_of form.Accept more = accept_asked more
+request_of form.Refuse more = refuse_asked more
+request_of form.Send more = send_asked more
+request_of form.Expedite more = ed_asked more
+request_of form.Reset more = reset_asked more
+request_of form.Disc more = disc_asked more
+request_of form.Coord more = coord_asked more
+request_of form.Grant more = grant_asked more

@@ -4,7 +4,10 @@ ghost use Rattle.node_head.specs.Lines.{lines, halves};
 ghost use Rattle.node_head.specs.Addable.{are_addable};
 ghost use Rattle.node_head.specs.Head.{begun};
 ghost use Rattle.node_head.specs.Ranges.{IsHead};
-ghost use Rattle.capture_form.specs.Capture.{Reads, Takes, HeadReads, at_head, reading_from, lines_taken, phases_of, capture_after, capture_within, capture_of, IsStamped};
+ghost use Rattle.capture_form.specs.Capture.{Reads, at_head, capture_within, capture_of};
+ghost use Rattle.capture_form.specs.Events.{all_events, IsStamped};
+ghost use Rattle.capture_form.specs.declared.steps.TheConstants.{MOST_LINES};
+ghost use Rattle.capture_form.specs.Inner.Reader.{Takes, HeadReads, reading_from, lines_taken, phases_read, capture_read};
 
 use crate::fault::{CaptureFault, Limit};
 use crate::reading::{PhaseList, Reading};
@@ -53,7 +56,7 @@ fn reading_from(alloc: Global, head: &Head, line: u32) -> Result<Reading, Memory
 }
 
 /// Reads all lines.
-#[tactic(auto, unfolding(crate::specs::Capture::lines_taken))]
+#[tactic(auto, unfolding(crate::specs::Inner::Reader::lines_taken))]
 fn take_lines(
     alloc: Global,
     head: &Head,
@@ -72,7 +75,7 @@ fn take_lines(
 
 /// The phases that were read.
 fn phases_of(alloc: Global, read: Reading) -> Result<PhaseList, Memory>
-    ensures { IfOk result (λ phases. phases ≡ phases_of read) }
+    ensures { IfOk result (λ phases. phases ≡ phases_read read) }
 {
     if read.events == 0 {
         return Ok(PhaseList::new(alloc));
@@ -94,7 +97,7 @@ fn capture_after(
     lines: &mut Lines<'_>,
 ) -> Result<Capture, CaptureFault>
     requires { line + length lines.old < 2 ^ 32 }
-    ensures value { Reads result (capture_after head line lines.old) }
+    ensures value { Reads result (capture_read head line lines.old) }
     ensures head { IfOk result (λ c. c.head ≡ head) }
 {
     let mut read = reading_from(alloc, &head, line)?;
@@ -105,7 +108,7 @@ fn capture_after(
 
 /// The capture of an input of at most 67,108,864 bytes.
 fn capture_within(alloc: Global, bytes: &[u8]) -> Result<Capture, CaptureFault>
-    requires { length bytes.now ≤ 67108864 }
+    requires { length bytes.now ≤ MOST_BYTES }
     ensures value { Reads result (capture_within bytes.now) }
     ensures addable { IfOk result (λ c. IsTrue (are_addable [] c.head.row)) }
     ensures range { IfOk result (λ c. IsHead c.head) }
@@ -122,6 +125,7 @@ fn capture_within(alloc: Global, bytes: &[u8]) -> Result<Capture, CaptureFault>
 pub fn read_capture(alloc: Global, bytes: &[u8]) -> Result<Capture, CaptureFault>
     ensures value { Reads result (capture_of bytes.now) }
     ensures stamped { IfOk result (λ c. IsStamped c.head c.phases) }
+    ensures few { IfOk result (λ c. length (all_events c.phases) ≤ MOST_LINES) }
     ensures addable { IfOk result (λ c. IsTrue (are_addable [] c.head.row)) }
     ensures range { IfOk result (λ c. IsHead c.head) }
 {

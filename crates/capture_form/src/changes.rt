@@ -1,6 +1,6 @@
 //! What the lines of an operator change.
 ghost use Rattle.std.specs.Prelude.{◌≡◌, map};
-ghost use Rattle.capture_form.specs.Changes.{indicator_of, carried, selector_of, second_of, add_form, del_form, row_form, status_form, service_form, change_of};
+ghost use Rattle.capture_form.specs.Changes.{indicator_of, carried, selector_of, second_of, row_of, add_form, del_form, row_form, status_form, service_form, change_of};
 
 use crate::fault::LineKind;
 use crate::words::{lead, octet, other_point, prefix, user};
@@ -50,6 +50,27 @@ fn second(own: Pc, words: &[&[u8]]) -> Result<Option<Entity>, LineKind>
     Ok(Some(entity))
 }
 
+/// The row of its words, of which there is one or none for the second place.
+fn row_of(
+    own: Pc,
+    selector: Selector,
+    digits: &[u8],
+    first: &[u8],
+    second_words: &[&[u8]],
+) -> Result<Row, LineKind>
+    ensures { result ≡ row_of own selector digits.now first.now (map (λ w. w.now) second_words.now) }
+{
+    let prefix = prefix(digits)?;
+    let first = lead(own, first)?;
+    let second = second(own, second_words)?;
+    Ok(Row {
+        selector,
+        prefix,
+        first,
+        second,
+    })
+}
+
 /// `e add <gti> <tt> <np> <nai> <digits> <first> [<second>]`, of which the words after `add`.
 #[tactic(auto, using(crate::proofs::LineForms::add_short))]
 fn add_form(own: Pc, words: &[&[u8]]) -> Result<Change, LineKind>
@@ -59,15 +80,8 @@ fn add_form(own: Pc, words: &[&[u8]]) -> Result<Change, LineKind>
         return Err(LineKind::Words);
     }
     let selector = selector(words[0], words[1], words[2], words[3])?;
-    let prefix = prefix(words[4])?;
-    let first = lead(own, words[5])?;
-    let second = second(own, &words[6..])?;
-    Ok(Change::AddRow(Row {
-        selector,
-        prefix,
-        first,
-        second,
-    }))
+    let row = row_of(own, selector, words[4], words[5], &words[6..])?;
+    Ok(Change::AddRow(row))
 }
 
 /// `e del <gti> <tt> <np> <nai> <digits>`, of which the words after `del`.

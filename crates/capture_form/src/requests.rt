@@ -1,7 +1,7 @@
 //! What a user asks for in the words of a request.
 ghost use Rattle.std.specs.Prelude.{◌≡◌, map};
 ghost use Rattle.capture_form.specs.Refused.{States};
-ghost use Rattle.capture_form.specs.Requests.{unit_of, unit_asked, conn_of, conn_asked, accept_asked, refuse_asked, send_asked, ed_asked, reset_asked, disc_asked, coord_asked, grant_asked, is_unit, is_request, request_of};
+ghost use Rattle.capture_form.specs.Requests.{unit_of, unit_asked, conn_of, conn_asked, accept_asked, refuse_asked, send_asked, ed_asked, reset_asked, disc_asked, coord_asked, grant_asked, is_unit, form_of, has_form, request_of};
 
 use crate::fault::LineKind;
 use crate::refused::LineRefused;
@@ -141,11 +141,11 @@ fn ed_asked(alloc: Global, words: &[&[u8]]) -> Result<Request, LineRefused>
 }
 
 /// `reset <ref>`
-fn reset_asked(words: &[&[u8]]) -> Result<Request, LineKind>
-    ensures { result ≡ reset_asked (map (λ w. w.now) words.now) }
+fn reset_asked(words: &[&[u8]]) -> Result<Request, LineRefused>
+    ensures { States result (reset_asked (map (λ w. w.now) words.now)) }
 {
     if words.len() != 1 {
-        return Err(LineKind::Words);
+        return Err(LineRefused::Kind(LineKind::Words));
     }
     let mine = below::<16_777_216>(words[0])?;
     Ok(Request::Reset { mine })
@@ -165,22 +165,22 @@ fn disc_asked(alloc: Global, words: &[&[u8]]) -> Result<Request, LineRefused>
 }
 
 /// `coord`
-fn coord_asked(words: &[&[u8]]) -> Result<Request, LineKind>
-    ensures { result ≡ coord_asked (map (λ w. w.now) words.now) }
+fn coord_asked(words: &[&[u8]]) -> Result<Request, LineRefused>
+    ensures { States result (coord_asked (map (λ w. w.now) words.now)) }
 {
     if words.is_empty() {
         Ok(Request::Coord)
     } else {
-        Err(LineKind::Words)
+        Err(LineRefused::Kind(LineKind::Words))
     }
 }
 
 /// `grant <point>`
-fn grant_asked(words: &[&[u8]]) -> Result<Request, LineKind>
-    ensures { result ≡ grant_asked (map (λ w. w.now) words.now) }
+fn grant_asked(words: &[&[u8]]) -> Result<Request, LineRefused>
+    ensures { States result (grant_asked (map (λ w. w.now) words.now)) }
 {
     if words.len() != 1 {
-        return Err(LineKind::Words);
+        return Err(LineRefused::Kind(LineKind::Words));
     }
     let point = below::<16_384>(words[0])?;
     Ok(Request::Grant { point })
@@ -193,50 +193,71 @@ fn is_unit(words: &[&[u8]]) -> bool
     words.len() == 6 && is_return(words[2])
 }
 
-/// Whether these words, after that of a request, are as a whole a request.
-pub fn is_request(word: &[u8], words: &[&[u8]]) -> bool
-    ensures { result ≡ is_request word.now (map (λ w. w.now) words.now) }
-{
-    if word == b"unit".as_slice() {
-        return is_unit(words);
-    }
-    let count = words.len();
-    word == b"conn".as_slice() && count == 5
-        || word == b"accept".as_slice() && count == 4
-        || word == b"refuse".as_slice() && count == 3
-        || word == b"send".as_slice() && count == 2
-        || word == b"ed".as_slice() && count == 2
-        || word == b"reset".as_slice() && count == 1
-        || word == b"disc".as_slice() && count == 3
-        || word == b"coord".as_slice() && count == 0
-        || word == b"grant".as_slice() && count == 1
+/// What a request asks for.
+#[derive(Clone, Copy)]
+pub enum RequestForm {
+    Unit,
+    Conn,
+    Accept,
+    Refuse,
+    Send,
+    Expedite,
+    Reset,
+    Disc,
+    Coord,
+    Grant,
 }
 
-/// What the words after that of a request ask for.
-pub fn request_of(alloc: Global, word: &[u8], words: &[&[u8]]) -> Result<Request, LineRefused>
-    ensures { States result (request_of word.now (map (λ w. w.now) words.now)) }
-{
-    if word == b"unit".as_slice() {
-        unit_asked(alloc, words)
-    } else if word == b"conn".as_slice() {
-        conn_asked(alloc, words)
-    } else if word == b"accept".as_slice() {
-        accept_asked(alloc, words)
-    } else if word == b"refuse".as_slice() {
-        refuse_asked(alloc, words)
-    } else if word == b"send".as_slice() {
-        send_asked(alloc, words)
-    } else if word == b"ed".as_slice() {
-        ed_asked(alloc, words)
-    } else if word == b"reset".as_slice() {
-        Ok(reset_asked(words)?)
-    } else if word == b"disc".as_slice() {
-        disc_asked(alloc, words)
-    } else if word == b"coord".as_slice() {
-        Ok(coord_asked(words)?)
-    } else if word == b"grant".as_slice() {
-        Ok(grant_asked(words)?)
-    } else {
-        Err(LineRefused::Kind(LineKind::Words))
+impl RequestForm {
+    /// The form of a request by its first word.
+    pub fn of(word: &[u8]) -> Option<RequestForm>
+        ensures { result ≡ form_of word.now }
+    {
+        match word {
+            b"unit" => Some(RequestForm::Unit),
+            b"conn" => Some(RequestForm::Conn),
+            b"accept" => Some(RequestForm::Accept),
+            b"refuse" => Some(RequestForm::Refuse),
+            b"send" => Some(RequestForm::Send),
+            b"ed" => Some(RequestForm::Expedite),
+            b"reset" => Some(RequestForm::Reset),
+            b"disc" => Some(RequestForm::Disc),
+            b"coord" => Some(RequestForm::Coord),
+            b"grant" => Some(RequestForm::Grant),
+            _ => None,
+        }
+    }
+
+    /// Whether the words after the first are as a whole a request of this form.
+    pub fn has(self, words: &[&[u8]]) -> bool
+        ensures { result ≡ has_form self (map (λ w. w.now) words.now) }
+    {
+        match self {
+            RequestForm::Unit => is_unit(words),
+            RequestForm::Conn => words.len() == 5,
+            RequestForm::Accept => words.len() == 4,
+            RequestForm::Refuse | RequestForm::Disc => words.len() == 3,
+            RequestForm::Send | RequestForm::Expedite => words.len() == 2,
+            RequestForm::Reset | RequestForm::Grant => words.len() == 1,
+            RequestForm::Coord => words.is_empty(),
+        }
+    }
+
+    /// What the words after the first of a request ask for.
+    pub fn request(self, alloc: Global, words: &[&[u8]]) -> Result<Request, LineRefused>
+        ensures { States result (request_of self (map (λ w. w.now) words.now)) }
+    {
+        match self {
+            RequestForm::Unit => unit_asked(alloc, words),
+            RequestForm::Conn => conn_asked(alloc, words),
+            RequestForm::Accept => accept_asked(alloc, words),
+            RequestForm::Refuse => refuse_asked(alloc, words),
+            RequestForm::Send => send_asked(alloc, words),
+            RequestForm::Expedite => ed_asked(alloc, words),
+            RequestForm::Reset => reset_asked(words),
+            RequestForm::Disc => disc_asked(alloc, words),
+            RequestForm::Coord => coord_asked(words),
+            RequestForm::Grant => grant_asked(words),
+        }
     }
 }

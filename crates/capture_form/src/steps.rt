@@ -1,7 +1,8 @@
 //! What one line adds to what was read.
 ghost use Rattle.std.specs.Prelude.{◌≡◌, ◌<◌, ◌≤◌, ◌+◌, ◌^◌, ◌++◌, [], ◌∷◌, length, map, replicate, slice_set, slice_index_or, IfOk, OnOk, OnErr, Ok};
 ghost use Rattle.capture_form.specs.Refused.{FaultAt};
-ghost use Rattle.capture_form.specs.Capture.{Reads, Takes, Fails, Stamped, is_barrier, is_tick, is_skipped, empty_phase, phase_ended, event_added, barrier_taken, tick_counted, line_counted, event_put, event_taken, words_taken, line_taken, at_line};
+ghost use Rattle.capture_form.specs.Capture.{Reads, begins, is_skipped};
+ghost use Rattle.capture_form.specs.Inner.Reader.{Takes, empty_phase, phase_ended, barrier_taken, tick_counted, line_counted, event_put, event_taken, line_taken, at_line};
 ghost use Rattle.capture_form.specs.Line.{event_of};
 ghost use Rattle.capture_form.specs.Text.{words};
 
@@ -53,21 +54,13 @@ fn put(
     Ok(())
 }
 
-fn is_barrier(words: &[&[u8]]) -> bool
-    ensures { result ≡ is_barrier (map (λ w. w.now) words.now) }
+/// Whether the first of the words is this one.
+fn begins(word: &[u8], words: &[&[u8]]) -> bool
+    ensures { result ≡ begins word.now (map (λ w. w.now) words.now) }
 {
     match words {
         [] => false,
-        [first, ..] => *first == b"w".as_slice(),
-    }
-}
-
-fn is_tick(words: &[&[u8]]) -> bool
-    ensures { result ≡ is_tick (map (λ w. w.now) words.now) }
-{
-    match words {
-        [] => false,
-        [first, ..] => *first == b"t".as_slice(),
+        [first, ..] => *first == word,
     }
 }
 
@@ -168,12 +161,12 @@ fn count_tick(read: &mut Reading) -> Result<(), CaptureFault>
 fn count_line(read: &mut Reading, words: &[&[u8]]) -> Result<(), CaptureFault>
     ensures value { Takes read.new result (line_counted read.old (map (λ w. w.now) words.now)) }
     ensures kept { (read.new.current ≡ read.old.current) × (read.new.line ≡ read.old.line) }
-    ensures few { OnOk result (read.new.events < 200000) }
+    ensures few { OnOk result (read.new.events < MOST_LINES) }
 {
     if read.events >= MOST_LINES {
         return Err(CaptureFault::TooLong(Limit::Lines));
     }
-    if is_tick(words) {
+    if begins(b"t", words) {
         count_tick(read)
     } else {
         Ok(())
@@ -189,7 +182,7 @@ fn put_event(
 ) -> Result<(), CaptureFault>
     requires line { read.old.line + 1 < 2 ^ 32 }
     requires links { length read.old.current ≡ head.now.links + 1 }
-    requires few { read.old.events < 200000 }
+    requires few { read.old.events < MOST_LINES }
     ensures value { Takes read.new result (event_put head.now (map (λ w. w.now) words.now) read.old) }
     ensures kept { OnOk result ((length read.new.current ≡ head.now.links + 1) × (read.new.line ≡ read.old.line + 1)) }
 {
@@ -222,7 +215,7 @@ fn take_event(
 }
 
 /// Reads a line.
-#[tactic(auto, unfolding(crate::specs::Capture::line_taken))]
+#[tactic(auto, unfolding(crate::specs::Inner::Reader::line_taken))]
 pub fn take_line(
     alloc: Global,
     head: &Head,
@@ -239,7 +232,7 @@ pub fn take_line(
         return Ok(());
     }
     let words = split_words(alloc, line)?;
-    if is_barrier(words.as_slice()) {
+    if begins(b"w", words.as_slice()) {
         take_barrier(alloc, head, read, words.as_slice())
     } else {
         take_event(alloc, head, read, words.as_slice())

@@ -1,4 +1,8 @@
-use Rattle.std.proofs.Common.{◌<◌, ◌+◌, length, arith}
+use Rattle.std.proofs.Common.{◌<◌, ◌+◌, length, arith, ap, sym, ◌∙◌}
+use Rattle.node_head.specs.Head.{begun}
+use Rattle.node_head.specs.Lines.{halves}
+use Rattle.capture_form.specs.Capture.{at_head}
+use Rattle.capture_form.proofs.CaptureLemmas.{within-read}
 use Rattle.capture_form.proofs.LengthLemmas.{few-lines}
 use Rattle.capture_form.proofs.capture.capture_within.Goals as goal
 
@@ -17,3 +21,7 @@ overflow_add-count c =
 pub capture_after-requires : goal.capture_after-requires
 capture_after-requires c =
     few-lines c.args.bytes.now c.lines-lines.result c.head_part.new.lines c.in_ok-head.head c.in_ok-head.count c.requires c.lines-lines.ensures.value c.in_ok-head.ensures.value
+
+pub returns-clause-value : goal.returns-clause-value
+returns-clause-value c = within-read c.capture_after.result c.args.bytes.now (c.in_ok-head.head, c.in_ok-head.count, c.head_part.new.lines)
+    (ap (λ ls. at_head (begun (halves ls))) (sym c.lines-lines.ensures.value) ∙ c.in_ok-head.ensures.value) c.capture_after.ensures.value

@@ -1,5 +1,8 @@
-use Rattle.capture_form.proofs.StampLemmas.{read-stamped}
+use Rattle.capture_form.proofs.CaptureLemmas.{read-stamped, read-few-events}
 use Rattle.capture_form.proofs.capture.read_capture.Goals as goal
 
 pub returns-clause-stamped : goal.returns-clause-stamped
 returns-clause-stamped c = read-stamped c.capture_within.result c.args.bytes.now c.capture_within.ensures.value
+
+pub returns-clause-few : goal.returns-clause-few
+returns-clause-few c = read-few-events c.capture_within.result c.args.bytes.now c.capture_within.ensures.value

@@ -1,5 +1,5 @@
 use Rattle.std.proofs.Common.{◌≡◌, ◌+◌, ◌<◌, ◌^◌, length}
-use Rattle.capture_form.specs.Capture.{lines_taken}
+use Rattle.capture_form.specs.Inner.Reader.{lines_taken}
 use Rattle.capture_form.proofs.capture.take_lines.Given as goal
 
 -- what was read so far, and what the lines to come make of it

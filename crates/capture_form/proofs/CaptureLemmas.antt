@@ -1,0 +1,197 @@
+-- What holds of a capture that was read: its events stand under the phases and links of their stamps, and they are not too many.
+use Rattle.std.proofs.Common.{◌≡◌, ℕ, zero, suc, ◌+◌, ◌≤◌, ◌<◌, ◌==◌, nat_lt, nat_le, codes, Bool, true, false, cond, List, [], ◌∷◌, ◌++◌, length, map, get_or, replicate, Result, Ok, Err, IfOk, refl, sym, ap, ◌∙◌, subst, arith, length-append, append-nil}
+use Rattle.std.proofs.lemmas.Bool.Decides.{nat_tests}
+use Rattle.std.proofs.lemmas.Grind.{flat_map-append}
+use Rattle.std.proofs.Math.ListN.{set}
+use Rattle.std.specs.List.{flat_map, filter_map, range_with_len}
+use Rattle.relay_base.specs.Giving.{◌>>=◌}
+use Rattle.relay_base.specs.declared.words.Stamp.{Stamp}
+use Rattle.plant_core.specs.declared.entry.ControlEvent.{ControlEvent}
+use Rattle.node_head.specs.Lines.{lines, halves}
+use Rattle.node_head.specs.Head.{begun}
+use Rattle.node_head.specs.declared.head.Head.{Head}
+use Rattle.capture_form.specs.Text.{words}
+use Rattle.capture_form.specs.Line.{Linked, event_of}
+use Rattle.capture_form.specs.declared.fault.LineKind.{LineKind}
+use Rattle.capture_form.specs.declared.fault.LineKind.TheVariants as kind
+use Rattle.capture_form.specs.declared.fault.CaptureFault.{CaptureFault}
+use Rattle.capture_form.specs.declared.fault.CaptureFault.TheVariants as refused
+use Rattle.capture_form.specs.declared.fault.Limit.TheVariants as limit
+use Rattle.capture_form.specs.declared.reading.Reading.{Reading}
+use Rattle.capture_form.specs.declared.capture.Capture.{Capture}
+use Rattle.capture_form.specs.Capture.{Reads, is_skipped, begins, Line, lines_from, barriers, with_above, fault_at, event_at, phases_of, unless_faulty, at_head, capture_after, capture_from, capture_within}
+use Rattle.capture_form.specs.Inner.Reader.{at_line, phase_ended, event_added, barrier_taken, tick_counted, line_counted, event_put, event_taken, words_taken, line_taken, lines_taken, reading_from, phases_read, capture_read}
+use Rattle.capture_form.specs.declared.steps.TheConstants.{MOST_LINES, MOST_TICKS, MOST_BARRIERS}
+use Rattle.capture_form.specs.Events.{Stamped, phase_lists, phase_events, all_events, AreOfPhases, IsStamped}
+use Rattle.capture_form.proofs.PhaseLemmas.{phases-stamped}
+use Rattle.capture_form.proofs.ReaderLemmas.{reader-agrees}
+use Rattle.node_head.proofs.Given.{IfGiven, bound, bound_if, either, by_test}
+
+-- ---- all events
+
+-- the events that were read so far: no more than were counted
+abbrev events_of : Reading → Stamped
+events_of r = all_events r.phases ++ phase_events r.current
+
+record Fine (r : Reading) : Type 0 where
+  few : length (events_of r) ≤ r.events
+  most : r.events ≤ 200000
+
+lists-empty : (n : ℕ) → phase_events (replicate n []) ≡ []
+lists-empty zero = refl
+lists-empty (suc n) = lists-empty n
+
+-- an event at the end of one of the lists
+lists-length : (lists : List Stamped) (k : ℕ) (e : Stamp × ControlEvent) → length (phase_events (set lists k (get_or lists k [] ++ e ∷ []))) ≤ length (phase_events lists) + 1
+lists-length [] k e = omega arith
+lists-length (events ∷ more) zero e =
+    omega (arith, length-append (events ++ e ∷ []) (phase_events more), length-append events (e ∷ []), length-append events (phase_events more))
+lists-length (events ∷ more) (suc k) e =
+    omega (arith, lists-length more k e, length-append events (phase_events (set more k (get_or more k [] ++ e ∷ []))), length-append events (phase_events more))
+
+-- the phase that ended with those before it
+ended-events : (r : Reading) → all_events (r.phases ++ r.current ∷ []) ≡ events_of r
+ended-events r =
+    flat_map-append phase_events r.phases (r.current ∷ []) ∙ ap (λ l. all_events r.phases ++ l) (append-nil (phase_events r.current))
+
+fine-same : (r s : Reading) → events_of s ≡ events_of r → s.events ≡ r.events → Fine r → Fine s
+fine-same r s same count h = record {
+  few = omega (arith, h.few, count, ap length same);
+  most = omega (arith, h.most, count);
+}
+
+fine-ended : (head : Head) (r : Reading) → Fine r → Fine (phase_ended head r)
+fine-ended head r h =
+    fine-same r (phase_ended head r)
+    (ap (λ l. all_events (r.phases ++ r.current ∷ []) ++ l) (lists-empty (head.links + 1)) ∙ append-nil (all_events (r.phases ++ r.current ∷ [])) ∙ ended-events r) refl h
+
+fine-added : (r : Reading) (e : Linked) → r.events < 200000 → Fine r → Fine (event_added r e)
+fine-added r e less h =
+    let pair : Stamp × ControlEvent = (record { phase = r.phase; link = e.0; line = r.line }, e.1) in
+    let now : List Stamped = set r.current e.0 (get_or r.current e.0 [] ++ pair ∷ []) in
+    let grown : length (phase_events now) ≤ length (phase_events r.current) + 1 = lists-length r.current e.0 pair in
+    record {
+      few = omega (arith, h.few, grown, length-append (all_events r.phases) (phase_events now), length-append (all_events r.phases) (phase_events r.current));
+      most = omega (arith, less);
+    }
+
+-- ---- lines
+
+record Counted (r : Reading) : Type 0 where
+  fine : Fine r
+  less : r.events < 200000
+
+is-less : (n : ℕ) → nat_le MOST_LINES n ≡ false → n < 200000
+is-less n h = grind (arith, nat_tests)
+
+tick-counted : (r : Reading) → Counted r → IfGiven Counted (tick_counted r)
+tick-counted r h =
+    either Counted (nat_le MOST_TICKS r.ticks) (Err (refused.TooLong limit.Ticks)) (Ok (record r { ticks = r.ticks + 1 })) tt
+    (record { fine = fine-same r (record r { ticks = r.ticks + 1 }) refl refl h.fine; less = h.less })
+
+line-counted : (r : Reading) (ws : List (List ℕ)) → Fine r → IfGiven Counted (line_counted r ws)
+line-counted r ws h =
+    by_test Counted (nat_le MOST_LINES r.events) (Err (refused.TooLong limit.Lines)) (cond (begins (codes "t") ws) (tick_counted r) (Ok r)) (λ e. tt)
+    (λ e. either Counted (begins (codes "t") ws) (tick_counted r) (Ok r) (tick-counted r (record { fine = h; less = is-less r.events e })) (record { fine = h; less = is-less r.events e }))
+
+event-put : (head : Head) (ws : List (List ℕ)) (r : Reading) → Counted r → IfGiven Fine (event_put head ws r)
+event-put head ws r h = bound Fine (at_line r.line (event_of head ws)) (λ e. Ok (event_added r e)) (λ e. fine-added r e h.less h.fine)
+
+event-taken : (head : Head) (r : Reading) (ws : List (List ℕ)) → Fine r → IfGiven Fine (event_taken head r ws)
+event-taken head r ws h = bound_if Counted Fine (line_counted r ws) (event_put head ws) (line-counted r ws h) (λ s. event-put head ws s)
+
+barrier-taken : (head : Head) (r : Reading) (ws : List (List ℕ)) → Fine r → IfGiven Fine (barrier_taken head r ws)
+barrier-taken head r ws h =
+    let words_fault : Result Reading CaptureFault = Err (refused.Line record { line = r.line; kind = kind.Words }) in
+    either Fine (nat_lt MOST_BARRIERS r.phase) (Err (refused.TooLong limit.Barriers)) (cond (length ws == 1) (Ok (phase_ended head r)) words_fault) tt
+    (either Fine (length ws == 1) (Ok (phase_ended head r)) words_fault (fine-ended head r h) tt)
+
+line-taken : (head : Head) (r : Reading) (line : List ℕ) → Fine r → IfGiven Fine (line_taken head r line)
+unfolding line_taken
+line-taken head r line h =
+    either Fine (is_skipped line) (Ok (record r { line = r.line + 1 })) (words_taken head r (words line)) (fine-same r (record r { line = r.line + 1 }) refl refl h)
+    (either Fine (begins (codes "w") (words line)) (barrier_taken head r (words line)) (event_taken head r (words line)) (barrier-taken head r (words line) h) (event-taken head r (words line) h))
+
+lines-taken : (head : Head) (ls : List (List ℕ)) (r : Reading) → Fine r → IfGiven Fine (lines_taken head r ls)
+unfolding lines_taken
+lines-taken head [] r h = h
+lines-taken head (line ∷ more) r h = bound_if Fine Fine (line_taken head r line) (λ s. lines_taken head s more) (line-taken head r line h) (λ s. lines-taken head more s)
+
+-- ---- a capture
+
+none-yet : (head : Head) (number : ℕ) → events_of (reading_from head number) ≡ []
+none-yet head number = lists-empty (head.links + 1)
+
+fine-from : (head : Head) (number : ℕ) → Fine (reading_from head number)
+fine-from head number = record {
+  few = omega (arith, ap length (none-yet head number));
+  most = omega arith;
+}
+
+abbrev AreFew : List (List Stamped) → Type 0
+AreFew phases = length (all_events phases) ≤ 200000
+
+few-events : (phases : List (List Stamped)) (r : Reading) → all_events phases ≡ events_of r → Fine r → AreFew phases
+few-events phases r same h = omega (arith, h.few, h.most, ap length same)
+
+few-choice : (r : Reading) (t : Bool) → Fine r → AreFew (cond t [] (r.phases ++ r.current ∷ []))
+few-choice r true h = omega arith
+few-choice r false h = few-events (r.phases ++ r.current ∷ []) r (ended-events r) h
+
+read-few : (head : Head) (number : ℕ) (ls : List (List ℕ)) → IfGiven (λ c. AreFew c.phases) (capture_read head number ls)
+read-few head number ls =
+    bound_if Fine (λ (c : Capture). AreFew c.phases) (lines_taken head (reading_from head number) ls) (λ r. Ok (record { head = head; phases = phases_read r }))
+    (lines-taken head ls (reading_from head number) (fine-from head number)) (λ r h. few-choice r (r.events == 0) h)
+
+-- ---- stamps
+
+stamped-choice : (links n : ℕ) (events : Stamped) (t : Bool) → AreOfPhases links 1 (cond t [] (map (phase_lists links events) (range_with_len 1 n)))
+stamped-choice links n events true = tt
+stamped-choice links n events false = phases-stamped links 1 n events
+
+stamped-unless : (faults : List CaptureFault) (c : Capture) → IsStamped c.head c.phases → IfGiven (λ c. IsStamped c.head c.phases) (unless_faulty faults c)
+stamped-unless [] c h = h
+stamped-unless (f ∷ fs) c h = tt
+
+-- ---- a capture
+
+record IsGood (c : Capture) : Type 0 where
+  stamped : IsStamped c.head c.phases
+  few : AreFew c.phases
+
+both-given : (r : Result Capture CaptureFault) → IfGiven (λ c. IsStamped c.head c.phases) r → IfGiven (λ c. AreFew c.phases) r → IfGiven IsGood r
+both-given (Ok c) s f = record { stamped = s; few = f }
+both-given (Err e) s f = tt
+
+stamped-after : (head : Head) (number : ℕ) (ls : List (List ℕ)) → IfGiven (λ c. IsStamped c.head c.phases) (capture_after head number ls)
+unfolding capture_after
+stamped-after head number ls =
+    let stated = lines_from number ls in
+    let events = filter_map (event_at head) (with_above stated) in
+    stamped-unless (filter_map (fault_at head) (with_above stated)) (record { head = head; phases = phases_of head.links stated events })
+    (stamped-choice head.links (barriers stated + 1) events (length events == 0))
+
+good-after : (parts : Head × ℕ × List (List ℕ)) → IfGiven IsGood (capture_from parts)
+good-after parts =
+    both-given (capture_from parts) (stamped-after parts.0 (parts.1 + 2) parts.2)
+    (subst (IfGiven (λ (c : Capture). AreFew c.phases)) (reader-agrees parts.0 (parts.1 + 2) parts.2) (read-few parts.0 (parts.1 + 2) parts.2))
+
+good-within : (bytes : List ℕ) → IfGiven IsGood (capture_within bytes)
+good-within bytes = bound IsGood (at_head (begun (halves (lines bytes)))) capture_from good-after
+
+good-read : (r : Result Capture CaptureFault) (bytes : List ℕ) → Reads r (capture_within bytes) → IfOk r IsGood
+good-read (Ok capture) bytes e = subst (IfGiven IsGood) e (good-within bytes)
+good-read (Err fault) bytes e = tt
+
+pub read-stamped : (r : Result Capture CaptureFault) (bytes : List ℕ) → Reads r (capture_within bytes) → IfOk r (λ c. IsStamped c.head c.phases)
+read-stamped (Ok capture) bytes e = (good-read (Ok capture) bytes e).stamped
+read-stamped (Err fault) bytes e = tt
+
+pub read-few-events : (r : Result Capture CaptureFault) (bytes : List ℕ) → Reads r (capture_within bytes) → IfOk r (λ c. length (all_events c.phases) ≤ 200000)
+read-few-events (Ok capture) bytes e = (good-read (Ok capture) bytes e).few
+read-few-events (Err fault) bytes e = tt
+
+-- what the reader makes of the lines behind a head is what the definition makes of the input
+pub within-read : (r : Result Capture CaptureFault) (bytes : List ℕ) (parts : Head × ℕ × List (List ℕ)) → at_head (begun (halves (lines bytes))) ≡ Ok parts
+    → Reads r (capture_read parts.0 (parts.1 + 2) parts.2) → Reads r (capture_within bytes)
+within-read r bytes parts e h = subst (Reads r) (reader-agrees parts.0 (parts.1 + 2) parts.2 ∙ ap (λ p. p >>= capture_from) (sym e)) h

@@ -1,0 +1,99 @@
+-- A reader of lines, which keeps what it read so far.
+use Rattle.std.specs.Prelude.{◌≡◌, ℕ, ◌+◌, ◌==◌, nat_lt, nat_le, codes, List, [], ◌∷◌, ◌++◌, length, slice_index_or, slice_set, replicate, if◌then◌else◌, Ok, Err}
+use Rattle.std.specs.declared.result.Result.{Result}
+use Rattle.relay_base.specs.Giving.{◌>>=◌}
+use Rattle.node_head.specs.declared.head.Head.{Head}
+use Rattle.capture_form.specs.Text.{words}
+use Rattle.capture_form.specs.Line.{Linked, event_of}
+use Rattle.capture_form.specs.Events.{Stamped}
+use Rattle.capture_form.specs.Capture.{Fails, is_skipped, begins}
+use Rattle.capture_form.specs.declared.steps.TheConstants.{MOST_LINES, MOST_TICKS, MOST_BARRIERS}
+use Rattle.capture_form.specs.declared.fault.LineKind.{LineKind}
+use Rattle.capture_form.specs.declared.fault.LineKind.TheVariants.{Words}
+use Rattle.capture_form.specs.declared.fault.Limit.TheVariants.{Lines, Ticks, Barriers}
+use Rattle.capture_form.specs.declared.fault.CaptureFault.{CaptureFault}
+use Rattle.capture_form.specs.declared.fault.CaptureFault.TheVariants as refused
+use Rattle.capture_form.specs.declared.capture.Capture.{Capture}
+use Rattle.capture_form.specs.declared.reading.Reading.{Reading}
+
+-- the call left what is read by then, unless memory ran out
+abbrev pub Takes : {U : Type 0} → Reading → Result U CaptureFault → Result Reading CaptureFault → Type 0
+Takes left (Ok u) given = given ≡ Ok left
+Takes left (Err e) given = Fails e given
+
+-- the head was taken from the lines, unless memory ran out
+abbrev pub HeadReads : List (List ℕ) → Result (Head × ℕ) CaptureFault → Result (Head × ℕ × List (List ℕ)) CaptureFault → Type 0
+HeadReads rest (Ok h) given = given ≡ Ok (h.0, h.1, rest)
+HeadReads rest (Err e) given = Fails e given
+
+abbrev pub at_line : {A : Type 0} → ℕ → Result A LineKind → Result A CaptureFault
+at_line number (Ok x) = Ok x
+at_line number (Err kind) = Err (refused.Line record { line = number; kind = kind })
+
+-- the lists of a phase, one for each link from 0
+abbrev pub empty_phase : ℕ → List Stamped
+empty_phase links = replicate (links + 1) []
+
+-- the phase that stands ends, and the next one begins
+abbrev pub phase_ended : Head → Reading → Reading
+phase_ended head r = record r { phases = r.phases ++ r.current ∷ []; current = empty_phase head.links; phase = r.phase + 1; line = r.line + 1 }
+
+-- an event at the end of its link's list
+abbrev pub event_added : Reading → Linked → Reading
+event_added r e = record r {
+  current = slice_set r.current e.0 (slice_index_or r.current e.0 [] ++ (record { phase = r.phase; link = e.0; line = r.line }, e.1) ∷ []);
+  events = r.events + 1;
+  line = r.line + 1;
+}
+
+-- a barrier, of which there are at most 1,000
+abbrev pub barrier_taken : Head → Reading → List (List ℕ) → Result Reading CaptureFault
+barrier_taken head r ws =
+    if nat_lt MOST_BARRIERS r.phase then Err (refused.TooLong Barriers)
+    else if length ws == 1 then Ok (phase_ended head r)
+    else Err (refused.Line record { line = r.line; kind = Words })
+
+-- a tick line is counted; there are at most 20,000
+abbrev pub tick_counted : Reading → Result Reading CaptureFault
+tick_counted r = if nat_le MOST_TICKS r.ticks then Err (refused.TooLong Ticks) else Ok (record r { ticks = r.ticks + 1 })
+
+-- an event line, of which there are at most 200,000, is counted
+abbrev pub line_counted : Reading → List (List ℕ) → Result Reading CaptureFault
+line_counted r ws =
+    if nat_le MOST_LINES r.events then Err (refused.TooLong Lines)
+    else if begins (codes "t") ws then tick_counted r
+    else Ok r
+
+-- the event of a line, on the list of its link
+abbrev pub event_put : Head → List (List ℕ) → Reading → Result Reading CaptureFault
+event_put head ws r = at_line r.line (event_of head ws) >>= (λ e. Ok (event_added r e))
+
+-- an event line, which is counted before its form is tested
+abbrev pub event_taken : Head → Reading → List (List ℕ) → Result Reading CaptureFault
+event_taken head r ws = line_counted r ws >>= event_put head ws
+
+abbrev pub words_taken : Head → Reading → List (List ℕ) → Result Reading CaptureFault
+words_taken head r ws = if begins (codes "w") ws then barrier_taken head r ws else event_taken head r ws
+
+-- one line more was read
+unfoldable pub line_taken : Head → Reading → List ℕ → Result Reading CaptureFault
+line_taken head r line = if is_skipped line then Ok (record r { line = r.line + 1 }) else words_taken head r (words line)
+
+-- all lines
+unfoldable pub lines_taken : Head → Reading → List (List ℕ) → Result Reading CaptureFault
+lines_taken head r [] = Ok r
+lines_taken head r (line ∷ more) = line_taken head r line >>= (λ s. lines_taken head s more)
+
+-- before the first event line, which has this number
+abbrev pub reading_from : Head → ℕ → Reading
+reading_from head number = record { phases = []; current = empty_phase head.links; phase = 1; line = number; events = 0; ticks = 0 }
+
+-- the phases; without events there is none
+abbrev pub phases_read : Reading → List (List Stamped)
+phases_read r = if r.events == 0 then [] else r.phases ++ r.current ∷ []
+
+-- the capture of a head and the lines after it, of which the first has this number
+abbrev pub capture_read : Head → ℕ → List (List ℕ) → Result Capture CaptureFault
+capture_read head number ls = do
+  r ← lines_taken head (reading_from head number) ls
+  Ok (record { head = head; phases = phases_read r })
