@@ -14,8 +14,9 @@ use Rattle.section_model.specs.declared.cell.SectionState.TheVariants.{Asking, U
 use Rattle.section_model.specs.Parameters.{Parameters}
 use Rattle.section_model.specs.Ends.{End, wire, owner, SectionHead, Line, Section, Windows, Timers, gives, gives_then, cleared, only_cause}
 use Rattle.section_model.specs.Line.{confirms, hears_error, hears_test, agreed}
-use Rattle.section_model.specs.Windowed.{Windowed, ahead, is_valid, acknowledged, resets, is_next, is_used_up, wrong_number, accepts_unit, takes_data, takes_acknowledgement, takes_expedited as windows_take_expedited, sends_expedited, takes_answer}
+use Rattle.section_model.specs.Windowed.{Windowed, is_valid, acknowledged, resets, is_next, is_used_up, wrong_number, accepts_unit, takes_data, takes_acknowledgement, takes_expedited as windows_take_expedited, sends_expedited, takes_answer}
 use Rattle.section_model.specs.Acting.{timed, by_windows, by_line}
+use Rattle.section_model.proofs.Counting.{count-between}
 use Rattle.flow_law.specs.InStep.{Stage, asking, connected, over, Meets, stage_at, section_stage, AreInStep, ResetIsAwaited, InCredit, InWindow, PassesOn}
 use Rattle.flow_law.proofs.Ends.{kept_back, awaited_back}
 use Rattle.flow_law.proofs.Taking.{at, Settles, TakesInStep, alone, handed_on, NotRenewing, Agree, MayEnd, cleared_in, nothing_passed, takes_end, takes_refusal, takes_acceptance}
@@ -74,8 +75,8 @@ window_resets ticks cause x that k = resets_as Resetting ticks cause x that _ tt
 
 pub acked_in_window : (pr : ℕ) (w : Windows) → is_valid pr w ≡ true → InWindow w → InWindow (acknowledged pr w)
 acked_in_window pr w valid k =
-    let close : ahead pr w.acked ≤ w.sent - w.acked = leb-true _ _ valid in
-    (omega (arith, close, k.0), omega (arith, k.1), k.2)
+    let count = count-between pr w.acked w.sent k.0 in
+    (count.1, omega (arith, k.1, count.0), k.2)
 
 pub came_in_credit : (credit : ℕ) (w : Windows) (u : DataUnit) → ((length w.got - w.told == credit) ≡ false) → InCredit credit w
     → (w.told ≤ w.passed) × (w.passed ≤ length (w.got ++ u ∷ [])) × (length (w.got ++ u ∷ []) ≤ w.told + credit)

@@ -11,28 +11,22 @@ ghost use Rattle.section_class2.specs.Lines.{line_of};
 use crate::line::Line;
 use crate::sending::{rlsd, test};
 use relay_base::Memory;
+use relay_base::causes::{
+    REFUSAL_ESTABLISHMENT_EXPIRED, RELEASE_INACTIVITY_EXPIRED, RELEASE_RESET_EXPIRED,
+};
 use section_model::{Acted, Cell, Hand, SectionState, WireHead};
 use std::alloc::Global;
-
-/// The refusal cause "expiration of the connection establishment timer".
-const NOT_ESTABLISHED: u8 = 0x0C;
-
-/// The release cause "expiration of reset timer".
-const NOT_RESET: u8 = 0x0C;
-
-/// The release cause "expiration of receive inactivity timer".
-const SILENT: u8 = 0x0D;
 
 /// The other end is refused, and the section is freed.
 fn not_answered(alloc: Global, wire: &mut WireHead) -> Result<Acted, Memory>
     ensures ok { IfOk result (λ done.
         section_of wire.new ≡ record (section_of wire.old) { state = Gone }) }
     ensures done { IfOk result (λ done.
-        done ≡ gives_then [] (hand.Refuse 0x0C None None None ∷ [])) }
+        done ≡ gives_then [] (hand.Refuse REFUSAL_ESTABLISHMENT_EXPIRED None None None ∷ [])) }
     ensures err { OnErr result (wire.new ≡ wire.old) }
 {
     let refuse = Hand::Refuse {
-        cause: NOT_ESTABLISHED,
+        cause: REFUSAL_ESTABLISHMENT_EXPIRED,
         called: None,
         body: None,
         importance: None,
@@ -58,8 +52,8 @@ impl Line {
     {
         match cell {
             Cell::NotAnswered => not_answered(alloc, wire),
-            Cell::ResetExpired => self.breaks(alloc, wire, NOT_RESET),
-            Cell::PeerSilent => self.breaks(alloc, wire, SILENT),
+            Cell::ResetExpired => self.breaks(alloc, wire, RELEASE_RESET_EXPIRED),
+            Cell::PeerSilent => self.breaks(alloc, wire, RELEASE_INACTIVITY_EXPIRED),
             Cell::SendTest => Acted::giving(alloc, test(alloc, wire)?),
             Cell::ReleaseUnanswered | Cell::RepeatRelease => {
                 Acted::giving(alloc, rlsd(alloc, wire, &self.kept)?)

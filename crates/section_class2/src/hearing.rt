@@ -11,18 +11,12 @@ ghost use Rattle.section_class2.specs.Lines.{line_of, line_hears_event};
 
 use crate::line::Line;
 use crate::sending::{rlc, rlsd};
+use relay_base::causes::{
+    ERROR_CLASS_MISMATCH, REFUSAL_UNQUALIFIED, RELEASE_INCONSISTENT_DATA, RELEASE_UNQUALIFIED,
+};
 use relay_base::{Event, Lost, Memory, Octets, Output, Pc};
 use section_model::{Acted, Cell, Hand, KeptRelease, ParametersView, SectionState, WireHead, arrival_in};
 use std::alloc::Global;
-
-/// The release cause "inconsistent connection data".
-const INCONSISTENT: u8 = 0x05;
-
-/// The refusal cause and the release cause "unqualified".
-const UNQUALIFIED: u8 = 0x0F;
-
-/// The error cause "service class mismatch".
-const CLASS_MISMATCH: u8 = 3;
 
 /// The credit that CC agrees on: none but in class 3, where it is at least 1 and at most the credit that was asked for.
 fn agreed(wire: &WireHead, message: &ParametersView<'_>) -> u8
@@ -142,12 +136,12 @@ impl Line {
             return Ok(acted);
         }
         let refuse = Hand::Refuse {
-            cause: UNQUALIFIED,
+            cause: REFUSAL_UNQUALIFIED,
             called: None,
             body: None,
             importance: None,
         };
-        self.release(alloc, wire, reached, INCONSISTENT, refuse)
+        self.release(alloc, wire, reached, RELEASE_INCONSISTENT_DATA, refuse)
     }
 
     /// CC of a section that waited for it to be released: RLSD with the cause that was kept.
@@ -187,11 +181,11 @@ impl Line {
                 (line_of wire.new self.new, done)) }
         ensures err { OnErr result ((wire.new ≡ wire.old) × (self.new ≡ self.old)) }
     {
-        if message.cause == CLASS_MISMATCH {
-            return self.breaks(alloc, wire, UNQUALIFIED);
+        if message.cause == ERROR_CLASS_MISMATCH {
+            return self.breaks(alloc, wire, RELEASE_UNQUALIFIED);
         }
         let end = Hand::End {
-            cause: UNQUALIFIED,
+            cause: RELEASE_UNQUALIFIED,
             body: None,
             importance: None,
         };
@@ -215,7 +209,7 @@ impl Line {
         if message.slr == wire.other && message.class == wire.class {
             return Ok(Acted::nothing(alloc));
         }
-        self.breaks(alloc, wire, INCONSISTENT)
+        self.breaks(alloc, wire, RELEASE_INCONSISTENT_DATA)
     }
 
     /// A message from a point, by the table's cell for it.

@@ -8,12 +8,10 @@ ghost use Rattle.section_class3.specs.Windows.{windowed_of, windows_hear_event};
 
 use crate::sending::{expedited, reset_confirmation, reset_request};
 use crate::windows::Windows;
+use relay_base::causes::RESET_REMOTE_PROCEDURE_ERROR;
 use relay_base::{Event, Lost, Memory, Octets, Output};
 use section_model::{Acted, Cell, Hand, ParametersView, SectionState, WireHead, arrival_in};
 use std::alloc::Global;
-
-/// The reset cause "remote procedure error: general".
-const PROCEDURE_ERROR: u8 = 0x06;
 
 /// The data of a message.
 fn data(alloc: Global, message: &ParametersView<'_>) -> Result<Octets, Memory>
@@ -102,7 +100,7 @@ impl Windows {
         ensures agreed { self.new.agreed ≡ wire.new.credit }
     {
         if self.is_owed {
-            return self.reset(alloc, wire, PROCEDURE_ERROR);
+            return self.reset(alloc, wire, RESET_REMOTE_PROCEDURE_ERROR);
         }
         let body = data(alloc, message)?;
         let acted = Acted::handing(alloc, Hand::Expedited { body })?;

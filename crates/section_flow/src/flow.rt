@@ -1,28 +1,21 @@
 //! The flow control of a section.
 ghost use Rattle.std.specs.Prelude.{◌≡◌, true, false, ◌≤◌, ◌<◌, ◌+◌, ◌-◌, ◌%◌, ◌++◌, [], ◌∷◌, Some, None, drop, length, min, suc, IfOk, IfErr, IfSome, IfNone, OnOk, OnErr};
-ghost use Rattle.section_model.specs.Windowed.{ahead, is_valid, may_leave};
+ghost use Rattle.std.specs.Option.{option_map};
+ghost use Rattle.section_model.specs.Windowed.{count_of, is_valid, may_leave};
 ghost use Rattle.section_flow.specs.Flow.{cleared_flow, no_counts, windows_of, wrong_number, unit_refusal, counts_after_unit, counts_after_acknowledgement, counts_after_sending, counts_after_leaving, counts_after_telling, due_of, IsWithinWindows};
 
 use crate::counts::{Counts, Remainders};
 use mark::Mark;
 use relay_base::Memory;
+use relay_base::causes::{
+    RESET_INCORRECT_FIRST_NUMBER, RESET_INCORRECT_RECEIVE_NUMBER, RESET_INCORRECT_SEND_NUMBER,
+    RESET_OUT_OF_WINDOW,
+};
 use section_model::Unit;
 use section_model::limits::{GREATEST_CREDIT, SEQUENCE_NUMBERS};
 use std::alloc::Global;
 use std::collections::VecDeque;
 use std::marker::Model;
-
-/// The reset cause "message out of order: incorrect P(S)".
-const WRONG_NUMBER: u8 = 0x02;
-
-/// The reset cause "message out of order: incorrect P(R)".
-const WRONG_ACKNOWLEDGEMENT: u8 = 0x03;
-
-/// The reset cause "remote procedure error: message out of window".
-const OUT_OF_WINDOW: u8 = 0x04;
-
-/// The reset cause "remote procedure error: incorrect P(S) after (re)initialization".
-const WRONG_FIRST_NUMBER: u8 = 0x05;
 
 /// The flow control of a section: its credits, its counts, and the units of the other end that wait.
 #[derive(Drop)]
@@ -142,18 +135,20 @@ impl Flow {
         (self.held.expected + SEQUENCE_NUMBERS - self.held.unleft) % SEQUENCE_NUMBERS
     }
 
-    /// How far a P(R) stands ahead of the last one received, modulo 128.
-    fn ahead(&self, pr: u8) -> u8
-        ensures { result ≡ ahead pr self.now.counts.acked }
+    /// How far the count that a P(R) stands for is ahead of the last one received; None where it stands for no count up to the units
+    /// sent.
+    fn ahead(&self, pr: u8) -> Option<u8>
+        ensures count { option_map (λ ahead. self.now.counts.acked + ahead) result ≡
+            count_of pr self.now.counts.acked self.now.counts.sent }
+        ensures sent { IfSome result (λ ahead.
+            self.now.counts.acked + ahead ≤ self.now.counts.sent) }
     {
-        (pr % SEQUENCE_NUMBERS + SEQUENCE_NUMBERS - self.held.acked) % SEQUENCE_NUMBERS
-    }
-
-    /// Whether a P(R) stands for a count from the last one received up to the units sent.
-    fn is_valid(&self, pr: u8) -> bool
-        ensures { result ≡ is_valid pr (windows_of self.now) }
-    {
-        self.ahead(pr) <= self.held.outstanding
+        let ahead = (pr % SEQUENCE_NUMBERS + SEQUENCE_NUMBERS - self.held.acked) % SEQUENCE_NUMBERS;
+        if ahead <= self.held.outstanding {
+            Some(ahead)
+        } else {
+            None
+        }
     }
 
     /// The reset cause where another P(S) is expected.
@@ -161,29 +156,33 @@ impl Flow {
         ensures { result ≡ wrong_number self.now }
     {
         if self.held.has_accepted {
-            WRONG_NUMBER
+            RESET_INCORRECT_SEND_NUMBER
         } else {
-            WRONG_FIRST_NUMBER
+            RESET_INCORRECT_FIRST_NUMBER
         }
     }
 
-    /// Why a unit isn't accepted, as the cause of the reset.
-    fn unit_refusal(&self, ps: u8, pr: u8) -> Option<u8>
-        ensures refusal { result ≡ unit_refusal ps pr self.now }
-        ensures window { IfNone result
-            (length self.now.counts.got < self.now.counts.told + self.now.agreed) }
-        ensures valid { IfNone result (is_valid pr (windows_of self.now) ≡ true) }
+    /// How far the P(R) of a unit that is accepted is ahead of the last one received. The error is the cause of the reset.
+    fn tested(&self, ps: u8, pr: u8) -> Result<u8, u8>
+        ensures ok { IfOk result (λ ahead. (unit_refusal ps pr self.now ≡ None)
+            × (count_of pr self.now.counts.acked self.now.counts.sent ≡
+                Some (self.now.counts.acked + ahead))) }
+        ensures window { IfOk result (λ ahead.
+            length self.now.counts.got < self.now.counts.told + self.now.agreed) }
+        ensures sent { IfOk result (λ ahead.
+            self.now.counts.acked + ahead ≤ self.now.counts.sent) }
+        ensures err { IfErr result (λ cause. unit_refusal ps pr self.now ≡ Some cause) }
     {
         if ps != self.held.expected {
-            return Some(self.wrong_number());
+            return Err(self.wrong_number());
         }
         if self.held.untold == self.agreed {
-            return Some(OUT_OF_WINDOW);
+            return Err(RESET_OUT_OF_WINDOW);
         }
-        if !self.is_valid(pr) {
-            return Some(WRONG_ACKNOWLEDGEMENT);
+        match self.ahead(pr) {
+            Some(ahead) => Ok(ahead),
+            None => Err(RESET_INCORRECT_RECEIVE_NUMBER),
         }
-        None
     }
 
     /// Takes a unit with P(S) and P(R) that comes in; of the unit itself only the contract keeps anything. The error is the cause of the
@@ -196,10 +195,10 @@ impl Flow {
         ensures err { IfErr result (λ cause.
             (unit_refusal ps pr self.old ≡ Some cause) × (self.new ≡ self.old)) }
     {
-        if let Some(cause) = self.unit_refusal(ps, pr) {
-            return Err(cause);
-        }
-        let ahead = self.ahead(pr);
+        let ahead = match self.tested(ps, pr) {
+            Ok(ahead) => ahead,
+            Err(cause) => return Err(cause),
+        };
         let counts = Mark::after(&Arriving {
             flow: self,
             pr,
@@ -220,12 +219,11 @@ impl Flow {
                 credit = min credit GREATEST_CREDIT;
                 counts = counts_after_acknowledgement pr self.old.counts })) }
         ensures err { IfErr result (λ cause.
-            (is_valid pr (windows_of self.old) ≡ false) × (cause ≡ 0x03) × (self.new ≡ self.old)) }
+            (is_valid pr (windows_of self.old) ≡ false) × (cause ≡ RESET_INCORRECT_RECEIVE_NUMBER) × (self.new ≡ self.old)) }
     {
-        if !self.is_valid(pr) {
-            return Err(WRONG_ACKNOWLEDGEMENT);
-        }
-        let ahead = self.ahead(pr);
+        let Some(ahead) = self.ahead(pr) else {
+            return Err(RESET_INCORRECT_RECEIVE_NUMBER);
+        };
         let counts = Mark::after(&Counting {
             flow: self,
             number: pr,

@@ -5,3 +5,4 @@ pub mod ReadLengths
 pub mod ReadWithin
 pub mod InRanges
 pub mod ArriveWithin
+pub mod Counting

@@ -1,6 +1,7 @@
 -- A legal connection journal: each entry has the outputs that the entries before it determine.
 use Rattle.std.specs.Prelude.{◌≡◌, ℕ, ◌+◌, ◌*◌, ◌/◌, ◌==◌, ◌&&◌, ◌||◌, nat_lt, not, Bool, true, false, List, [], ◌∷◌, ◌++◌, length, map, take, filter, find, if◌then◌else◌, Option, Some, None, Ok, Err, option_map, is_some, flat_map, count_by}
 use Rattle.std.specs.List.{list_any, range_with_len}
+use Rattle.relay_base.specs.declared.causes.TheConstants.{ERROR_UNASSIGNED_REFERENCE}
 use Rattle.relay_base.specs.declared.words.Output.{Output}
 use Rattle.relay_base.specs.declared.words.Output.TheVariants.{Sent, Told, Lost as Dropped}
 use Rattle.relay_base.specs.declared.words.Lost.TheVariants as lost
@@ -8,6 +9,7 @@ use Rattle.relay_base.specs.declared.words.Reason.TheVariants as reason
 use Rattle.relay_base.specs.declared.words.Tell.TheVariants as tell
 use Rattle.relay_base.specs.declared.words.Event.{Event}
 use Rattle.relay_base.specs.declared.words.Event.TheVariants.{Message as Arrived, Asked as Requested, Tick}
+use Rattle.plant_core.specs.Asking.{answer_in}
 use Rattle.plant_core.specs.declared.answer.Answer.{Answer}
 use Rattle.plant_core.specs.declared.entry.Entry.{Entry}
 use Rattle.plant_core.specs.declared.terms.Terms.{Terms}
@@ -119,9 +121,9 @@ lowest_free lane openings count = enough lane count (take count (free_slots lane
 -- for a connection is lost. CR, and a message of the connectionless service, are none.
 
 abbrev pub stray_output : ℕ → ℕ → Occasion → Parameters → Output
-stray_output point sls on.Cc m = Sent point sls (spelling_of (Error m.slr 0))
-stray_output point sls on.Rsr m = Sent point sls (spelling_of (Error m.slr 0))
-stray_output point sls on.It m = Sent point sls (spelling_of (Error m.slr 0))
+stray_output point sls on.Cc m = Sent point sls (spelling_of (Error m.slr ERROR_UNASSIGNED_REFERENCE))
+stray_output point sls on.Rsr m = Sent point sls (spelling_of (Error m.slr ERROR_UNASSIGNED_REFERENCE))
+stray_output point sls on.It m = Sent point sls (spelling_of (Error m.slr ERROR_UNASSIGNED_REFERENCE))
 stray_output point sls on.Rlsd m = Sent point sls (spelling_of (Rlc m.slr m.dlr))
 stray_output point sls _ m = Dropped lost.Stray
 
@@ -180,7 +182,7 @@ openings_after lane openings event answer =
 -- The journal.
 
 abbrev pub answer_of : Entry → Option Answer
-answer_of entry = option_map (λ a. a.answer) entry.asked
+answer_of entry = answer_in entry.asked
 
 -- an entry has a routing exactly where its event asks one, and its outputs are the legal ones
 pub record IsLegalEntry (lane : Lane) (openings : List Opening) (entry : Entry) : Type 0 where

@@ -1,5 +1,6 @@
 -- What a connection section does in both classes (Q.714, 3.1, 3.3 and 3.4), and the data of class 2 (3.5).
 use Rattle.std.specs.Prelude.{ℕ, ◌==◌, ◌||◌, ◌&&◌, nat_le, List, [], ◌∷◌, if◌then◌else◌, Option, Some, None, unwrap_or, min, max}
+use Rattle.relay_base.specs.declared.causes.TheConstants.{ERROR_CLASS_MISMATCH, REFUSAL_ESTABLISHMENT_EXPIRED, REFUSAL_UNQUALIFIED, RELEASE_INACTIVITY_EXPIRED, RELEASE_INCONSISTENT_DATA, RELEASE_RESET_EXPIRED, RELEASE_UNQUALIFIED}
 use Rattle.relay_base.specs.declared.words.Output.TheVariants.{Sent, Lost as Dropped}
 use Rattle.relay_base.specs.declared.words.Lost.TheVariants as lost
 use Rattle.section_model.specs.declared.hand.Hand.TheVariants as hand
@@ -68,7 +69,7 @@ confirms point m asked =
       record x { head = record x.head { state = Up; class = m.class; credit = agreed x.head m } },
       gives_then [] (hand.Accept m.class (agreed x.head m) m.called m.body m.importance ∷ []),
     )
-    else releases 0x05 (hand.Refuse 0x0F None None None) x
+    else releases RELEASE_INCONSISTENT_DATA (hand.Refuse REFUSAL_UNQUALIFIED None None None) x
 
 abbrev pub confirms_late : ℕ → Parameters → Line → Line × Acted
 confirms_late point m waning =
@@ -78,12 +79,12 @@ confirms_late point m waning =
 -- ERR (Q.713, 3.14) is answered by RLSD where the class is mismatched; another one frees the section.
 abbrev pub hears_error : Parameters → Line → Line × Acted
 hears_error m x =
-    if m.cause == 3 then breaks 0x0F x
-    else (in_state Gone x, gives_then [] (hand.End 0x0F None None ∷ []))
+    if m.cause == ERROR_CLASS_MISMATCH then breaks RELEASE_UNQUALIFIED x
+    else (in_state Gone x, gives_then [] (hand.End RELEASE_UNQUALIFIED None None ∷ []))
 
 -- IT (Q.714, 3.4) names the other reference and the class: where one is another, the section is released.
 abbrev pub hears_test : Parameters → Line → Line × Acted
-hears_test m x = if m.slr == x.head.other && m.class == x.head.class then (x, no_effect) else breaks 0x05 x
+hears_test m x = if m.slr == x.head.other && m.class == x.head.class then (x, no_effect) else breaks RELEASE_INCONSISTENT_DATA x
 
 -- A message from a point, which the checks let through, by the table's cell for it (Q.714, 3.1, 3.3, 3.4 and 3.5).
 unfoldable pub line_hears : Cell → ℕ → Parameters → Line → Line × Acted
@@ -101,9 +102,9 @@ line_hears _ point m x = (x, no_effect)
 
 -- A timer fires: T(conn est) (Q.714, 3.1), T(rel), T(repeat rel) and T(int) (3.3), T(iar) and T(ias) (3.4), T(reset) (3.7).
 unfoldable pub line_fires : Cell → Line → Line × Acted
-line_fires cell.NotAnswered x = (in_state Gone x, gives_then [] (hand.Refuse 0x0C None None None ∷ []))
-line_fires cell.ResetExpired x = breaks 0x0C x
-line_fires cell.PeerSilent x = breaks 0x0D x
+line_fires cell.NotAnswered x = (in_state Gone x, gives_then [] (hand.Refuse REFUSAL_ESTABLISHMENT_EXPIRED None None None ∷ []))
+line_fires cell.ResetExpired x = breaks RELEASE_RESET_EXPIRED x
+line_fires cell.PeerSilent x = breaks RELEASE_INACTIVITY_EXPIRED x
 line_fires cell.SendTest x = (x, gives (sent_on x.head (It x.head.other x.head.mine x.head.class (0 ∷ 0 ∷ []) x.head.credit) ∷ []))
 line_fires cell.ReleaseUnanswered x = (x, gives (rlsd x.head x.kept ∷ []))
 line_fires cell.RepeatRelease x = (x, gives (rlsd x.head x.kept ∷ []))

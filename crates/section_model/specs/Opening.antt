@@ -1,6 +1,7 @@
 -- How a connection is opened (Q.714, 3.1): by CR from the network, or by a user's N-CONNECT request.
 use Rattle.std.specs.Prelude.{ℕ, ◌%◌, ◌==◌, ◌||◌, ◌&&◌, nat_le, Bool, true, false, List, [], ◌∷◌, ◌++◌, length, if◌then◌else◌, Option, Some, None, Ok, Err, unwrap_or, is_ok}
 use Rattle.std.specs.declared.result.Result.{Result}
+use Rattle.relay_base.specs.declared.causes.TheConstants.{REFUSAL_NOT_AVAILABLE, REFUSAL_UNQUALIFIED}
 use Rattle.relay_base.specs.declared.words.ReadFault.{ReadFault}
 use Rattle.relay_base.specs.declared.words.Output.{Output}
 use Rattle.relay_base.specs.declared.words.Output.TheVariants.{Sent, Told}
@@ -11,6 +12,7 @@ use Rattle.relay_base.specs.declared.words.Event.{Event}
 use Rattle.relay_base.specs.declared.words.Event.TheVariants.{Message as Arrived, Asked as Requested, Tick}
 use Rattle.sccp_address.specs.Form.{Form}
 use Rattle.sccp_address.specs.Parsing.{address_of}
+use Rattle.sccp_address.specs.Subsystems.{subsystem_address}
 use Rattle.sccp_address.specs.declared.address.AddressFault.{AddressFault}
 use Rattle.plant_core.specs.declared.answer.Answer.{Answer}
 use Rattle.plant_core.specs.declared.answer.Answer.TheVariants.{Local, Forward, Refused}
@@ -23,6 +25,7 @@ use Rattle.plant_core.specs.Causes.{refusal_code}
 use Rattle.q713_codec.specs.declared.message.Message.{Message}
 use Rattle.q713_codec.specs.declared.message.Message.TheVariants.{Cr, Cref}
 use Rattle.q713_codec.specs.Reading.{reading_of}
+use Rattle.q713_codec.specs.declared.longest.TheConstants.{LONGEST}
 use Rattle.q713_codec.specs.Writing.{spelling_of, is_in_range}
 use Rattle.plant_core.specs.Asking.{Question}
 use Rattle.plant_core.specs.Rewriting.{called_onward}
@@ -95,7 +98,7 @@ wanted_by_user terms ssn tag class credit called body = record {
   class = class;
   credit = offered terms class credit;
   called = called;
-  calling = Some (0x42 ∷ ssn ∷ []);
+  calling = Some (subsystem_address ssn);
   body = given body;
   hop = Some 15;
   importance = None;
@@ -128,7 +131,7 @@ onward w rewrite hop mine =
 
 -- CR can be written, and is no longer than a message may be
 abbrev pub fits : Wanted → Rewrite → Option ℕ → Bool
-fits w rewrite hop = is_in_range (onward w rewrite hop 0) && nat_le (length (spelling_of (onward w rewrite hop 0))) 268
+fits w rewrite hop = is_in_range (onward w rewrite hop 0) && nat_le (length (spelling_of (onward w rewrite hop 0))) LONGEST
 
 abbrev pub new_section : Ticks → SectionHead → End
 new_section ticks x = wire (record { head = x; kept = no_kept; windows = cleared x.credit; timers = entered ticks x.state no_timers })
@@ -178,15 +181,15 @@ opened_onward terms w point rewrite hop mine next =
 -- where two references are free
 abbrev pub opened_through : Terms → Wanted → ℕ → Rewrite → Option ℕ → List ℕ → Opened
 opened_through terms w point rewrite hop (mine ∷ next ∷ refs) = opened_onward terms w point rewrite hop mine next
-opened_through terms w point rewrite hop _ = not_opened (cref_to w 0x07 ∷ [])
+opened_through terms w point rewrite hop _ = not_opened (cref_to w REFUSAL_NOT_AVAILABLE ∷ [])
 
 -- CR, with the references that are free for it: as many as it needs, or fewer where too few are free. One that goes on has to fit first.
 unfoldable pub opened_by_cr : Terms → Wanted → Answer → List ℕ → Opened
 opened_by_cr terms w (Refused cause local) refs = not_opened (cref_to w (refusal_code cause) ∷ status_outputs terms.own w.point w.sls local)
-opened_by_cr terms w (Local ssn) [] = not_opened (cref_to w 0x07 ∷ [])
+opened_by_cr terms w (Local ssn) [] = not_opened (cref_to w REFUSAL_NOT_AVAILABLE ∷ [])
 opened_by_cr terms w (Local ssn) (mine ∷ refs) = opened_locally terms w ssn mine
 opened_by_cr terms w (Forward point rewrite hop) refs =
-    if fits w rewrite hop then opened_through terms w point rewrite hop refs else not_opened (cref_to w 0x0F ∷ [])
+    if fits w rewrite hop then opened_through terms w point rewrite hop refs else not_opened (cref_to w REFUSAL_UNQUALIFIED ∷ [])
 
 -- from a user to a section
 abbrev pub opened_out : Terms → ℕ → ℕ → Wanted → ℕ → Rewrite → ℕ → Opened
@@ -197,8 +200,8 @@ opened_out terms ssn tag w point rewrite mine =
 -- a user's request, with the reference that is free for it, or none
 unfoldable pub opened_by_user : Terms → ℕ → ℕ → Wanted → Answer → List ℕ → Opened
 opened_by_user terms ssn tag w (Refused cause local) refs = not_opened (Told ssn (tell.NotMade tag (refusal_code cause)) ∷ [])
-opened_by_user terms ssn tag w (Local other) refs = not_opened (Told ssn (tell.NotMade tag 0x0F) ∷ [])
-opened_by_user terms ssn tag w (Forward point rewrite hop) [] = not_opened (Told ssn (tell.NotMade tag 0x07) ∷ [])
+opened_by_user terms ssn tag w (Local other) refs = not_opened (Told ssn (tell.NotMade tag REFUSAL_UNQUALIFIED) ∷ [])
+opened_by_user terms ssn tag w (Forward point rewrite hop) [] = not_opened (Told ssn (tell.NotMade tag REFUSAL_NOT_AVAILABLE) ∷ [])
 opened_by_user terms ssn tag w (Forward point rewrite hop) (mine ∷ refs) = opened_out terms ssn tag w point rewrite mine
 
 -- How many free references the answer takes.
@@ -211,7 +214,7 @@ slots_needed _ _ = 0
 -- The opening. Routing is answered where it was asked; else CR is refused, as one of another class or without a called address.
 unfoldable pub opened : Terms → Wish → Option Answer → List ℕ → Opened
 opened terms (by_cr w) (Some answer) refs = opened_by_cr terms w answer refs
-opened terms (by_cr w) None refs = not_opened (cref_to w 0x0F ∷ [])
+opened terms (by_cr w) None refs = not_opened (cref_to w REFUSAL_UNQUALIFIED ∷ [])
 opened terms (by_user ssn tag w) (Some answer) refs = opened_by_user terms ssn tag w answer refs
 opened terms (by_user ssn tag w) None refs = not_opened []
 opened terms no_wish answer refs = not_opened []

@@ -1,6 +1,7 @@
 -- One step of a connection: the checks, the act of the end that the event names, what the ends hand to each other, and
 -- what follows each event.
 use Rattle.std.specs.Prelude.{ℕ, ◌+◌, ◌==◌, ◌||◌, ◌&&◌, nat_le, nat_lt, not, Bool, true, false, List, [], ◌∷◌, length, if◌then◌else◌, Option, Some, None, Ok, Err, is_some, fold}
+use Rattle.relay_base.specs.declared.causes.TheConstants.{ERROR_INCONSISTENT_REFERENCE}
 use Rattle.relay_base.specs.declared.words.Output.TheVariants.{Sent, Told, Lost as Dropped}
 use Rattle.relay_base.specs.declared.words.Lost.TheVariants as lost
 use Rattle.relay_base.specs.declared.words.Reason.{Reason}
@@ -76,7 +77,7 @@ is_of_other_class o x = is_connected x.state && ((is_of_class_2 o && x.class == 
 -- RLSD, RSR, RLC and RSC name both references, and a message of the other class has no place in the section
 abbrev pub checked : Occasion → Parameters → SectionHead → Option Output
 checked o m x =
-    if names_both o && names_another m x then Some (Sent x.point x.sls (spelling_of (Error m.slr 0x01)))
+    if names_both o && names_another m x then Some (Sent x.point x.sls (spelling_of (Error m.slr ERROR_INCONSISTENT_REFERENCE)))
     else if ends_both o && names_another m x then Some (Dropped lost.State)
     else if is_of_other_class o x then Some (Dropped lost.Class)
     else None

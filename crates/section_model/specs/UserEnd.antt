@@ -1,6 +1,7 @@
 -- What a user's end does (Q.711): its requests, the cutting of a text into units, and the putting together of one (Q.714, 3.5.3).
 use Rattle.std.specs.Prelude.{ℕ, ◌+◌, ◌-◌, ◌*◌, ◌/◌, ◌==◌, nat_lt, Bool, true, false, List, [], ◌∷◌, ◌++◌, length, take, drop, map, if◌then◌else◌, Option, Some, None}
 use Rattle.std.specs.List.{range_with_len}
+use Rattle.relay_base.specs.declared.causes.TheConstants.{RELEASE_ACCESS_CONGESTION, RESET_END_USER}
 use Rattle.relay_base.specs.declared.words.Output.TheVariants.{Told}
 use Rattle.relay_base.specs.declared.words.Tell.{Tell}
 use Rattle.relay_base.specs.declared.words.Tell.TheVariants as tell
@@ -66,7 +67,7 @@ user_asks cell.UserAccepts r x = accepts r x
 user_asks cell.UserRefuses r x = refuses r x
 user_asks cell.UserSends r x = sends r x
 user_asks cell.UserExpedites r x = expedites r x
-user_asks cell.UserResets r x = (record x { state = Renewing; text = []; got = []; passed = 0 }, gives_then [] (hand.Reset 0 ∷ []))
+user_asks cell.UserResets r x = (record x { state = Renewing; text = []; got = []; passed = 0 }, gives_then [] (hand.Reset RESET_END_USER ∷ []))
 user_asks cell.UserDisconnects r x = disconnects r x
 user_asks _ r x = (x, no_effect)
 
@@ -89,7 +90,7 @@ abbrev pub collects : Hand → User → User × Acted
 collects (hand.Unit more body) x =
     let text = x.text ++ body in
     if nat_lt LONGEST_TEXT (length text)
-    then (record x { state = Gone }, record { first = hand.End 0x07 None None ∷ []; outs = output_to x (tell.Disc x.mine 0x07 None) ∷ []; then = [] })
+    then (record x { state = Gone }, record { first = hand.End RELEASE_ACCESS_CONGESTION None None ∷ []; outs = output_to x (tell.Disc x.mine RELEASE_ACCESS_CONGESTION None) ∷ []; then = [] })
     else if more then (record x { text = text }, gives_then [] (taken x 1 false))
     else (record x { text = [] }, gives_then (output_to x (tell.Text x.mine text) ∷ []) (taken x 1 false))
 collects _ x = (x, no_effect)

@@ -1,5 +1,7 @@
 -- What a connection section does in class 3 alone: numbered data and its windows (Q.714, 3.5.2), expedited data (3.6), and the reset (3.7).
-use Rattle.std.specs.Prelude.{ℕ, suc, ◌+◌, ◌-◌, ◌*◌, ◌%◌, ◌==◌, ◌||◌, ◌&&◌, nat_le, nat_lt, not, Bool, true, false, List, [], ◌∷◌, ◌++◌, length, take, drop, if◌then◌else◌, Option, Some, None, unwrap_or, is_some, min}
+use Rattle.std.specs.Prelude.{ℕ, suc, ◌+◌, ◌-◌, ◌*◌, ◌%◌, ◌==◌, ◌||◌, ◌&&◌, nat_le, nat_lt, not, Bool, true, false, List, [], ◌∷◌, ◌++◌, length, take, drop, find, if◌then◌else◌, Option, Some, None, unwrap_or, is_some, min}
+use Rattle.std.specs.List.{range_with_len}
+use Rattle.relay_base.specs.declared.causes.TheConstants.{RESET_INCORRECT_FIRST_NUMBER, RESET_INCORRECT_RECEIVE_NUMBER, RESET_INCORRECT_SEND_NUMBER, RESET_OUT_OF_WINDOW, RESET_REMOTE_PROCEDURE_ERROR}
 use Rattle.relay_base.specs.declared.words.Output.TheVariants.{Lost as Dropped}
 use Rattle.relay_base.specs.declared.words.Lost.TheVariants as lost
 use Rattle.section_model.specs.declared.hand.Hand.TheVariants as hand
@@ -25,16 +27,17 @@ pub record Windowed : Type 0 where
 abbrev pub sequence : ℕ → ℕ
 sequence n = 2 * (n % SEQUENCE_NUMBERS)
 
--- how far a number of a message stands ahead of a count, modulo 128
-abbrev pub ahead : ℕ → ℕ → ℕ
-ahead number count = (number + SEQUENCE_NUMBERS - count % SEQUENCE_NUMBERS) % SEQUENCE_NUMBERS
+-- The count that a P(R) stands for (Q.714, 3.5.2): of those from the last P(R) received up to the units sent, the one with that remainder.
+abbrev pub count_of : ℕ → ℕ → ℕ → Option ℕ
+count_of pr acked sent =
+    find (λ count. count % SEQUENCE_NUMBERS == pr % SEQUENCE_NUMBERS) (range_with_len acked ((sent - acked) + 1))
 
--- a P(R) is valid (Q.714, 3.5.2) where it stands for a count from the last one received up to the units sent
+-- a P(R) is valid where it stands for one, and is taken as that
 abbrev pub is_valid : ℕ → Windows → Bool
-is_valid pr w = nat_le (ahead pr w.acked) (w.sent - w.acked)
+is_valid pr w = is_some (count_of pr w.acked w.sent)
 
 abbrev pub acknowledged : ℕ → Windows → Windows
-acknowledged pr w = record w { acked = w.acked + ahead pr w.acked }
+acknowledged pr w = record w { acked = unwrap_or (count_of pr w.acked w.sent) w.acked }
 
 -- RSR with a cause here (Q.714, 3.7), the counts of both ends cleared, and the reset for the other end.
 abbrev pub resets : ℕ → Windowed → Windowed × Acted
@@ -51,7 +54,7 @@ abbrev pub is_used_up : Windowed → Bool
 is_used_up x = length x.windows.got - x.windows.told == x.head.credit
 
 abbrev pub wrong_number : Windowed → ℕ
-wrong_number x = if length x.windows.got == 0 then 0x05 else 0x02
+wrong_number x = if length x.windows.got == 0 then RESET_INCORRECT_FIRST_NUMBER else RESET_INCORRECT_SEND_NUMBER
 
 abbrev pub accepts_unit : Parameters → Windowed → Windowed × Acted
 accepts_unit m x = (
@@ -62,8 +65,8 @@ accepts_unit m x = (
 abbrev pub takes_data : Parameters → Windowed → Windowed × Acted
 takes_data m x =
     if not (is_next m x) then resets (wrong_number x) x
-    else if is_used_up x then resets 0x04 x
-    else if not (is_valid m.pr x.windows) then resets 0x03 x
+    else if is_used_up x then resets RESET_OUT_OF_WINDOW x
+    else if not (is_valid m.pr x.windows) then resets RESET_INCORRECT_RECEIVE_NUMBER x
     else accepts_unit m x
 
 -- AK (Q.714, 3.5.2): its P(R) is taken, and its credit.
@@ -71,12 +74,12 @@ abbrev pub takes_acknowledgement : Parameters → Windowed → Windowed × Acted
 takes_acknowledgement m x =
     if is_valid m.pr x.windows
     then (record x { windows = record (acknowledged m.pr x.windows) { credit = min (unwrap_or m.credit 0) GREATEST_CREDIT } }, no_effect)
-    else resets 0x03 x
+    else resets RESET_INCORRECT_RECEIVE_NUMBER x
 
 -- ED (Q.714, 3.6): one whose EA is owed yet is an error.
 abbrev pub takes_expedited : Parameters → Windowed → Windowed × Acted
 takes_expedited m x =
-    if x.windows.owed then resets 0x06 x
+    if x.windows.owed then resets RESET_REMOTE_PROCEDURE_ERROR x
     else (record x { windows = record x.windows { owed = true } }, gives_then [] (hand.Expedited m.data_octets ∷ []))
 
 -- Expedited data leaves, and its EA is awaited (Q.714, 3.6).

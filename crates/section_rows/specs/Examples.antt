@@ -12,8 +12,7 @@ use Rattle.gtt_table.specs.declared.row.Row.{Row}
 use Rattle.plant_core.specs.declared.terms.Ticks.{Ticks}
 use Rattle.plant_core.specs.declared.answer.Answer.{Answer}
 use Rattle.plant_core.specs.Plant.{RoutingData, start_of}
-use Rattle.plant_core.specs.Routing.{route_of}
-use Rattle.plant_core.specs.Asking.{Question}
+use Rattle.plant_core.specs.Asking.{Question, answer_to as answer_by}
 use Rattle.section_model.specs.Ends.{Connection}
 use Rattle.section_model.specs.Step.{connection_step}
 use Rattle.section_model.specs.Opening.{Opened, wish_of, question_of, slots_needed, opened}
@@ -61,7 +60,7 @@ quick_lane = lane_with 7 (record ticks { freeze = 1 })
 
 -- an event with what routing answers to it, if it asks
 abbrev pub answer_to : Option Question → Option Answer
-answer_to = option_map (λ q. route_of routing q.called q.hop q.origin)
+answer_to = option_map (answer_by routing)
 
 abbrev pub routed : Lane → Event → Event × Option Answer
 routed lane event = (event, answer_to (question_of (wish_of lane.terms event)))

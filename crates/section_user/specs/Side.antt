@@ -1,10 +1,12 @@
 -- A user's end as the code keeps it: without the counts of class 3.
 use Rattle.std.specs.Prelude.{◌≡◌, ℕ, ◌+◌, ◌*◌, ◌==◌, nat_lt, false, List, [], ◌∷◌, ◌++◌, take, drop, if◌then◌else◌, None}
+use Rattle.relay_base.specs.declared.causes.TheConstants.{RELEASE_ACCESS_CONGESTION, RESET_END_USER}
 use Rattle.relay_base.specs.declared.words.Event.{Event}
 use Rattle.relay_base.specs.declared.words.Event.TheVariants.{Message as Arrived, Asked as Requested, Tick}
 use Rattle.relay_base.specs.declared.words.Tell.TheVariants as tell
 use Rattle.section_model.specs.declared.cell.Cell.{Cell}
 use Rattle.section_model.specs.declared.input.Input.{Input}
+use Rattle.section_model.specs.declared.limits.TheConstants.{LONGEST_UNIT}
 use Rattle.section_model.specs.declared.input.Input.TheVariants as input
 use Rattle.section_model.specs.declared.cell.UserState.TheVariants.{Ready, Renewing, Gone}
 use Rattle.section_model.specs.declared.hand.Unit.{Unit as DataUnit}
@@ -47,19 +49,19 @@ agreed_credit class credit most = if class == 3 then granted credit most else 0
 
 -- the unit at place k of a text
 abbrev pub unit_at : List ℕ → ℕ → DataUnit
-unit_at body k = record { more = nat_lt (k + 1) (unit_count body); body = take 255 (drop (255 * k) body) }
+unit_at body k = record { more = nat_lt (k + 1) (unit_count body); body = take LONGEST_UNIT (drop (LONGEST_UNIT * k) body) }
 
 -- The acts that stand in the table of a user's end without a name.
 
 abbrev pub resets : User → User × Acted
-resets x = (record x { state = Renewing; text = []; got = []; passed = 0 }, gives_then [] (hand.Reset 0 ∷ []))
+resets x = (record x { state = Renewing; text = []; got = []; passed = 0 }, gives_then [] (hand.Reset RESET_END_USER ∷ []))
 
 abbrev pub reset_done : User → User × Acted
 reset_done x = (record x { state = Ready }, gives (output_to x (tell.ResetDone x.mine) ∷ []))
 
 -- a text that is too long, one of which more follows, and a whole one
 abbrev pub overruns : User → User × Acted
-overruns x = (record x { state = Gone }, record { first = hand.End 0x07 None None ∷ []; outs = output_to x (tell.Disc x.mine 0x07 None) ∷ []; then = [] })
+overruns x = (record x { state = Gone }, record { first = hand.End RELEASE_ACCESS_CONGESTION None None ∷ []; outs = output_to x (tell.Disc x.mine RELEASE_ACCESS_CONGESTION None) ∷ []; then = [] })
 
 abbrev pub continues : List ℕ → User → User × Acted
 continues body x = (record x { text = x.text ++ body }, gives_then [] (taken x 1 false))

@@ -6,6 +6,7 @@ ghost use Rattle.section_user.specs.Side.{ActsAs, KeepsEnd, agreed_credit, reset
 
 use crate::side::UserSide;
 use crate::units::{copied, given, units_of};
+use relay_base::causes::RESET_END_USER;
 use relay_base::{Memory, Octets, Outs, Request};
 use section_model::{Acted, Cell, Hand, HandList, UserState};
 use std::alloc::Global;
@@ -102,7 +103,7 @@ impl UserSide {
         ensures ok { IfOk result (λ done. ActsAs resets self.old self.new done) }
         ensures err { OnErr result (self.new ≡ self.old) }
     {
-        let done = Acted::handing(alloc, Hand::Reset { cause: 0 })?;
+        let done = Acted::handing(alloc, Hand::Reset { cause: RESET_END_USER })?;
         self.state = UserState::Renewing;
         self.text = Octets::new(alloc);
         Ok(done)

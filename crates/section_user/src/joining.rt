@@ -5,19 +5,15 @@ ghost use Rattle.section_user.specs.Side.{ActsAs, overruns, continues, completes
 
 use crate::side::UserSide;
 use crate::units::copied;
+use relay_base::causes::RELEASE_ACCESS_CONGESTION;
 use relay_base::{Memory, Octets, Outs, Tell};
+use section_model::limits::LONGEST_TEXT;
 use section_model::{Acted, Hand, HandList, UserState};
 use std::alloc::Global;
 
-/// The most octets of a text that is put together.
-const LONGEST_TEXT: usize = 8_192;
-
-/// The cause of a connection that ends for a text that is too long (Q.713, release cause: access congestion).
-const TOO_LONG: u8 = 0x07;
-
 /// Whether a text with these octets more is too long.
 fn is_too_long(text: &Octets, body: &Octets) -> bool
-    ensures { result ≡ nat_lt 8192 (length (text.now ++ body.now)) }
+    ensures { result ≡ nat_lt LONGEST_TEXT (length (text.now ++ body.now)) }
 {
     LONGEST_TEXT < text.len().saturating_add(body.len())
 }
@@ -30,12 +26,12 @@ impl UserSide {
     {
         let tell = Tell::Disc {
             mine: self.mine,
-            cause: TOO_LONG,
+            cause: RELEASE_ACCESS_CONGESTION,
             body: None,
         };
         let mut done = Acted::giving(alloc, self.told(tell))?;
         done.first.push(Hand::End {
-            cause: TOO_LONG,
+            cause: RELEASE_ACCESS_CONGESTION,
             body: None,
             importance: None,
         })?;

@@ -4,11 +4,9 @@ ghost use Rattle.section_model.specs.UserEnd.{given, handed, unit_count, units_o
 ghost use Rattle.section_user.specs.Side.{unit_at};
 
 use relay_base::{BoxedOctets, Memory, Octets};
+use section_model::limits::LONGEST_UNIT;
 use section_model::{Hand, HandList};
 use std::alloc::Global;
-
-/// The most octets of data in a unit.
-const UNIT_SIZE: usize = 255;
 
 /// A copy of octets.
 pub fn copied(alloc: Global, octets: &Octets) -> Result<Octets, Memory>
@@ -41,7 +39,7 @@ pub fn given(alloc: Global, body: &Octets) -> Result<Option<Octets>, Memory>
 fn unit_count(body: &[u8]) -> usize
     ensures { result ≡ unit_count body.now }
 {
-    body.len().div_ceil(UNIT_SIZE)
+    body.len().div_ceil(LONGEST_UNIT)
 }
 
 /// At most this many octets from a place on.
@@ -60,11 +58,11 @@ fn unit_at(alloc: Global, body: &[u8], place: usize) -> Result<Hand, Memory>
 {
     Ok(Hand::Unit {
         more: place + 1 < unit_count(body),
-        body: Octets::from_slice(alloc, part(body, UNIT_SIZE * place, UNIT_SIZE))?,
+        body: Octets::from_slice(alloc, part(body, LONGEST_UNIT * place, LONGEST_UNIT))?,
     })
 }
 
-/// A text in units of 255 octets, the last with the rest.
+/// A text in units as long as they may be, the last with the rest.
 pub fn units_of(alloc: Global, body: &[u8]) -> Result<HandList, Memory>
     ensures { IfOk result (λ hands. hands ≡ map handed (units_of body.now)) }
 {
