@@ -252,6 +252,11 @@ none_on_way taker giver k = (
       (f.0, all_given taker (got_at giver) f.2.before (passed_at giver) f.2.given f.2.flows, f.1),
 )
 
+-- a unit more has come, and waits on the section
+one_more_flows : (waits before : List DataUnit) (u : DataUnit) (passed sent : ℕ) → (sent ≡ passed) × (passed ≤ length before) × (waits ≡ drop passed before)
+    → (sent ≡ passed) × (passed ≤ length (before ++ u ∷ [])) × (waits ++ u ∷ [] ≡ drop passed (before ++ u ∷ []))
+one_more_flows waits before u passed sent f = (f.0, one_more_came before u passed f.1, one_more_waits waits before u passed f.1 f.2)
+
 unfoldable pub EndsOnWay : List DataUnit → ℕ → Ticks → Section → End → Section × Acted → Type 0
 EndsOnWay units n ticks old giver done = let c = (exchange (suc n) ticks (timed ticks old done) giver).0 in OnWay units c.this c.that
 
@@ -260,43 +265,11 @@ section_takes_unit : (n : ℕ) (ticks : Ticks) (u : DataUnit) (units : List Data
 unfolding EndsOnWay exchange section_takes windowed_takes line_takes section_row
 section_takes_unit n ticks u units Up y giver k =
     either (EndsOnWay units n ticks (at Up y) giver) (y.head.class == 3) _ _
-    (λ is_three. (
-      k.0,
-      k.1,
-      k.2,
-      k.3,
-      k.4,
-      λ three. let f = k.5 three in let w = f.2 in (
-        f.0,
-        f.1,
-        record {
-          before = w.before ++ u ∷ [];
-          given = one_more_given (got_at giver) w.before units u w.given;
-          flows = (w.flows.0, w.flows.1, (w.flows.2.0, one_more_came w.before u (passed_at giver) w.flows.2.1, one_more_waits y.windows.waits w.before u (passed_at giver) w.flows.2.1 w.flows.2.2));
-        },
-      ),
-      tt,
-    ))
+    (λ is_three. (k.0, k.1, k.2, k.3, k.4, λ three. let f = k.5 three in let w = f.2 in (f.0, f.1, record { before = w.before ++ u ∷ []; given = one_more_given (got_at giver) w.before units u w.given; flows = (w.flows.0, w.flows.1, one_more_flows y.windows.waits w.before u (passed_at giver) y.windows.sent w.flows.2) }), tt))
     (λ other. (k.0, k.1, k.2, k.3, k.4, λ three. absurd (eqb-false _ _ other three), tt))
 section_takes_unit n ticks u units Resetting y giver k =
     either (EndsOnWay units n ticks (at Resetting y) giver) (y.head.class == 3) _ _
-    (λ is_three. (
-      k.0,
-      k.1,
-      k.2,
-      k.3,
-      k.4,
-      λ three. let f = k.5 three in let w = f.2 in (
-        f.0,
-        f.1,
-        record {
-          before = w.before ++ u ∷ [];
-          given = one_more_given (got_at giver) w.before units u w.given;
-          flows = (w.flows.0, w.flows.1, (w.flows.2.0, one_more_came w.before u (passed_at giver) w.flows.2.1, one_more_waits y.windows.waits w.before u (passed_at giver) w.flows.2.1 w.flows.2.2));
-        },
-      ),
-      tt,
-    ))
+    (λ is_three. (k.0, k.1, k.2, k.3, k.4, λ three. let f = k.5 three in let w = f.2 in (f.0, f.1, record { before = w.before ++ u ∷ []; given = one_more_given (got_at giver) w.before units u w.given; flows = (w.flows.0, w.flows.1, one_more_flows y.windows.waits w.before u (passed_at giver) y.windows.sent w.flows.2) }), tt))
     (λ other. (k.0, k.1, k.2, k.3, k.4, λ three. absurd (eqb-false _ _ other three), tt))
 section_takes_unit n ticks u units _ y giver k = absurd k.0
 

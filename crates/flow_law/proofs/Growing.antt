@@ -18,39 +18,39 @@ use Rattle.section_model.specs.Parameters.{Parameters}
 use Rattle.section_model.specs.Ends.{End, wire, owner, Line, Section, User, Windows, is_up, is_connected}
 use Rattle.section_model.specs.Line.{line_hears, line_fires, line_takes, passes_accept, passes_refuse, passes_end, keeps_end, passes_unit}
 use Rattle.section_model.specs.Windowed.{Windowed, windowed_hears, windowed_fires, windowed_takes, resets, is_next, is_used_up, wrong_number, takes_data, sends_expedited, queues_unit, passes_expedited, passes_reset, counts_left, is_valid}
-use Rattle.section_model.specs.UserEnd.{user_takes, user_asks, units_of, tells_confirm as user_confirmed, tells_disconnect, collects, tells_expedited, tells_reset, user_counts_left as user_left, accepts, refuses, sends, sends_expedited as user_expedites, disconnects}
+use Rattle.section_model.specs.UserEnd.{user_takes, user_asks, units_of, tells_confirm as user_confirmed, tells_disconnect, collects, tells_expedited, tells_reset, user_counts_left as user_left, accepts, refuses, sends, expedites as user_expedites, disconnects}
 use Rattle.section_model.specs.Acting.{by_windows, by_line, in_windows, windows_after, section_hears, section_fires, section_takes, section_takes_by, user_takes_by, end_takes}
 use Rattle.section_model.specs.Laws.{hands_of}
 use Rattle.flow_law.specs.InStep.{passed_at, got_at}
 use Rattle.flow_law.proofs.Flowing.{either, IsSection}
 
 -- So many left, of these units; then so many, of those: they go on, or begin anew.
-pub data Growth (passes_unit : ℕ) (got : List DataUnit) (passed' : ℕ) (got' : List DataUnit) : Type 0 where
-  begins_anew : passed' ≡ 0 → Growth passes_unit got passed' got'
-  goes_on : (more : List DataUnit) → passed' ≡ passes_unit → got' ≡ got ++ more → Growth passes_unit got passed' got'
+pub data Growth (passed : ℕ) (got : List DataUnit) (passed' : ℕ) (got' : List DataUnit) : Type 0 where
+  begins_anew : passed' ≡ 0 → Growth passed got passed' got'
+  goes_on : (more : List DataUnit) → passed' ≡ passed → got' ≡ got ++ more → Growth passed got passed' got'
 
 abbrev pub GrowsBy : ℕ → List DataUnit → ℕ → List DataUnit → Type 0
-GrowsBy passes_unit got passed' got' = passes_unit ≤ length got → (passed' ≤ length got') × Growth passes_unit got passed' got'
+GrowsBy passed got passed' got' = passed ≤ length got → (passed' ≤ length got') × Growth passed got passed' got'
 
 abbrev pub GrowsAt : End → End → Type 0
 GrowsAt e e' = GrowsBy (passed_at e) (got_at e) (passed_at e') (got_at e')
 
-pub same_grows : (passes_unit : ℕ) (got : List DataUnit) → GrowsBy passes_unit got passes_unit got
-same_grows passes_unit got = λ within. (within, goes_on [] refl (sym (append-nil got)))
+pub same_grows : (passed : ℕ) (got : List DataUnit) → GrowsBy passed got passed got
+same_grows passed got = λ within. (within, goes_on [] refl (sym (append-nil got)))
 
-cleared_grows : (passes_unit : ℕ) (got : List DataUnit) → GrowsBy passes_unit got 0 []
-cleared_grows passes_unit got = λ within. (zero-le, begins_anew refl)
+cleared_grows : (passed : ℕ) (got : List DataUnit) → GrowsBy passed got 0 []
+cleared_grows passed got = λ within. (zero-le, begins_anew refl)
 
-more_grows : (passes_unit : ℕ) (got more : List DataUnit) → GrowsBy passes_unit got passes_unit (got ++ more)
-more_grows passes_unit got more = λ within. (rw (length-append got more) (omega (arith, within)), goes_on more refl refl)
+more_grows : (passed : ℕ) (got more : List DataUnit) → GrowsBy passed got passed (got ++ more)
+more_grows passed got more = λ within. (rw (length-append got more) (omega (arith, within)), goes_on more refl refl)
 
-no_more_grows : (passes_unit : ℕ) (got : List DataUnit) (units : ℕ) → units ≡ 0 → GrowsBy passes_unit got (passes_unit + units) got
-no_more_grows passes_unit got units none = rw (none, add-zero passes_unit) (same_grows passes_unit got)
+no_more_grows : (passed : ℕ) (got : List DataUnit) (units : ℕ) → units ≡ 0 → GrowsBy passed got (passed + units) got
+no_more_grows passed got units none = rw (none, add-zero passed) (same_grows passed got)
 
-least_grows : (passes_unit : ℕ) (got : List DataUnit) (units : ℕ) → units ≡ 0 → GrowsBy passes_unit got (min (passes_unit + units) (length got)) got
-least_grows passes_unit got units none = λ within.
-    let e : min (passes_unit + units) (length got) ≡ passed = omega (arith, none, within) in
-    rw e (same_grows passes_unit got within)
+least_grows : (passed : ℕ) (got : List DataUnit) (units : ℕ) → units ≡ 0 → GrowsBy passed got (min (passed + units) (length got)) got
+least_grows passed got units none = λ within.
+    let e : min (passed + units) (length got) ≡ passed = omega (arith, none, within) in
+    rw e (same_grows passed got within)
 
 pub then_grows : (p q r : ℕ) (a b c : List DataUnit) → GrowsBy p a q b → GrowsBy q b r c → GrowsBy p a r c
 then_grows p q r a b c f g = λ within. let one = f within in let two = g one.0 in (two.0, joined one.1 two.1)

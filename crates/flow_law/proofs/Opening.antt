@@ -73,8 +73,10 @@ unfolding opened_by_cr OpensInStep
 by_cr_kept terms w (Refused cause local) references fit = tt
 by_cr_kept terms w (Local ssn) [] fit = tt
 by_cr_kept terms w (Local ssn) (mine ∷ references) fit = (to_user terms w ssn mine fit, refl, refl)
-by_cr_kept terms w (Forward point rewrite hop) [] fit = tt
-by_cr_kept terms w (Forward point rewrite hop) (mine ∷ []) fit = tt
+by_cr_kept terms w (Forward point rewrite hop) [] fit =
+    either (λ (o : Opened). OpensInStep o.connection) (fits w rewrite hop) _ _ (λ _. tt) (λ _. tt)
+by_cr_kept terms w (Forward point rewrite hop) (mine ∷ []) fit =
+    either (λ (o : Opened). OpensInStep o.connection) (fits w rewrite hop) _ _ (λ _. tt) (λ _. tt)
 by_cr_kept terms w (Forward point rewrite hop) (mine ∷ next ∷ references) fit =
     either (λ (o : Opened). OpensInStep o.connection) (fits w rewrite hop) _ _ (λ _. (onward_to terms w point mine next fit, refl, refl)) (λ _. tt)
 

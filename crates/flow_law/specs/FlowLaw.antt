@@ -1,4 +1,4 @@
--- The law of the windows of class 3 (Q.714, flow control): what holds at every moment of a connection, whatever it hears.
+-- The law of the windows of class 3 (Q.714, 3.5.2): what holds at every moment of a connection, whatever it hears.
 --
 -- Let X and Y be its ends, where section Y is of class 3. The units that came in on X since the counts were last cleared are got(X), and
 -- passed(X) of them left on Y.
@@ -18,6 +18,7 @@ use Rattle.relay_base.specs.declared.words.Output.{Output}
 use Rattle.relay_base.specs.declared.words.Output.TheVariants.{Lost as Dropped}
 use Rattle.relay_base.specs.declared.words.Lost.TheVariants as lost
 use Rattle.q713_codec.specs.declared.message.Message.TheVariants.{Ed}
+use Rattle.section_model.specs.declared.limits.TheConstants.{GREATEST_CREDIT}
 use Rattle.section_model.specs.declared.cell.Cell.{Cell}
 use Rattle.section_model.specs.declared.cell.Cell.TheVariants as cell
 use Rattle.section_model.specs.declared.hand.Hand.{Hand}
@@ -44,7 +45,7 @@ FlowKept c = EndKept c.this c.that × EndKept c.that c.this
 abbrev pub FlowLaw : Type 0
 FlowLaw =
     (terms : Terms) (event : Event) (answer : Option Answer) (references : List ℕ) (c : Connection) (events : List Event)
-    → terms.credit ≤ 127
+    → terms.credit ≤ GREATEST_CREDIT
     → (opened terms (wish_of terms event) answer references).connection ≡ Some c
     → FlowKept (follow terms.ticks c (heard terms.ticks c events))
 
@@ -52,7 +53,7 @@ FlowLaw =
 abbrev pub OpeningKeeps : Type 0
 OpeningKeeps =
     (terms : Terms) (event : Event) (answer : Option Answer) (references : List ℕ) (c : Connection)
-    → terms.credit ≤ 127
+    → terms.credit ≤ GREATEST_CREDIT
     → (opened terms (wish_of terms event) answer references).connection ≡ Some c
     → IsInStep c
 
@@ -62,7 +63,7 @@ StepKeeps = (ticks : Ticks) (c : Connection) (event : Event) → IsInStep c → 
 -- What a section keeps alone at each act, whatever the other end does: a message, a timer, an effect of the other end, and the two parts
 -- of what follows each event.
 abbrev pub WindowsAreKept : Windowed → Type 0
-WindowsAreKept x = (x.head.credit ≤ 127) × InCredit x.head.credit x.windows × InWindow x.windows
+WindowsAreKept x = (x.head.credit ≤ GREATEST_CREDIT) × InCredit x.head.credit x.windows × InWindow x.windows
 
 pub record ActsKeep : Type 0 where
   pub hears : (c : Cell) (m : Parameters) (x : Windowed) → WindowsAreKept x → WindowsAreKept (windowed_hears c m x).0

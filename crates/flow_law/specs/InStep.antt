@@ -1,5 +1,6 @@
--- What the two ends of a connection keep, from its opening on (Q.714, flow control).
+-- What keeps the two ends of a connection in step, from its opening on (Q.714, 3.5.2).
 use Rattle.std.specs.Prelude.{◌≡◌, ℕ, ◌+◌, ◌≤◌, List, [], length, drop}
+use Rattle.section_model.specs.declared.limits.TheConstants.{GREATEST_CREDIT}
 use Rattle.section_model.specs.declared.cell.SectionState.{SectionState}
 use Rattle.section_model.specs.declared.cell.SectionState.TheVariants.{Asked, Asking, Waning, Up, Resetting, Ending, Gone}
 use Rattle.section_model.specs.declared.cell.UserState.{UserState}
@@ -31,7 +32,7 @@ InCredit credit w = (w.told ≤ w.passed) × (w.passed ≤ length w.got) × (len
 
 -- What was sent: the last P(R) received is no more than that, and that no more than 127 beyond it.
 abbrev pub InWindow : Windows → Type 0
-InWindow w = (w.acked ≤ w.sent) × (w.sent ≤ w.acked + 127) × (w.credit ≤ 127)
+InWindow w = (w.acked ≤ w.sent) × (w.sent ≤ w.acked + GREATEST_CREDIT) × (w.credit ≤ GREATEST_CREDIT)
 
 -- What came in at the other end: so many of its units were sent as left there, and the rest waits.
 abbrev pub PassesOn : Windows → ℕ → List DataUnit → Type 0
@@ -106,7 +107,7 @@ abbrev pub AreInStep : End → End → Type 0
 AreInStep this that =
     Meets (stage_at this) (stage_at that)
     × (class_at this ≡ class_at that)
-    × ((credit_at this ≤ 127) × (credit_at that ≤ 127))
+    × ((credit_at this ≤ GREATEST_CREDIT) × (credit_at that ≤ GREATEST_CREDIT))
     × (IsFresh this × IsFresh that)
     × (class_at this ≡ 3 → ResetIsAwaited this that × Flows this that × Flows that this)
 

@@ -1,9 +1,10 @@
--- What was sent as DT2 on each end of a connection since the counts were last cleared (Q.714, flow control).
+-- What was sent as DT2 on each end of a connection since the counts were last cleared (Q.714, 3.5.2).
 use Rattle.std.specs.Prelude.{◌≡◌, ℕ, ◌==◌, ◌&&◌, ◌≤◌, List, [], ◌∷◌, ◌++◌, length, take, if◌then◌else◌, Option, Some}
 use Rattle.relay_base.specs.declared.words.Event.{Event}
 use Rattle.plant_core.specs.declared.answer.Answer.{Answer}
 use Rattle.plant_core.specs.declared.terms.Terms.{Terms}
 use Rattle.plant_core.specs.declared.terms.Ticks.{Ticks}
+use Rattle.section_model.specs.declared.limits.TheConstants.{GREATEST_CREDIT}
 use Rattle.section_model.specs.declared.hand.Unit.{Unit as DataUnit}
 use Rattle.section_model.specs.Ends.{End, wire, owner, Connection, is_up}
 use Rattle.section_model.specs.Windowed.{may_leave, leaves}
@@ -57,7 +58,7 @@ AllSentInOrder sent c = AreSentInOrder sent.this c.this c.that × AreSentInOrder
 abbrev pub OrderLaw : Type 0
 OrderLaw =
     (terms : Terms) (event : Event) (answer : Option Answer) (references : List ℕ) (c : Connection) (events : List Event)
-    → terms.credit ≤ 127
+    → terms.credit ≤ GREATEST_CREDIT
     → (opened terms (wish_of terms event) answer references).connection ≡ Some c
     → (let hears = heard terms.ticks c events in
     AllSentInOrder (sent_along terms.ticks c hears (record { this = []; that = [] })) (follow terms.ticks c hears))

@@ -1,4 +1,4 @@
-//! The law of the windows of class 3 (Q.714, flow control), over whole connections, as the contracts of functions without a body.
+//! The law of the windows of class 3 (Q.714, 3.5.2), over whole connections, as the contracts of functions without a body.
 #![tactic(auto)]
 
 mod laws;

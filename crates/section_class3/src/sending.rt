@@ -22,7 +22,8 @@ pub fn numbered(
 ) -> Result<Output, Memory>
     requires body { IsWithin 1 255 unit.now.body }
     requires numbers { (ps < 128) × (pr < 128) }
-    ensures { IfOk result (λ output. output ≡ numbered_output (section_of wire.now) ps pr unit.now) }
+    ensures { IfOk result (λ output.
+        output ≡ numbered_output (section_of wire.now) ps pr unit.now) }
 {
     let message = Message::Dt2 {
         dlr: wire.other,

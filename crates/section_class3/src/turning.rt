@@ -29,7 +29,7 @@ fn send_units(alloc: Global, wire: &WireHead, flow: &mut Flow) -> Result<Outs, M
 }
 
 /// What the other end is told of units and of expedited data that left.
-fn told(alloc: Global, units: u8, expedited: bool) -> Result<HandList, Memory>
+fn hands_left(alloc: Global, units: u8, expedited: bool) -> Result<HandList, Memory>
     ensures { IfOk result (λ hands.
         hands ≡ (if expedited || nat_lt 0 units then hand.Left units expedited ∷ [] else [])) }
 {
@@ -84,7 +84,7 @@ impl Windows {
         let units = flow.sendable();
         let mut outs = send_units(alloc, wire, &mut flow)?;
         let expedited = send_expedited(alloc, wire, self.ready_expedited(), &mut outs)?;
-        let then = told(alloc, units, expedited)?;
+        let then = hands_left(alloc, units, expedited)?;
         self.flow = flow;
         if expedited {
             self.waiting = None;

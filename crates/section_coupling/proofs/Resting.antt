@@ -152,8 +152,10 @@ unfolding opened_by_cr RestsIfAny
 by_cr_rests terms w (Refused cause local) references = tt
 by_cr_rests terms w (Local ssn) [] = tt
 by_cr_rests terms w (Local ssn) (mine ∷ references) = (λ up. absurd (false≢true up), tt)
-by_cr_rests terms w (Forward point rewrite hop) [] = tt
-by_cr_rests terms w (Forward point rewrite hop) (mine ∷ []) = tt
+by_cr_rests terms w (Forward point rewrite hop) [] =
+    either (λ (o : Opened). RestsIfAny o.connection) (fits w rewrite hop) _ _ (λ _. tt) (λ _. tt)
+by_cr_rests terms w (Forward point rewrite hop) (mine ∷ []) =
+    either (λ (o : Opened). RestsIfAny o.connection) (fits w rewrite hop) _ _ (λ _. tt) (λ _. tt)
 by_cr_rests terms w (Forward point rewrite hop) (mine ∷ next ∷ references) =
     either (λ (o : Opened). RestsIfAny o.connection) (fits w rewrite hop) _ _
     (λ _. (λ up. absurd (false≢true up), λ up. absurd (false≢true up))) (λ _. tt)

@@ -3,7 +3,6 @@ pub mod Sound
 pub mod Acts
 pub mod Arrived
 pub mod Openings
-pub mod Strays
 pub mod Resting
 pub mod Duos
 pub mod Sizes

@@ -1,14 +1,16 @@
 //! What is answered where no connection hears (Q.714, messages for an unassigned local reference).
 ghost use Rattle.std.specs.Prelude.{◌≡◌, ◌++◌, IfOk, OnOk, OnErr};
 ghost use Rattle.relay_base.specs.declared.words.Output.TheVariants.{Sent};
-ghost use Rattle.q713_codec.specs.Reading.{seen};
 ghost use Rattle.q713_codec.specs.Writing.{spelling_of, InRange};
 ghost use Rattle.section_model.specs.Step.{is_in_range, named};
-ghost use Rattle.section_model.specs.Lane.{stray_message, stray_answer};
-ghost use Rattle.section_coupling.specs.Strays.{answered};
+ghost use Rattle.section_model.specs.Lane.{stray_output, stray_answer};
+ghost use Rattle.section_model.specs.Views.{seen_parameters};
 
-use q713_codec::{Message, View, read, write};
+use q713_codec::{Message, write};
+use relay_base::causes::ERROR_UNASSIGNED_REFERENCE;
 use relay_base::{Event, Lost, Memory, Output, Outs, Pc, Reason, Ref24, Request, Sls, Tell};
+use section_model::limits::{GREATEST_CREDIT, LONGEST_DATA, LONGEST_EXPEDITED, LONGEST_TEXT};
+use section_model::{ArrivalView, Occasion, arrival_in};
 use std::alloc::Global;
 
 /// The reference that a request names; None where it names none.
@@ -37,10 +39,10 @@ pub fn is_in_range(request: &Request) -> bool
             credit,
             body,
             ..
-        } => (*class == 2 || *class == 3) && *credit <= 127 && body.len() <= 128,
-        Request::Refuse { body, .. } | Request::Disc { body, .. } => body.len() <= 128,
-        Request::Send { body, .. } => 0 < body.len() && body.len() <= 8_192,
-        Request::Expedite { body, .. } => 0 < body.len() && body.len() <= 32,
+        } => (*class == 2 || *class == 3) && *credit <= GREATEST_CREDIT && body.len() <= LONGEST_DATA,
+        Request::Refuse { body, .. } | Request::Disc { body, .. } => body.len() <= LONGEST_DATA,
+        Request::Send { body, .. } => 0 < body.len() && body.len() <= LONGEST_TEXT,
+        Request::Expedite { body, .. } => 0 < body.len() && body.len() <= LONGEST_EXPEDITED,
         Request::Reset { .. } => true,
         Request::Unit { .. } | Request::Conn { .. } | Request::Coord | Request::Grant { .. } =>
             false,
@@ -56,29 +58,33 @@ pub fn sent(alloc: Global, point: Pc, sls: Sls, message: Message) -> Result<Outp
     Ok(Output::Sent { point, sls, bytes })
 }
 
-/// What is answered to a message that no connection hears.
-#[tactic(auto, unfolding(section_model::specs::Lane::stray_message))]
-fn answer(alloc: Global, point: Pc, sls: Sls, view: &View<'_>) -> Result<Option<Output>, Memory>
-    ensures { IfOk result (λ output. answered output ≡ stray_message point sls (seen view.now)) }
+/// What is answered to a message for a connection that no connection hears.
+fn answer(
+    alloc: Global,
+    point: Pc,
+    sls: Sls,
+    arrival: &ArrivalView<'_>,
+) -> Result<Output, Memory>
+    ensures { IfOk result (λ output. output ≡
+        stray_output point sls arrival.now.occasion (seen_parameters arrival.now.parameters)) }
 {
-    match *view {
-        View::Cc { slr, .. } | View::Rsr { slr, .. } | View::It { slr, .. } => {
-            let error = Message::Err { dlr: slr, cause: 0 };
-            Ok(Some(sent(alloc, point, sls, error)?))
+    let message = &arrival.parameters;
+    match arrival.occasion {
+        Occasion::Cc | Occasion::Rsr | Occasion::It => {
+            let error = Message::Err {
+                dlr: message.slr,
+                cause: ERROR_UNASSIGNED_REFERENCE,
+            };
+            sent(alloc, point, sls, error)
         }
-        View::Rlsd { dlr, slr, .. } => {
-            let complete = Message::Rlc { dlr: slr, slr: dlr };
-            Ok(Some(sent(alloc, point, sls, complete)?))
+        Occasion::Rlsd => {
+            let complete = Message::Rlc {
+                dlr: message.slr,
+                slr: message.dlr,
+            };
+            sent(alloc, point, sls, complete)
         }
-        View::Cref { .. } | View::Rlc { .. } | View::Rsc { .. } | View::Err { .. } => {
-            Ok(Some(Output::Lost(Lost::Stray)))
-        }
-        View::Dt1 { .. } | View::Dt2 { .. } | View::Ak { .. } => {
-            Ok(Some(Output::Lost(Lost::Stray)))
-        }
-        View::Ed { .. } | View::Ea { .. } => Ok(Some(Output::Lost(Lost::Stray))),
-        View::Cr { .. } | View::Udt { .. } | View::Udts { .. } => Ok(None),
-        View::Xudt { .. } | View::Xudts { .. } | View::Ludt { .. } | View::Ludts { .. } => Ok(None),
+        _ => Ok(Output::Lost(Lost::Stray)),
     }
 }
 
@@ -90,15 +96,10 @@ pub fn stray(alloc: Global, event: &Event, outs: &mut Outs) -> Result<(), Memory
     ensures err { OnErr result (outs.new ≡ outs.old) }
 {
     match event {
-        Event::Message { opc, sls, bytes } => {
-            let Ok(view) = read(bytes.as_slice()) else {
-                return Ok(());
-            };
-            let Some(output) = answer(alloc, *opc, *sls, &view)? else {
-                return Ok(());
-            };
-            outs.push(output)
-        }
+        Event::Message { opc, sls, bytes } => match arrival_in(bytes.as_slice()) {
+            Some(arrival) => outs.push(answer(alloc, *opc, *sls, &arrival)?),
+            None => Ok(()),
+        },
         Event::Asked { ssn, request } => {
             if !is_in_range(request) {
                 return Ok(());

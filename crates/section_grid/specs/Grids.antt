@@ -11,6 +11,7 @@ use Rattle.section_model.specs.declared.cell.Occasion.TheVariants as on
 use Rattle.section_model.specs.declared.cell.UserOccasion.{UserOccasion}
 use Rattle.section_model.specs.declared.cell.UserOccasion.TheVariants as by
 use Rattle.section_model.specs.Table.{section_cell, user_cell}
+use Rattle.section_grid.specs.Rows.{user_states}
 
 -- The events of the tables by their numbers from 0, in the order in which the tables name them, and the states of a user's end.
 abbrev pub occasions : List Occasion
@@ -20,7 +21,7 @@ occasions =
     ∷ on.AcceptComes ∷ on.RefuseComes ∷ on.EndComes ∷ on.UnitComes ∷ on.ExpeditedComes ∷ on.ResetComes ∷ on.DoneComes ∷ []
 
 abbrev pub user_state_numbered : ℕ → UserState
-user_state_numbered n = slice_index_or (end.Offered ∷ end.Calling ∷ end.Ready ∷ end.Renewing ∷ end.Gone ∷ []) n end.Gone
+user_state_numbered n = slice_index_or user_states n end.Gone
 
 abbrev pub user_occasions : List UserOccasion
 user_occasions =

@@ -1,5 +1,6 @@
-//! The tables of states and events of a connection (Q.714): what a connection section, and a user's end, does with each event in each
-//! of its states.
+//! The tables of states and events of a connection (Q.714, Annex B): what a connection section, and a user's end, does with each event in
+//! each of its states. The acts take a cell by `section_cell` and `user_cell`; `Grid`, `wire_grid` and `user_grid` are the same tables by
+//! numbers, for those who read them from outside.
 #![tactic(auto)]
 
 mod grid;

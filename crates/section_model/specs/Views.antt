@@ -1,5 +1,5 @@
 -- What a head of a section, and the views of a message for a connection, stand for.
-use Rattle.std.specs.Prelude.{ℕ, [], ◌∷◌, slice_index_or}
+use Rattle.std.specs.Prelude.{ℕ, List, [], ◌∷◌, slice_index_or}
 use Rattle.std.specs.Option.{option_map}
 use Rattle.section_model.specs.declared.cell.SectionState.{SectionState}
 use Rattle.section_model.specs.declared.cell.SectionState.TheVariants as state
@@ -29,8 +29,11 @@ abbrev pub seen_arrival : ArrivalView → Arrival
 seen_arrival a = record { occasion = a.occasion; parameters = seen_parameters a.parameters }
 
 -- the states by their numbers from 0, in the order in which the table names them
+abbrev pub section_states : List SectionState
+section_states = state.Asked ∷ state.Asking ∷ state.Waning ∷ state.Up ∷ state.Resetting ∷ state.Ending ∷ state.Gone ∷ []
+
 abbrev pub state_numbered : ℕ → SectionState
-state_numbered n = slice_index_or (state.Asked ∷ state.Asking ∷ state.Waning ∷ state.Up ∷ state.Resetting ∷ state.Ending ∷ state.Gone ∷ []) n state.Gone
+state_numbered n = slice_index_or section_states n state.Gone
 
 -- a section as its head says
 abbrev pub section_of : WireHead → SectionHead

@@ -33,20 +33,7 @@ abbrev pub routing : RoutingData
 routing = record (start_of 100 (8 ∷ [])) { rows = row ∷ [] }
 
 abbrev pub ticks : Ticks
-ticks = record {
-  connect = 90;
-  ias = 420;
-  iar = 900;
-  rel = 15;
-  repeat = 15;
-  int = 60;
-  reset = 15;
-  reassembly = 15;
-  freeze = 60;
-  status = 30;
-  status_max = 600;
-  coord = 90;
-}
+ticks = record { connect = 90; ias = 420; iar = 900; rel = 15; repeat = 15; int = 60; reset = 15; reassembly = 15; freeze = 60; status = 30; status_max = 600; coord = 90 }
 
 -- its lane 0, by the greatest credit and the ticks of the timers; one with the defaults; and one that freezes references for a tick alone
 abbrev pub lane_with : ℕ → Ticks → Lane

@@ -18,6 +18,7 @@ pub fn long_text()
 /// A text of 8,193 octets ends the connection.
 #[tactic(auto, unfolding(crate::specs::Played::played))]
 pub fn too_long_text()
-    ensures { drop 2 (played first_lane (local ++ replicate 32 (data_of 1 255) ++ data_of 0 33 ∷ []))
+    ensures { drop 2 (played first_lane
+        (local ++ replicate 32 (data_of 1 255) ++ data_of 0 33 ∷ []))
         ≡ replicate 32 [] ++ (sent 200 3 "040100001000000700" ∷ told 8 (tell.Disc 16 7 None) ∷ []) ∷ [] }
 {}

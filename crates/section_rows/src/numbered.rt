@@ -40,7 +40,8 @@ pub fn invalid_receive_number()
 /// A reset that is not answered ends both sections.
 #[tactic(auto, unfolding(crate::specs::Played::played))]
 pub fn unanswered_reset()
-    ensures { drop 3 (played first_lane (relayed_numbered ++ arrives 200 4 "0d10000007000006" ∷ replicate 15 tick))
+    ensures { drop 3 (played first_lane
+        (relayed_numbered ++ arrives 200 4 "0d10000007000006" ∷ replicate 15 tick))
         ≡ [] ∷ replicate 14 [] ++ (sent 300 4 "040900002000000c00" ∷ sent 200 4 "040700001000000c00" ∷ []) ∷ [] }
 {}
 

@@ -26,7 +26,8 @@ pub fn user_refuses()
 /// A user's connection, which is confirmed by a CC whose optional part is a lone end octet.
 #[tactic(auto, unfolding(crate::specs::Played::played))]
 pub fn user_calls()
-    ensures { played first_lane (asks (request.Conn 7 2 0 (hex "43c8000a") []) ∷ arrives 200 7 "02100000550000020100" ∷ [])
+    ensures { played first_lane
+        (asks (request.Conn 7 2 0 (hex "43c8000a") []) ∷ arrives 200 7 "02100000550000020100" ∷ [])
         ≡ (told 8 (tell.Named 7 16) ∷ sent 200 7 "011000000202060443c8000a0402420811010f00" ∷ [])
         ∷ (told 8 (tell.Confirm 16 2 0 None None) ∷ []) ∷ [] }
 {}
@@ -34,7 +35,8 @@ pub fn user_calls()
 /// A CC with no optional part confirms as well.
 #[tactic(auto, unfolding(crate::specs::Played::played))]
 pub fn confirmed_without_options()
-    ensures { drop 1 (played first_lane (asks (request.Conn 7 2 0 (hex "43c8000a") []) ∷ arrives 200 7 "021000005500000200" ∷ []))
+    ensures { drop 1 (played first_lane
+        (asks (request.Conn 7 2 0 (hex "43c8000a") []) ∷ arrives 200 7 "021000005500000200" ∷ []))
         ≡ (told 8 (tell.Confirm 16 2 0 None None) ∷ []) ∷ [] }
 {}
 
@@ -48,7 +50,8 @@ pub fn hop_counter_runs_out()
 /// Openings take the lowest free references, and a relayed one takes two.
 #[tactic(auto, unfolding(crate::specs::Played::played))]
 pub fn lowest_references()
-    ensures { played first_lane (cr ∷ arrives 200 4 "01070000020200081208001204947121" ∷ arrives 200 3 "01020000020200024208" ∷ [])
+    ensures { played first_lane
+        (cr ∷ arrives 200 4 "01070000020200081208001204947121" ∷ arrives 200 3 "01020000020200024208" ∷ [])
         ≡ offers 16 ∷ (sent 300 4 "01300000020200085208001204947121" ∷ []) ∷ offers 64 ∷ [] }
 {}
 

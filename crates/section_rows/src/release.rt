@@ -34,7 +34,8 @@ pub fn wrong_reference()
 /// Nobody hears a CC for a free reference, and no request on one.
 #[tactic(auto, unfolding(crate::specs::Played::played))]
 pub fn unknown_reference()
-    ensures { played first_lane (arrives 200 3 "023000000900000200" ∷ asks (request.Disc 48 0 []) ∷ [])
+    ensures { played first_lane
+        (arrives 200 3 "023000000900000200" ∷ asks (request.Disc 48 0 []) ∷ [])
         ≡ (sent 200 3 "0f09000000" ∷ []) ∷ (told 8 (tell.No reason.Unknown) ∷ []) ∷ [] }
 {}
 
@@ -58,6 +59,7 @@ pub fn frozen_references()
 /// A late message for the former owner of a reference is lost by the state of the next one.
 #[tactic(auto, unfolding(crate::specs::Played::played))]
 pub fn late_message()
-    ensures { drop 4 (played quick_lane (refused_at 16 ++ cr ∷ arrives 200 3 "0610000000010161" ∷ []))
+    ensures { drop 4 (played quick_lane
+        (refused_at 16 ++ cr ∷ arrives 200 3 "0610000000010161" ∷ []))
         ≡ (dropped lost.State ∷ []) ∷ [] }
 {}

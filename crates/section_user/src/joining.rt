@@ -29,7 +29,7 @@ impl UserSide {
             cause: RELEASE_ACCESS_CONGESTION,
             body: None,
         };
-        let mut done = Acted::giving(alloc, self.told(tell))?;
+        let mut done = Acted::giving(alloc, self.output_to(tell))?;
         done.first.push(Hand::End {
             cause: RELEASE_ACCESS_CONGESTION,
             body: None,
@@ -64,7 +64,7 @@ impl UserSide {
             mine: self.mine,
             body: text,
         };
-        let mut done = Acted::giving(alloc, self.told(tell))?;
+        let mut done = Acted::giving(alloc, self.output_to(tell))?;
         done.then = self.taken(alloc, 1, false)?;
         self.text = Octets::new(alloc);
         Ok(done)

@@ -51,7 +51,7 @@ impl UserSide {
     }
 
     /// What the user is told.
-    pub(crate) fn told(&self, tell: Tell) -> Output
+    pub(crate) fn output_to(&self, tell: Tell) -> Output
         ensures { result ≡ Told self.now.ssn tell }
     {
         Output::Told {

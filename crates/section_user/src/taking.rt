@@ -32,7 +32,7 @@ impl UserSide {
             called: boxed_if_any(alloc, called)?,
             body: boxed_if_any(alloc, body)?,
         };
-        let done = Acted::giving(alloc, self.told(tell))?;
+        let done = Acted::giving(alloc, self.output_to(tell))?;
         self.state = UserState::Ready;
         self.class = *class;
         self.credit = *credit;
@@ -55,7 +55,7 @@ impl UserSide {
             cause,
             body: boxed_if_any(alloc, body)?,
         };
-        let done = Acted::giving(alloc, self.told(tell))?;
+        let done = Acted::giving(alloc, self.output_to(tell))?;
         self.state = UserState::Gone;
         Ok(done)
     }
@@ -71,7 +71,7 @@ impl UserSide {
             mine: self.mine,
             body: copied(alloc, body)?,
         };
-        let mut done = Acted::giving(alloc, self.told(tell))?;
+        let mut done = Acted::giving(alloc, self.output_to(tell))?;
         done.then = self.taken(alloc, 0, true)?;
         Ok(done)
     }
@@ -88,7 +88,7 @@ impl UserSide {
             mine: self.mine,
             cause: *cause,
         };
-        let done = Acted::giving(alloc, self.told(tell))?;
+        let done = Acted::giving(alloc, self.output_to(tell))?;
         self.text = Octets::new(alloc);
         Ok(done)
     }
@@ -99,7 +99,7 @@ impl UserSide {
         ensures err { OnErr result (self.new ≡ self.old) }
     {
         let tell = Tell::ResetDone { mine: self.mine };
-        let done = Acted::giving(alloc, self.told(tell))?;
+        let done = Acted::giving(alloc, self.output_to(tell))?;
         self.state = UserState::Ready;
         Ok(done)
     }
