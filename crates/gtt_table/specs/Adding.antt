@@ -4,13 +4,14 @@ use Rattle.std.specs.declared.result.Result.{Result}
 use Rattle.gtt_table.specs.declared.row.Row.{Row}
 use Rattle.gtt_table.specs.declared.table.AddFault.{AddFault}
 use Rattle.gtt_table.specs.declared.table.AddFault.TheVariants.{Duplicate, RowsFull, Memory}
+use Rattle.gtt_table.specs.declared.table.TheConstants.Table.{MOST}
 use Rattle.gtt_table.specs.Rows.{has_row}
 
--- a second row under one key, or one more than 4,096 rows
+-- a second row under one key, or one more than a table holds
 unfoldable pub add_refusal : List Row → Row → Option AddFault
 add_refusal rows row =
     if has_row row.selector row.prefix rows then Some Duplicate
-    else if nat_le 4096 (length rows) then Some RowsFull
+    else if nat_le MOST (length rows) then Some RowsFull
     else None
 
 -- the answer is this refusal, or none; want of memory may stand in its place

@@ -1,5 +1,5 @@
 -- The row that translates digits: of those whose prefix begins them, the one with the most digits in its prefix
--- (Q.714, global title translation).
+-- (Q.714, 2.4).
 use Rattle.std.specs.Prelude.{ℕ, ◌≤◌, nat_lt, IsTrue, Bool, List, [], ◌∷◌, length, if◌then◌else◌, Option, Some, None, All, Contains}
 use Rattle.std.specs.List.{list_any}
 use Rattle.sccp_address.specs.declared.address.Selector.{Selector}

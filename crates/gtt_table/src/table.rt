@@ -130,7 +130,8 @@ impl Table {
 
     fn drop_key(&mut self, selector: &Selector, prefix: &Digits)
         ensures value { self.new.rows ≡ without selector.now prefix.now self.old.rows }
-        ensures one { has_row selector.now prefix.now self.old.rows ≡ true → length self.new.rows + 1 ≡ length self.old.rows }
+        ensures one { let had = has_row selector.now prefix.now self.old.rows
+            in had ≡ true → length self.new.rows + 1 ≡ length self.old.rows }
     {
         self.rows.retain(|row| !row.has_key(selector, prefix));
     }
@@ -138,7 +139,8 @@ impl Table {
     /// Takes the row with this selector and prefix away.
     #[tactic(auto, using(crate::proofs::RowLemmas::searches))]
     pub fn remove(&mut self, selector: &Selector, prefix: &Digits) -> Result<Row, NoSuchRow>
-        ensures ok { IfOk result (λ row. find (has_key selector.now prefix.now) self.old.rows ≡ Some row) }
+        ensures ok { let row = find (has_key selector.now prefix.now) self.old.rows
+            in IfOk result (λ x. row ≡ Some x) }
         ensures rest { OnOk result (self.new.rows ≡ without selector.now prefix.now self.old.rows) }
         ensures one { OnOk result (length self.new.rows + 1 ≡ length self.old.rows) }
         ensures err { OnErr result (has_row selector.now prefix.now self.old.rows ≡ false) }
@@ -176,7 +178,7 @@ impl Table {
     #[tactic(auto, unfolding(crate::specs::Translation::translation_of))]
     pub fn look(&self, selector: &Selector, digits: &Digits) -> Look<'_>
         ensures value { seen_look result ≡ translation_of self.now.rows selector.now digits.now }
-        ensures longest { IfRow result (λ row. IsLongestMatch self.now.rows selector.now digits.now row) }
+        ensures longest { IfRow result (IsLongestMatch self.now.rows selector.now digits.now) }
     {
         if !self.has_selector(selector) {
             return Look::NoSelector;

@@ -1,6 +1,9 @@
 -- What changes do to the routing data.
-use Rattle.std.specs.Prelude.{ℕ, ◌==◌, ◌&&◌, nat_le, not, Bool, true, false, List, [], ◌∷◌, ◌++◌, length, filter, if◌then◌else◌}
+use Rattle.std.specs.Prelude.{ℕ, ◌==◌, ◌&&◌, not, Bool, true, false, List, [], ◌∷◌, ◌++◌, filter, if◌then◌else◌, Option, Some, None}
+use Rattle.gtt_table.specs.Adding.{add_refusal}
 use Rattle.gtt_table.specs.Rows.{has_row, without}
+use Rattle.gtt_table.specs.declared.table.AddFault.{AddFault}
+use Rattle.gtt_table.specs.declared.table.AddFault.TheVariants as fault
 use Rattle.plant_core.specs.declared.change.Change.{Change}
 use Rattle.plant_core.specs.declared.change.Change.TheVariants.{AddRow, DelRow, BarPoint, FreePoint, BarSub, FreeSub, LocalUp, LocalDown}
 use Rattle.plant_core.specs.declared.change.Verdict.{Verdict}
@@ -10,12 +13,15 @@ use Rattle.plant_core.specs.Plant.{RoutingData, is_among, is_same_subsystem, is_
 abbrev pub alters_if : Bool → Verdict
 alters_if b = if b then Alters else Same
 
+-- a row that isn't refused alters
+abbrev pub verdict_by : Option AddFault → Verdict
+verdict_by None = Alters
+verdict_by (Some fault.Duplicate) = Duplicate
+verdict_by (Some _) = RowsFull
+
 -- what a change would do
 unfoldable pub verdict_on : RoutingData → Change → Verdict
-verdict_on p (AddRow row) =
-    if has_row row.selector row.prefix p.rows then Duplicate
-    else if nat_le 4096 (length p.rows) then RowsFull
-    else Alters
+verdict_on p (AddRow row) = verdict_by (add_refusal p.rows row)
 verdict_on p (DelRow selector prefix) = if has_row selector prefix p.rows then Alters else NoRow
 verdict_on p (BarPoint point) = alters_if (not (is_among point p.barred_points))
 verdict_on p (FreePoint point) = alters_if (is_among point p.barred_points)

@@ -1,4 +1,4 @@
--- The called address as it leaves (Q.714, global title translation).
+-- The called address as it leaves (Q.714, 2.4).
 use Rattle.std.specs.Prelude.{ℕ, List, Option, Some, None, Ok, Err}
 use Rattle.std.specs.declared.result.Result.{Result}
 use Rattle.sccp_address.specs.Form.{Form}

@@ -1,4 +1,4 @@
--- Routing control (Q.714, SCCP routing control): the answer of the whole routing data for a called address, a hop counter and an origin.
+-- Routing control (Q.714, 2.3 and 2.6): the answer of the whole routing data for a called address, a hop counter and an origin.
 use Rattle.std.specs.Prelude.{ℕ, ◌-◌, ◌==◌, ◌||◌, ◌&&◌, nat_lt, not, Bool, false, List, if◌then◌else◌, Option, Some, None, Ok, Err, unwrap_or, is_ok}
 use Rattle.std.specs.declared.result.Result.{Result}
 use Rattle.sccp_address.specs.Form.{Form, TitleForm}
@@ -8,6 +8,7 @@ use Rattle.gtt_table.specs.declared.row.Row.{Row}
 use Rattle.gtt_table.specs.declared.row.Entity.{Entity}
 use Rattle.gtt_table.specs.Translation.{Found, no_selector, no_prefix, found, translation_of}
 use Rattle.plant_core.specs.declared.answer.Answer.{Answer}
+use Rattle.plant_core.specs.declared.answer.TheConstants.{MOST_HOPS}
 use Rattle.plant_core.specs.declared.answer.Answer.TheVariants.{Local, Forward, Refused}
 use Rattle.plant_core.specs.declared.answer.Rewrite.TheVariants.{Keep, Set}
 use Rattle.plant_core.specs.declared.answer.Origin.{Origin}
@@ -62,17 +63,19 @@ availability_of p e =
     else if e.on_ssn && is_barred_at p e.point e.ssn then Err SubsystemBarred
     else Ok tt
 
--- where an entity leads
-abbrev pub own_answer : RoutingData → Option ℕ → Answer
-own_answer p None = Refused Unequipped None
-own_answer p (Some ssn) = local_answer p ssn
+-- the user that a refusal names: one at the own point that is out of service
+abbrev pub user_named : RoutingData → Entity → RouteCause → Option ℕ
+user_named p e SubsystemBarred = if e.point == p.own then e.ssn else None
+user_named p e _ = None
 
+-- where an entity leads
 unfoldable pub entity_answer : RoutingData → Option ℕ → Entity → Answer
-entity_answer p hop e =
-    if e.point == p.own then own_answer p e.ssn
-    else if is_among e.point p.barred_points then Refused PointBarred None
-    else if e.on_ssn && is_barred_at p e.point e.ssn then Refused SubsystemBarred None
-    else Forward e.point (Set e.ssn e.on_ssn) hop
+entity_answer p hop e = led (availability_of p e)
+  where
+    led : Result (Unit {0}) RouteCause → Answer
+    led (Ok available) =
+        if e.point == p.own then Local (unwrap_or e.ssn 0) else Forward e.point (Set e.ssn e.on_ssn) hop
+    led (Err cause) = Refused cause (user_named p e cause)
 
 -- the first entity that is available; where none is, the refusal of the first
 abbrev pub either_answer : RoutingData → Option ℕ → Entity → Option Entity → Answer
@@ -81,11 +84,11 @@ either_answer p hop first (Some second) =
     if not (is_ok (availability_of p first)) && is_ok (availability_of p second)
     then entity_answer p hop second else entity_answer p hop first
 
--- after a translation a hop counter is lowered by one; 0, 1 and more than 15 are refused
+-- after a translation a hop counter is lowered by one; 0, 1 and more than the most are refused (Q.713, 3.18)
 abbrev pub row_answer : RoutingData → Option ℕ → Row → Answer
 row_answer p None row = either_answer p None row.first row.second
 row_answer p (Some hop) row =
-    if nat_lt hop 2 || nat_lt 15 hop then Refused Hop None
+    if nat_lt hop 2 || nat_lt MOST_HOPS hop then Refused Hop None
     else either_answer p (Some (hop - 1)) row.first row.second
 
 abbrev pub found_answer : RoutingData → Option ℕ → Found → Answer

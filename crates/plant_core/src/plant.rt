@@ -83,7 +83,8 @@ impl Plant {
     /// else `RowsFull`: 4,096 rows are there. The routing data is as before after each refusal.
     pub fn add(&mut self, row: Row) -> Result<(), AddFault>
         requires { self.old.edition ≡ 0 }
-        ensures ok { OnOk result (self.new.routing ≡ record self.old.routing { rows = self.old.routing.rows ++ row ∷ [] }) }
+        ensures ok { let rows = self.old.routing.rows ++ row ∷ []
+            in OnOk result (self.new.routing ≡ record self.old.routing { rows = rows }) }
         ensures err { OnErr result (self.new.routing ≡ self.old.routing) }
         ensures refusal { Refuses result (add_refusal self.old.routing.rows row) }
         ensures edition { self.new.edition ≡ 0 }
@@ -130,7 +131,12 @@ impl Plant {
         out_of_service: Vec<Ssn>,
         barred: (BarredPoints, BarredSubsystems),
     ) -> Result<Plant, Memory>
-        ensures routing { IfOk result (λ p. p.routing ≡ record self.now.routing { barred_points = barred.0.keys; barred_subsystems = barred.1.keys; out_of_service = out_of_service.items }) }
+        ensures routing { let routing = record self.now.routing {
+          barred_points = barred.0.keys;
+          barred_subsystems = barred.1.keys;
+          out_of_service = out_of_service.items;
+        }
+            in IfOk result (λ p. p.routing ≡ routing) }
         ensures edition { IfOk result (λ p. p.edition ≡ self.now.edition) }
     {
         let users = self.users.clone()?;
@@ -244,7 +250,8 @@ impl Plant {
     #[tactic(auto, unfolding(crate::specs::Changes::changed))]
     fn add_row(&mut self, row: &Row) -> Result<(), Memory>
         requires { add_refusal self.old.routing.rows row.now ≡ None }
-        ensures ok { OnOk result (self.new.routing ≡ changed self.old.routing (change.AddRow row.now)) }
+        ensures ok { let routing = changed self.old.routing (change.AddRow row.now)
+            in OnOk result (self.new.routing ≡ routing) }
         ensures err { OnErr result (self.new.routing ≡ self.old.routing) }
         ensures edition { self.new.edition ≡ self.old.edition }
         ensures memory { IsTrue self.old.has_room → IsOk result }
@@ -258,7 +265,8 @@ impl Plant {
     #[tactic(auto, unfolding(crate::specs::Changes::changed))]
     fn bar_point(&mut self, point: Pc) -> Result<(), Memory>
         requires { is_among point self.old.routing.barred_points ≡ false }
-        ensures ok { OnOk result (self.new.routing ≡ changed self.old.routing (change.BarPoint point)) }
+        ensures ok { let routing = changed self.old.routing (change.BarPoint point)
+            in OnOk result (self.new.routing ≡ routing) }
         ensures err { OnErr result (self.new.routing ≡ self.old.routing) }
         ensures edition { self.new.edition ≡ self.old.edition }
         ensures memory { IsTrue self.old.has_room → IsOk result }
@@ -269,7 +277,8 @@ impl Plant {
     #[tactic(auto, unfolding(crate::specs::Changes::changed))]
     fn bar_subsystem(&mut self, point: Pc, ssn: Ssn) -> Result<(), Memory>
         requires { is_barred_subsystem self.old.routing point ssn ≡ false }
-        ensures ok { OnOk result (self.new.routing ≡ changed self.old.routing (change.BarSub point ssn)) }
+        ensures ok { let routing = changed self.old.routing (change.BarSub point ssn)
+            in OnOk result (self.new.routing ≡ routing) }
         ensures err { OnErr result (self.new.routing ≡ self.old.routing) }
         ensures edition { self.new.edition ≡ self.old.edition }
         ensures memory { IsTrue self.old.has_room → IsOk result }
@@ -311,7 +320,8 @@ impl Plant {
         requires { self.old.edition + 1 < 2 ^ 64 }
         ensures routing { OnOk result (self.new.routing ≡ plant_after self.old.routing change.now) }
         ensures edition { OnOk result (self.new.edition ≡ self.old.edition + 1) }
-        ensures err { OnErr result ((self.new.routing ≡ self.old.routing) × (self.new.edition ≡ self.old.edition)) }
+        ensures err { let same = (self.new.routing ≡ self.old.routing) × (self.new.edition ≡ self.old.edition)
+            in OnErr result same }
         ensures memory { IsTrue self.old.has_room → IsOk result }
     {
         if self.verdict(change) == Verdict::Alters {
@@ -388,7 +398,8 @@ impl Plant {
     #[tactic(auto, unfolding(crate::specs::Routing::route_of, crate::specs::Routing::ssn_answer))]
     pub fn answer(&self, ask: &Ask<'_>) -> Answer
         requires { IsTrue ask.now.called.on_ssn }
-        ensures { result ≡ route_of self.now.routing (seen ask.now.called) ask.now.hop ask.now.origin }
+        ensures { let called = seen ask.now.called
+            in result ≡ route_of self.now.routing called ask.now.hop ask.now.origin }
     {
         match (ask.origin, ask.called.point) {
             (Origin::User, Some(point)) if point != self.own => {

@@ -13,8 +13,10 @@ use std::alloc::Global;
 /// The octets of a called address, in form, as it leaves.
 pub fn rewritten(alloc: Global, called: &Address<'_>, rewrite: &Rewrite) -> Result<Octets, Memory>
     requires { IsInForm (seen called.now) }
-    ensures value { IfOk result (λ o. o ≡ address_spelling (address_after (seen called.now) rewrite.now)) }
-    ensures read_back { IfOk result (λ o. address_of o ≡ Ok (address_after (seen called.now) rewrite.now)) }
+    ensures value { let after = address_after (seen called.now) rewrite.now
+        in IfOk result (λ o. o ≡ address_spelling after) }
+    ensures read_back { let after = address_after (seen called.now) rewrite.now
+        in IfOk result (λ o. address_of o ≡ Ok after) }
 {
     match rewrite {
         Rewrite::Keep => spell(alloc, called),

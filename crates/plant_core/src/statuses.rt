@@ -82,7 +82,8 @@ pub fn put_point(barred: &mut BarredPoints, point: Pc) -> Result<(), Memory>
 /// Puts a subsystem of another point, which isn't there, at the end.
 pub fn put_subsystem(barred: &mut BarredSubsystems, point: Pc, ssn: Ssn) -> Result<(), Memory>
     requires { list_any (is_same_subsystem point ssn) barred.old.keys ≡ false }
-    ensures ok { OnOk result (barred.new.keys ≡ barred.old.keys ++ record { point = point; ssn = ssn } ∷ []) }
+    ensures ok { let keys = barred.old.keys ++ record { point = point; ssn = ssn } ∷ []
+        in OnOk result (barred.new.keys ≡ keys) }
     ensures err { OnErr result (barred.new.keys ≡ barred.old.keys) }
     ensures memory { 0 < spare barred.old → IsOk result }
 {

@@ -3,10 +3,10 @@ ghost use Rattle.std.specs.Prelude.{◌≡◌, None};
 ghost use Rattle.sccp_address.specs.Form.{seen};
 ghost use Rattle.plant_core.specs.declared.answer.Answer.TheVariants.{Refused};
 ghost use Rattle.plant_core.specs.Asking.{seen_ask, answer_to};
-ghost use Rattle.plant_core.specs.Routing.{own_answer, entity_answer, either_answer, row_answer, title_answer, route_of};
+ghost use Rattle.plant_core.specs.Routing.{entity_answer, either_answer, row_answer, title_answer, route_of};
 
 use gtt_table::{Entity, Look, Row};
-use plant_core::{Answer, Ask, Asked, Origin, Plant, Rewrite, RouteCause};
+use plant_core::{Answer, Ask, Asked, MOST_HOPS, Origin, Plant, Rewrite, RouteCause};
 use relay_base::Ssn;
 use sccp_address::{Address, Title, selector};
 
@@ -16,35 +16,14 @@ fn refused(cause: RouteCause) -> Answer
     Answer::Refused { cause, local: None }
 }
 
-/// Where an entity at the own point leads.
-#[tactic(auto, unfolding(plant_core::specs::Routing::route_of, plant_core::specs::Routing::ssn_answer))]
-fn at_own_point(plant: &Plant, ssn: Option<Ssn>) -> Answer
-    ensures { result ≡ own_answer plant.now.routing ssn }
-{
-    if ssn.is_none() {
-        return refused(RouteCause::Unequipped);
-    }
-    plant.answer(&Ask {
-        called: Address {
-            point: None,
-            ssn,
-            title: Title::Absent,
-            on_ssn: true,
-        },
-        hop: None,
-        origin: Origin::Network,
-    })
-}
-
 /// Where an entity leads.
 #[tactic(auto, unfolding(plant_core::specs::Routing::entity_answer, plant_core::specs::Routing::availability_of))]
 fn at_entity(plant: &Plant, hop: Option<u8>, entity: &Entity) -> Answer
     ensures { result ≡ entity_answer plant.now.routing hop entity.now }
 {
-    if entity.point == plant.own() {
-        return at_own_point(plant, entity.ssn);
-    }
+    let is_own = entity.point == plant.own();
     match plant.stands(entity) {
+        Ok(()) if is_own => Answer::Local(entity.ssn.unwrap_or(Ssn::from(0))),
         Ok(()) => Answer::Forward {
             dpc: entity.point,
             rewrite: Rewrite::Set {
@@ -52,6 +31,10 @@ fn at_entity(plant: &Plant, hop: Option<u8>, entity: &Entity) -> Answer
                 on_ssn: entity.on_ssn,
             },
             hop,
+        },
+        Err(RouteCause::SubsystemBarred) if is_own => Answer::Refused {
+            cause: RouteCause::SubsystemBarred,
+            local: entity.ssn,
         },
         Err(cause) => refused(cause),
     }
@@ -75,7 +58,7 @@ fn at_row(plant: &Plant, hop: Option<u8>, row: &Row) -> Answer
 {
     match hop {
         None => at_either(plant, None, row),
-        Some(hop) if hop < 2 || hop > 15 => refused(RouteCause::Hop),
+        Some(hop) if hop < 2 || hop > MOST_HOPS => refused(RouteCause::Hop),
         Some(hop) => at_either(plant, Some(hop - 1), row),
     }
 }
