@@ -4,7 +4,7 @@ use Rattle.std.specs.List.{find, count_by}
 use Rattle.std.proofs.lemmas.Bool.{cases_Bool, leb-false}
 use Rattle.std.proofs.lemmas.List.Sums.{length-filter}
 use Rattle.reassembly.specs.Segments.{key_of, is_first, remaining}
-use Rattle.reassembly.specs.Reassembly.{is_of, live, others, has_no_room, reassembly_after, takes, begun, extended}
+use Rattle.reassembly.specs.Reassembly.{is_of, live, others, has_no_room, reassembly_after, takes, process_begun, extended}
 use Rattle.reassembly.specs.declared.piece.Piece.{Piece}
 use Rattle.reassembly.specs.declared.process.Process.{Process}
 
@@ -42,7 +42,7 @@ module _ (P : Option Process → List Process → Type 0) (xs : List Process) (p
   first_changes ticks gone begins room first =
       ⊎_elim
       (λ (one : (remaining piece == 0) ≡ true). rw (room, first, one) gone)
-      (λ (several : (remaining piece == 0) ≡ false). rw (room, first, several, first) (begins (begun ticks piece) refl (few_others xs piece room first several)))
+      (λ (several : (remaining piece == 0) ≡ false). rw (room, first, several, first) (begins (process_begun ticks piece) refl (few_others xs piece room first several)))
       (cases_Bool (remaining piece == 0))
 
   later_changes : (ticks : ℕ) (process : Option Process) → live (key_of piece) xs ≡ process → Gone → GoesOn → has_no_room piece xs ≡ false → is_first piece ≡ false → P (reassembly_after ticks (live (key_of piece) xs) piece).process (takes ticks xs piece).0

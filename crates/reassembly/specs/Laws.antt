@@ -5,6 +5,7 @@ use Rattle.reassembly.specs.Reassembly.{IsOnePerKey, live, has_no_room, reassemb
 use Rattle.reassembly.specs.declared.piece.Piece.{Piece}
 use Rattle.reassembly.specs.declared.piece.Now.TheVariants.{NoRoom}
 use Rattle.reassembly.specs.declared.process.Process.{Process}
+use Rattle.reassembly.specs.declared.processes.TheConstants.{MOST}
 
 -- The process of a key hears the segments of its key, unless there is no room, and the ticks; and nothing else.
 pub record HearsItsKeyAlone : Type 0 where
@@ -13,10 +14,10 @@ pub record HearsItsKeyAlone : Type 0 where
   pub without_room : (ticks : ℕ) (processes : List Process) (piece : Piece) → has_no_room piece processes ≡ true → takes ticks processes piece ≡ (processes, record { failed = None; now = NoRoom piece })
   pub of_tick : (processes : List Process) (key : Key) → IsOnePerKey processes → live key (after_tick processes) ≡ reassembly_after_tick (live key processes)
 
--- There is at most one process a key, and there are at most 256.
+-- There is at most one process a key, and there are no more than the most.
 pub record IsWithinBounds (processes : List Process) : Type 0 where
   pub one_per_key : IsOnePerKey processes
-  pub few : length processes ≤ 256
+  pub few : length processes ≤ MOST
 
 -- So it stays.
 pub record StaysWithinBounds : Type 0 where

@@ -1,4 +1,4 @@
--- Reassembly (Q.714): one process puts the segments of one key together, and hears these segments and the ticks alone.
+-- Reassembly (Q.714, 4.1.1): one process puts the segments of one key together, and hears these segments and the ticks alone.
 use Rattle.std.specs.Prelude.{ℕ, ◌+◌, ◌-◌, ◌==◌, ◌≤◌, ◌&&◌, nat_le, not, Bool, List, [], ◌∷◌, ◌++◌, length, map, filter, find, count_by, if◌then◌else◌, Option, Some, None}
 use Rattle.std.specs.Option.{option_map}
 use Rattle.reassembly.specs.Segments.{Key, key_of, same_key, is_first, remaining}
@@ -6,10 +6,11 @@ use Rattle.reassembly.specs.declared.piece.Piece.{Piece}
 use Rattle.reassembly.specs.declared.piece.Now.TheVariants.{Waiting, Whole, NoRoom, Orphan, Broken}
 use Rattle.reassembly.specs.declared.piece.Taken.{Taken}
 use Rattle.reassembly.specs.declared.process.Process.{Process}
+use Rattle.reassembly.specs.declared.processes.TheConstants.{MOST}
 
 -- a first segment begins a process, with all its ticks
-abbrev pub begun : ℕ → Piece → Process
-begun ticks piece = record { first = piece; body = piece.body; left = remaining piece; ticks = ticks }
+abbrev pub process_begun : ℕ → Piece → Process
+process_begun ticks piece = record { first = piece; body = piece.body; left = remaining piece; ticks = ticks }
 
 -- a later segment is put in; the timer runs on
 abbrev pub extended : Process → Piece → Process
@@ -29,7 +30,7 @@ abbrev pub after_first : ℕ → Option Process → Piece → After
 after_first ticks process piece =
     let failed = option_map (λ x. x.first) process in
     if remaining piece == 0 then record { process = None; taken = record { failed = failed; now = Whole piece } }
-    else record { process = Some (begun ticks piece); taken = record { failed = failed; now = Waiting } }
+    else record { process = Some (process_begun ticks piece); taken = record { failed = failed; now = Waiting } }
 
 -- a later segment: its remaining count is one less than the last one, or the process fails
 abbrev pub after_later : Option Process → Piece → After
@@ -75,10 +76,10 @@ replaced piece (Some x) processes =
     if is_first piece then others (key_of piece) processes ++ x ∷ []
     else map (λ y. if is_of (key_of piece) y then x else y) processes
 
--- a first segment that isn't alone, while 256 other keys have a process
+-- a first segment that isn't alone, while the most other keys have a process
 abbrev pub has_no_room : Piece → List Process → Bool
 has_no_room piece processes =
-    is_first piece && (not (remaining piece == 0) && nat_le 256 (count_by (λ x. not (is_of (key_of piece) x)) processes))
+    is_first piece && (not (remaining piece == 0) && nat_le MOST (count_by (λ x. not (is_of (key_of piece) x)) processes))
 
 abbrev pub goes_in : Piece → After → List Process → List Process × Taken
 goes_in piece after processes = (replaced piece after.process processes, after.taken)

@@ -1,4 +1,4 @@
--- Segments (Q.713, segmentation; Q.714): which belong together, and where in their message they stand.
+-- Segments (Q.713, 3.17; Q.714, 4.1.1): which belong together, and where in their message they stand.
 use Rattle.std.specs.Prelude.{ℕ, ◌%◌, ◌==◌, ◌&&◌, nat_le, Bool, List, drop, slice_index}
 use Rattle.std.specs.Str.{bytes_eq}
 use Rattle.reassembly.specs.declared.piece.Piece.{Piece}

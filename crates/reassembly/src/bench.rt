@@ -48,7 +48,8 @@ impl Bench {
 
     /// Takes a segment. After `Memory`, and where there is no room, everything is as before.
     pub fn take(&mut self, piece: Piece) -> Result<Taken, Memory>
-        ensures ok { IfOk result (λ taken. (self.new.processes, taken) ≡ takes self.old.ticks self.old.processes piece) }
+        ensures ok { let after = takes self.old.ticks self.old.processes piece
+            in IfOk result (λ taken. (self.new.processes, taken) ≡ after) }
         ensures ticks { self.new.ticks ≡ self.old.ticks }
         ensures err { OnErr result (self.new ≡ self.old) }
         ensures bounds { IsWithinBounds self.new.processes }
@@ -80,7 +81,8 @@ impl Bench {
 
     /// The first segment that `take` of this piece would answer as failed.
     pub fn ending(&self, piece: &Piece) -> Option<&Piece>
-        ensures { option_copied result ≡ (takes self.now.ticks self.now.processes piece.now).1.failed }
+        ensures { let after = takes self.now.ticks self.now.processes piece.now
+            in option_copied result ≡ after.1.failed }
     {
         if is_full_for(&self.processes, piece) {
             return None;

@@ -1,7 +1,7 @@
 //! The reassembly of one message.
 ghost use Rattle.std.specs.Prelude.{◌≡◌, ◌+◌, ◌==◌, IfOk, OnOk, OnErr};
 ghost use Rattle.reassembly.specs.Segments.{key_of, remaining};
-ghost use Rattle.reassembly.specs.Reassembly.{is_of, begun, extended, is_due, aged, whole_of};
+ghost use Rattle.reassembly.specs.Reassembly.{is_of, process_begun, extended, is_due, aged, whole_of};
 
 use crate::piece::Piece;
 use relay_base::{Memory, Octets};
@@ -22,7 +22,7 @@ pub struct Process {
 
 impl Process {
     pub(crate) fn begun(alloc: Global, first: Piece, ticks: u32) -> Result<Process, Memory>
-        ensures { IfOk result (λ process. process ≡ begun ticks first) }
+        ensures { IfOk result (λ process. process ≡ process_begun ticks first) }
     {
         let body = Octets::from_slice(alloc, first.body.as_slice())?;
         let left = first.remaining();

@@ -35,7 +35,8 @@ pub fn is_full_for(processes: &[Process], piece: &Piece) -> bool
 /// Ends the one that this segment belongs to.
 fn end(processes: &mut Vec<Process>, piece: &Piece) -> Option<Piece>
     requires { IsOnePerKey processes.old.items }
-    ensures ended { result ≡ option_map (λ x. x.first) (live (key_of piece.now) processes.old.items) }
+    ensures ended { let process = live (key_of piece.now) processes.old.items
+        in result ≡ option_map (λ x. x.first) process }
     ensures kept { processes.new.items ≡ others (key_of piece.now) processes.old.items }
     ensures len { vec_len processes.new ≤ vec_len processes.old }
     ensures capacity { vec_capacity processes.new ≡ vec_capacity processes.old }
@@ -55,7 +56,8 @@ pub fn take_first(
 ) -> Result<Taken, Memory>
     requires apart { IsOnePerKey processes.old.items }
     requires first { is_first piece ≡ true }
-    ensures ok { IfOk result (λ taken. (processes.new.items, taken) ≡ takes ticks processes.old.items piece) }
+    ensures ok { let after = takes ticks processes.old.items piece
+        in IfOk result (λ taken. (processes.new.items, taken) ≡ after) }
     ensures err { OnErr result (processes.new.items ≡ processes.old.items) }
 {
     if piece.remaining() == 0 {
@@ -85,7 +87,8 @@ pub fn take_first(
 pub fn take_later(processes: &mut Vec<Process>, piece: &Piece) -> Result<Taken, Memory>
     requires apart { IsOnePerKey processes.old.items }
     requires later { is_first piece.now ≡ false }
-    ensures ok { IfOk result (λ taken. (ticks : ℕ) → (processes.new.items, taken) ≡ takes ticks processes.old.items piece.now) }
+    ensures ok { let old = processes.old.items
+        in IfOk result (λ x. (ticks : ℕ) → (processes.new.items, x) ≡ takes ticks old piece.now) }
     ensures err { OnErr result (processes.new.items ≡ processes.old.items) }
 {
     let Some(at) = place_of(processes, piece) else {
