@@ -1,14 +1,15 @@
 -- The units that a user gives may be written.
-use Rattle.std.proofs.Common.{◌≡◌, ℕ, ◌+◌, ◌≤◌, List, [], ◌∷◌, length, Bool, true, false, refl, arith, take, drop, length-take, length-append}
+use Rattle.std.proofs.Common.{◌≡◌, ℕ, ◌+◌, ◌≤◌, List, [], ◌∷◌, length, Bool, true, false, refl, sym, subst, arith, take, drop, length-take, length-append}
 use Rattle.std.specs.Prelude.{◌&&◌, not, nat_le, IsTrue, Some, None}
 use Rattle.std.proofs.lemmas.Bool.{leb-true}
 use Rattle.std.proofs.lemmas.Bool.Decides.{nat_tests}
 use Rattle.plant_core.specs.Rewriting.{called_onward}
-use Rattle.connectionless.specs.Given.{Given, IsInRange, IsShort, is_cut}
+use Rattle.connectionless.specs.Given.{Given, Outgoing, IsInRange, IsShort, is_cut}
 use Rattle.plant_core.proofs.AddressLengths.{length-called_onward}
 use Rattle.plant_core.specs.declared.answer.Rewrite.{Rewrite}
 use Rattle.q713_shape.specs.Writing.{are_in_range}
 use Rattle.q713_codec.specs.Writing.{is_in_range}
+use Rattle.q713_codec.specs.declared.longest.TheConstants.{LONGEST}
 use Rattle.q713_codec.specs.declared.message.Message.TheVariants.{Udt, Xudt}
 
 pub segment-in_range : (first hop : ℕ) (called calling body segmentation : List ℕ) → length called + length calling + length body ≤ 251 → length segmentation ≡ 4
@@ -31,18 +32,23 @@ uncut : (short few : Bool) → not (short && few) ≡ false → short ≡ true
 uncut true few e = refl
 uncut false few e = cc
 
-pub uncut-body : (g : Given) (called : List ℕ) → is_cut g called ≡ false → length g.body ≤ 255
-uncut-body g called e =
-    leb-true (length g.body) 255 (uncut (nat_le (length g.body) 255) (nat_le (8 + length called + length g.calling + length g.body) 268) e)
+pub uncut-body : (u : Outgoing) → is_cut u ≡ false → length u.given.body ≤ 255
+uncut-body u e =
+    leb-true (length u.given.body) 255
+    (uncut (nat_le (length u.given.body) 255) (nat_le (8 + length u.called + length u.given.calling + length u.given.body) LONGEST) e)
 
 -- a part of the data
 pub length-part : (size start : ℕ) (body part : List ℕ) → part ≡ take size (drop start body) → length part ≤ size
 length-part size start body part e = rw e (omega (arith, length-take size (drop start body)))
 
 -- a unit in its ranges goes on with at most one octet more
-pub short : (g : Given) (rewrite : Rewrite) (called : List ℕ) → IsInRange g → called ≡ called_onward rewrite g.called → IsShort g called
-short g rewrite called range e = record {
-  class = range.class;
-  addresses = rw e (omega (arith, range.called_size, range.calling_size, length-called_onward rewrite g.called));
-  body_size = range.body_size;
-}
+pub short : (g : Given) (rewrite : Rewrite) (u : Outgoing) → IsInRange g → u.given ≡ g → u.called ≡ called_onward rewrite g.called → IsShort u
+short g rewrite u range of_unit e =
+    let class : u.given.class ≤ 1 = subst (λ (x : Given). x.class ≤ 1) (sym of_unit) range.class in
+    let body : length u.given.body ≤ 2560 = subst (λ (x : Given). length x.body ≤ 2560) (sym of_unit) range.body_size in
+    let calling : length u.given.calling ≤ 40 = subst (λ (x : Given). length x.calling ≤ 40) (sym of_unit) range.calling_size in
+    record {
+      class = class;
+      addresses = rw e (omega (arith, range.called_size, calling, length-called_onward rewrite g.called));
+      body_size = body;
+    }

@@ -1,4 +1,4 @@
--- What a unit asks of routing, or why it is lost (Q.714, connectionless service).
+-- What a unit asks of routing, or why it is lost (Q.714, 4.1).
 use Rattle.std.specs.Prelude.{ℕ, ◌&&◌, nat_lt, not, Bool, List, [], ◌∷◌, if◌then◌else◌, Option, Some, None, Ok, Err}
 use Rattle.std.specs.declared.result.Result.{Result}
 use Rattle.relay_base.specs.declared.words.Event.{Event}

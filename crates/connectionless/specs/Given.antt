@@ -1,4 +1,4 @@
--- A user's unit (Q.711, N-UNITDATA request; Q.714, segmenting).
+-- A user's unit (Q.711, N-UNITDATA request; Q.714, 4.1 and 4.1.1).
 use Rattle.std.specs.Prelude.{ℕ, ◌+◌, ◌-◌, ◌*◌, ◌/◌, ◌%◌, ◌^◌, ◌==◌, ◌&&◌, ◌≤◌, nat_le, not, is_ok, IsOk, unwrap_or, Bool, true, false, List, [], ◌∷◌, length, map, take, drop, if◌then◌else◌, Option, Some, None}
 use Rattle.std.specs.List.{range_with_len}
 use Rattle.relay_base.specs.declared.words.Output.{Output}
@@ -8,12 +8,17 @@ use Rattle.relay_base.specs.declared.words.Tell.TheVariants.{Unit as UnitTold, N
 use Rattle.relay_base.specs.declared.words.Request.{Request}
 use Rattle.relay_base.specs.declared.words.Request.TheVariants.{Unit as UnitRequest}
 use Rattle.sccp_address.specs.Parsing.{address_of}
+use Rattle.sccp_address.specs.Subsystems.{subsystem_address}
 use Rattle.plant_core.specs.declared.answer.Answer.{Answer}
 use Rattle.plant_core.specs.declared.answer.Answer.TheVariants.{Local, Forward, Refused}
+use Rattle.plant_core.specs.declared.answer.Rewrite.{Rewrite}
+use Rattle.plant_core.specs.declared.answer.TheConstants.{MOST_HOPS}
 use Rattle.plant_core.specs.Causes.{return_code}
 use Rattle.q713_codec.specs.Messages.{octets3}
+use Rattle.q713_codec.specs.declared.longest.TheConstants.{LONGEST}
 use Rattle.connectionless.specs.declared.unitdata.Kind.TheVariants.{Extended}
 use Rattle.connectionless.specs.declared.given.GivenView.{GivenView}
+use Rattle.connectionless.specs.declared.outgoing.OutgoingUnit.{OutgoingUnit}
 use Rattle.connectionless.specs.Unitdata.{Unitdata, basic, with_hop}
 use Rattle.connectionless.specs.Leaving.{unit_octets}
 use Rattle.plant_core.specs.Rewriting.{called_onward}
@@ -63,54 +68,67 @@ pub record IsInRange (g : Given) : Type 0 where
   pub calling_size : length g.calling ≤ 40
   pub body_size : length g.body ≤ 2560
 
--- the lengths of a unit as it goes on to another point: its called address can have one octet more
-pub record IsShort (g : Given) (called : List ℕ) : Type 0 where
-  pub class : g.class ≤ 1
-  pub addresses : length called + length g.calling ≤ 81
-  pub body_size : length g.body ≤ 2560
+-- A unit that goes to another point: its called address as it goes on, the point, and the reference that its segments have.
+pub record Outgoing : Type 0 where
+  pub given : Given
+  pub called : List ℕ
+  pub point : ℕ
+  pub reference : ℕ
+
+abbrev pub seen_outgoing : OutgoingUnit → Outgoing
+seen_outgoing u = record { given = seen_given u.given.now; called = u.called.now; point = u.point; reference = u.reference }
+
+-- its lengths: its called address can have one octet more than that which was given
+pub record IsShort (u : Outgoing) : Type 0 where
+  pub class : u.given.class ≤ 1
+  pub addresses : length u.called + length u.given.calling ≤ 81
+  pub body_size : length u.given.body ≤ 2560
 
 -- bit 8 of the class octet
 abbrev pub return_bit : Bool → ℕ
 return_bit ret = if ret then 128 else 0
 
 -- the unit as one UDT
-abbrev pub whole : Given → List ℕ → Unitdata
-whole g called = basic false (g.class + return_bit g.ret) called g.calling g.body
+abbrev pub whole : Outgoing → Unitdata
+whole u = basic false (u.given.class + return_bit u.given.ret) u.called u.given.calling u.given.body
 
 -- it is cut into segments unless one UDT holds it
-abbrev pub is_cut : Given → List ℕ → Bool
-is_cut g called = not (nat_le (length g.body) 255 && nat_le (8 + length called + length g.calling + length g.body) 268)
+abbrev pub is_cut : Outgoing → Bool
+is_cut u =
+    not (nat_le (length u.given.body) 255
+    && nat_le (8 + length u.called + length u.given.calling + length u.given.body) LONGEST)
 
 -- the octets of data in a full segment, and how many segments there are
-abbrev pub segment_size : Given → List ℕ → ℕ
-segment_size g called = 251 - length called - length g.calling
+abbrev pub segment_size : Outgoing → ℕ
+segment_size u = 251 - length u.called - length u.given.calling
 
-abbrev pub segment_count : Given → List ℕ → ℕ
-segment_count g called = (length g.body + segment_size g called - 1) / segment_size g called
+abbrev pub segment_count : Outgoing → ℕ
+segment_count u = (length u.given.body + segment_size u - 1) / segment_size u
 
--- the first segment has bit 8; bit 7 is the class, and bits 4 to 1 tell how many segments remain
-abbrev pub segmentation_octets : Given → List ℕ → ℕ → ℕ → List ℕ
-segmentation_octets g called reference k =
-    ((if k == 0 then 128 else 0) + 64 * g.class + (segment_count g called - 1 - k)) ∷ octets3 reference
+-- the first segment has bit 8; bit 7 is the class, and bits 4 to 1 tell how many segments remain (Q.713, 3.17)
+abbrev pub segmentation_octets : Outgoing → ℕ → List ℕ
+segmentation_octets u k =
+    ((if k == 0 then 128 else 0) + 64 * u.given.class + (segment_count u - 1 - k)) ∷ octets3 u.reference
 
 -- the segment at place k, from 0: an XUDT of class 1
-abbrev pub segment : Given → List ℕ → ℕ → ℕ → Unitdata
-segment g called reference k =
-    with_hop Extended false (1 + return_bit g.ret) 15 called g.calling
-    (take (segment_size g called) (drop (segment_size g called * k) g.body))
-    (Some (segmentation_octets g called reference k)) None
+abbrev pub segment : Outgoing → ℕ → Unitdata
+segment u k =
+    with_hop Extended false (1 + return_bit u.given.ret) MOST_HOPS u.called u.given.calling
+    (take (segment_size u) (drop (segment_size u * k) u.given.body))
+    (Some (segmentation_octets u k)) None
 
-unfoldable pub segment_output : Given → List ℕ → ℕ → ℕ → ℕ → Output
-segment_output g called point reference k = Sent point g.sls (unit_octets (segment g called reference k))
+unfoldable pub segment_output : Outgoing → ℕ → Output
+segment_output u k = Sent u.point u.given.sls (unit_octets (segment u k))
 
-unfoldable pub whole_output : Given → List ℕ → ℕ → Output
-whole_output g called point = Sent point g.sls (unit_octets (whole g called))
+abbrev pub segment_outputs : Outgoing → List Output
+segment_outputs u = map (segment_output u) (range_with_len 0 (segment_count u))
 
--- the outputs of a unit that goes to a point
-unfoldable pub sent_outputs : Given → List ℕ → ℕ → ℕ → List Output
-sent_outputs g called point reference =
-    if is_cut g called then map (segment_output g called point reference) (range_with_len 0 (segment_count g called))
-    else whole_output g called point ∷ []
+unfoldable pub whole_output : Outgoing → Output
+whole_output u = Sent u.point u.given.sls (unit_octets (whole u))
+
+-- its outputs
+unfoldable pub sent_outputs : Outgoing → List Output
+sent_outputs u = if is_cut u then segment_outputs u else whole_output u ∷ []
 
 -- a refused one is told back where that was asked, with its addresses in exchange
 abbrev pub refused_by : Bool → ℕ → Given → Output
@@ -129,13 +147,18 @@ pub record Sending : Type 0 where
 abbrev pub uncut : Output → Sending
 uncut output = record { outs = output ∷ []; is_cut = false }
 
-abbrev pub sending_to : Given → List ℕ → ℕ → ℕ → Sending
-sending_to g called point reference = record { outs = sent_outputs g called point reference; is_cut = is_cut g called }
+abbrev pub sending : Outgoing → Sending
+sending u = record { outs = sent_outputs u; is_cut = is_cut u }
+
+-- the unit that goes on to a point with its called address rewritten
+abbrev pub outgoing : Given → ℕ → Rewrite → ℕ → Outgoing
+outgoing g point rewrite reference =
+    record { given = g; called = called_onward rewrite g.called; point = point; reference = reference }
 
 -- what comes of a user's unit by the answer to it, with the reference of its segments
 unfoldable pub given_outcome : Given → Answer → ℕ → Sending
 given_outcome g (Local ssn) reference = uncut (told_output ssn g)
-given_outcome g (Forward point rewrite hop) reference = sending_to g (called_onward rewrite g.called) point reference
+given_outcome g (Forward point rewrite hop) reference = sending (outgoing g point rewrite reference)
 given_outcome g (Refused cause local) reference = uncut (refused_by g.ret (return_code cause) g)
 
 -- the reference of the segments after so many units that were cut in this lane

@@ -1,9 +1,10 @@
--- What may leave the node (Q.713, lengths; Q.714, connectionless service).
+-- What may leave the node (Q.714, 4.1).
 use Rattle.std.specs.Prelude.{ℕ, ◌||◌, ◌&&◌, nat_le, Bool, true, false, List, length, if◌then◌else◌, Option, Some, None}
 use Rattle.relay_base.specs.declared.words.Output.{Output}
 use Rattle.relay_base.specs.declared.words.Output.TheVariants.{Sent}
 use Rattle.q713_codec.specs.declared.message.Message.{Message}
 use Rattle.q713_codec.specs.Writing.{spelling_of, is_in_range}
+use Rattle.q713_codec.specs.declared.longest.TheConstants.{LONGEST}
 use Rattle.connectionless.specs.declared.unitdata.Kind.{Kind}
 use Rattle.connectionless.specs.declared.unitdata.Kind.TheVariants.{Basic, Extended, Long}
 use Rattle.connectionless.specs.Unitdata.{Unitdata, message_of}
@@ -13,9 +14,9 @@ is_long Basic = false
 is_long Extended = false
 is_long Long = true
 
--- it can be written, and has at most 268 octets, unless it is a long one
+-- it can be written, and is no longer than a message may be that isn't a long one
 abbrev pub can_leave : Kind → Message → Bool
-can_leave kind message = is_in_range message && (is_long kind || nat_le (length (spelling_of message)) 268)
+can_leave kind message = is_in_range message && (is_long kind || nat_le (length (spelling_of message)) LONGEST)
 
 abbrev pub leaving_by : Kind → Message → Option (List ℕ)
 leaving_by kind message = if can_leave kind message then Some (spelling_of message) else None

@@ -1,4 +1,4 @@
--- The return of a unit (Q.714, return on error), and what else comes of a refusal.
+-- The return of a unit (Q.714, 4.2), and what else comes of a refusal.
 use Rattle.std.specs.Prelude.{ℕ, ◌==◌, ◌&&◌, nat_le, not, Bool, true, false, List, if◌then◌else◌, Option, Some, None, Ok, Err, unwrap_or}
 use Rattle.std.specs.declared.result.Result.{Result}
 use Rattle.relay_base.specs.declared.words.Output.{Output}
@@ -7,14 +7,15 @@ use Rattle.relay_base.specs.declared.words.Lost.TheVariants.{Cause}
 use Rattle.sccp_address.specs.Form.{Form}
 use Rattle.sccp_address.specs.Parsing.{address_of}
 use Rattle.sccp_address.specs.declared.address.AddressFault.{AddressFault}
+use Rattle.plant_core.specs.declared.answer.TheConstants.{MOST_HOPS}
 use Rattle.reassembly.specs.declared.piece.Piece.{Piece}
 use Rattle.connectionless.specs.declared.unitdata.Kind.TheVariants.{Extended}
 use Rattle.connectionless.specs.Unitdata.{Unitdata, with_hop}
 use Rattle.connectionless.specs.Leaving.{leaving_octets, sent_or}
 
--- Called and calling change places, the cause stands in the place of the class octet, and the hop counter is 15.
+-- Called and calling change places, the cause stands in the place of the class octet, and the hop counter begins anew.
 abbrev pub returned : ℕ → Unitdata → Unitdata
-returned cause x = record x { is_service = true; first = cause; hop = Some 15; called = x.calling; calling = x.called }
+returned cause x = record x { is_service = true; first = cause; hop = Some MOST_HOPS; called = x.calling; calling = x.called }
 
 -- the point that an address names, where it routes on its subsystem number and the point isn't the own one
 abbrev pub point_named : ℕ → Form → Option ℕ
@@ -44,4 +45,4 @@ refusal_output own opc sls cause x =
 
 -- the unit that a segment is
 abbrev pub unit_in : Piece → Unitdata
-unit_in p = with_hop Extended false p.class_octet 15 p.called p.calling p.body (Some p.segmentation) p.importance
+unit_in p = with_hop Extended false p.class_octet MOST_HOPS p.called p.calling p.body (Some p.segmentation) p.importance

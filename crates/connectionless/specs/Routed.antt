@@ -1,6 +1,7 @@
--- What comes of a unit once routing has answered (Q.714, connectionless service).
+-- What comes of a unit once routing has answered (Q.714, 4.1).
 use Rattle.std.specs.Prelude.{ℕ, ◌&&◌, is_none, Bool, true, false, List, [], ◌∷◌, if◌then◌else◌, Option, Some, None, Ok, Err, IsSome, IfSome, IsOk}
 use Rattle.std.specs.declared.result.Result.{Result}
+use Rattle.relay_base.specs.declared.causes.TheConstants.{RETURN_UNQUALIFIED}
 use Rattle.relay_base.specs.declared.words.Output.{Output}
 use Rattle.relay_base.specs.declared.words.Output.TheVariants.{Told}
 use Rattle.relay_base.specs.declared.words.Tell.{Tell}
@@ -85,10 +86,10 @@ abbrev pub forwarded : ℕ → Rewrite → Option ℕ → Unitdata → Unitdata
 forwarded opc rewrite hop x =
     record x { called = called_onward rewrite x.called; calling = calling_by x.is_service opc x.calling; hop = hop }
 
--- where it can't leave, it is as if refused with cause 7
+-- where it can't leave, it is as if refused, unqualified
 unfoldable pub forward_output : ℕ → ℕ → ℕ → ℕ → Rewrite → Option ℕ → Unitdata → Output
 forward_output own opc sls point rewrite hop x =
-    sent_or point sls (refusal_output own opc sls 0x07 x) (leaving_octets (forwarded opc rewrite hop x))
+    sent_or point sls (refusal_output own opc sls RETURN_UNQUALIFIED x) (leaving_octets (forwarded opc rewrite hop x))
 
 -- what comes of a unit by the answer to it
 unfoldable pub unit_outcome : ℕ → ℕ → ℕ → Unitdata → Answer → Outcome

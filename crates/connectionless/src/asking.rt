@@ -1,4 +1,4 @@
-//! What a unit asks of routing, or why it is lost (Q.714, connectionless service).
+//! What a unit asks of routing, or why it is lost (Q.714, 4.1).
 ghost use Rattle.std.specs.Prelude.{◌≡◌, is_some, IfOk, IsOk, OnOk, OnSome};
 ghost use Rattle.std.specs.Option.{option_map};
 ghost use Rattle.relay_base.specs.Giving.{Gives};

@@ -48,7 +48,7 @@ fn segment_of(
     unit: &UnitView<'_>,
     segmentation: [u8; 4],
 ) -> Result<Segment, Memory>
-    ensures { IfOk result (λ segment. segment ≡ segment_of opc sls (seen_unit unit.now) segmentation) }
+    ensures { IfOk result (λ x. x ≡ segment_of opc sls (seen_unit unit.now) segmentation) }
 {
     Ok(Segment {
         opc,
@@ -71,7 +71,8 @@ pub fn deliver(
     ssn: Ssn,
     unit: &UnitView<'_>,
 ) -> Result<(Outs, Next), Memory>
-    ensures { IfOk result (λ x. record { outs = x.0; next = x.1 } ≡ delivery opc sls ssn (seen_unit unit.now)) }
+    ensures { let outcome = delivery opc sls ssn (seen_unit unit.now)
+        in IfOk result (λ x. record { outs = x.0; next = x.1 } ≡ outcome) }
 {
     let mut outs = Outs::new(alloc);
     if let Some(segmentation) = segmentation_of(unit) {

@@ -9,12 +9,10 @@ use crate::leaving::leaving_octets;
 use crate::returning::refusal_output;
 use crate::unitdata::UnitView;
 use plant_core::{Rewrite, called_onward};
+use relay_base::causes::RETURN_UNQUALIFIED;
 use relay_base::{Memory, Octets, Output, Pc, Sls};
 use sccp_address::{Address, parse, spell};
 use std::alloc::Global;
-
-/// The return cause for what can't be sent on.
-const UNQUALIFIED: u8 = 7;
 
 /// The octets of a calling address, with the point of the origin where it routes on its subsystem number and names none.
 #[tactic(auto, unfolding(crate::specs::Routed::calling_with_origin))]
@@ -34,7 +32,7 @@ fn calling_with_origin(alloc: Global, opc: Pc, calling: &[u8]) -> Result<Octets,
 }
 
 fn calling_onward(alloc: Global, opc: Pc, unit: &UnitView<'_>) -> Result<Octets, Memory>
-    ensures { IfOk result (λ octets. octets ≡ calling_by unit.now.is_service opc unit.now.calling.now) }
+    ensures { IfOk result (λ x. x ≡ calling_by unit.now.is_service opc unit.now.calling.now) }
 {
     if unit.is_service {
         Octets::from_slice(alloc, unit.calling)
@@ -62,7 +60,9 @@ pub fn forward_output(
     onward: &Onward<'_>,
 ) -> Result<Output, Memory>
     requires { IsOk (address_of unit.now.called.now) }
-    ensures { IfOk result (λ output. output ≡ forward_output own opc sls onward.now.point onward.now.rewrite.now onward.now.hop (seen_unit unit.now)) }
+    ensures { let to = onward.now in
+        let output = forward_output own opc sls to.point to.rewrite.now to.hop (seen_unit unit.now)
+        in IfOk result (λ x. x ≡ output) }
 {
     let called = called_onward(alloc, unit.called, onward.rewrite)?;
     let calling = calling_onward(alloc, opc, unit)?;
@@ -78,6 +78,6 @@ pub fn forward_output(
             sls,
             bytes,
         }),
-        None => refusal_output(alloc, own, opc, sls, UNQUALIFIED, unit),
+        None => refusal_output(alloc, own, opc, sls, RETURN_UNQUALIFIED, unit),
     }
 }

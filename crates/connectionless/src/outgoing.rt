@@ -1,11 +1,11 @@
-//! A user's unit that goes to another point, as one UDT or cut into segments (Q.714, segmenting).
-ghost use Rattle.std.specs.Prelude.{◌≡◌, ◌≤◌, ◌<◌, false, length, take, drop, map, IfOk};
-ghost use Rattle.std.specs.List.{range_with_len};
-ghost use Rattle.connectionless.specs.Given.{seen_given, IsShort, return_bit, is_cut, segment_size, segment_count, segmentation_octets, whole_output, segment_output, sending_to};
+//! A user's unit that goes to another point, as one UDT or cut into segments (Q.714, 4.1.1).
+ghost use Rattle.std.specs.Prelude.{◌≡◌, ◌≤◌, ◌<◌, false, length, take, drop, IfOk};
+ghost use Rattle.connectionless.specs.Given.{seen_outgoing, IsShort, return_bit, is_cut, segment_size, segment_count, segmentation_octets, whole_output, segment_output, segment_outputs, sent_outputs};
 
 use crate::given::GivenView;
 use crate::leaving::octets_of;
 use crate::unitdata::{Kind, UnitView};
+use plant_core::MOST_HOPS;
 use q713_codec::LONGEST;
 use relay_base::{Memory, Output, Outs, Pc, Ref24};
 use std::alloc::Global;
@@ -37,8 +37,8 @@ fn part(body: &[u8], start: usize, size: usize) -> &[u8]
 impl OutgoingUnit<'_> {
     /// Whether it is cut into segments.
     fn is_cut(&self) -> bool
-        requires { IsShort (seen_given self.now.given.now) self.now.called.now }
-        ensures { result ≡ is_cut (seen_given self.now.given.now) self.now.called.now }
+        requires { IsShort (seen_outgoing self.now) }
+        ensures { result ≡ is_cut (seen_outgoing self.now) }
     {
         let given = self.given;
         let size = 8 + self.called.len() + given.calling.len() + given.body.len();
@@ -47,8 +47,8 @@ impl OutgoingUnit<'_> {
 
     /// The octets of data in a full segment.
     fn segment_size(&self) -> usize
-        requires { IsShort (seen_given self.now.given.now) self.now.called.now }
-        ensures value { result ≡ segment_size (seen_given self.now.given.now) self.now.called.now }
+        requires { IsShort (seen_outgoing self.now) }
+        ensures value { result ≡ segment_size (seen_outgoing self.now) }
         ensures least { 170 ≤ result }
     {
         251 - self.called.len() - self.given.calling.len()
@@ -56,8 +56,8 @@ impl OutgoingUnit<'_> {
 
     /// How many segments there are.
     fn segment_count(&self) -> usize
-        requires { IsShort (seen_given self.now.given.now) self.now.called.now }
-        ensures value { result ≡ segment_count (seen_given self.now.given.now) self.now.called.now }
+        requires { IsShort (seen_outgoing self.now) }
+        ensures value { result ≡ segment_count (seen_outgoing self.now) }
         ensures most { result ≤ 16 }
     {
         let size = self.segment_size();
@@ -66,9 +66,9 @@ impl OutgoingUnit<'_> {
 
     /// The segmentation of the segment at a place, from 0.
     fn segmentation(&self, place: usize) -> [u8; 4]
-        requires short { IsShort (seen_given self.now.given.now) self.now.called.now }
-        requires place { place < segment_count (seen_given self.now.given.now) self.now.called.now }
-        ensures { result ≡ segmentation_octets (seen_given self.now.given.now) self.now.called.now self.now.reference place }
+        requires short { IsShort (seen_outgoing self.now) }
+        requires place { place < segment_count (seen_outgoing self.now) }
+        ensures { result ≡ segmentation_octets (seen_outgoing self.now) place }
     {
         let first_bit = if place == 0 { 0x80 } else { 0 };
         let remaining = (self.segment_count() - 1 - place) as u8;
@@ -84,9 +84,9 @@ impl OutgoingUnit<'_> {
     /// The segment at a place, from 0.
     #[tactic(auto, unfolding(crate::specs::Given::segment_output))]
     fn segment(&self, alloc: Global, place: usize) -> Result<Output, Memory>
-        requires short { IsShort (seen_given self.now.given.now) self.now.called.now }
-        requires place { place < segment_count (seen_given self.now.given.now) self.now.called.now }
-        ensures { IfOk result (λ output. output ≡ segment_output (seen_given self.now.given.now) self.now.called.now self.now.point self.now.reference place) }
+        requires short { IsShort (seen_outgoing self.now) }
+        requires place { place < segment_count (seen_outgoing self.now) }
+        ensures { IfOk result (λ output. output ≡ segment_output (seen_outgoing self.now) place) }
     {
         let given = self.given;
         let size = self.segment_size();
@@ -94,7 +94,7 @@ impl OutgoingUnit<'_> {
             kind: Kind::Extended,
             is_service: false,
             first: 1 + return_bit(given.ret),
-            hop: Some(15),
+            hop: Some(MOST_HOPS),
             called: self.called,
             calling: given.calling,
             body: part(given.body, size * place, size),
@@ -110,8 +110,8 @@ impl OutgoingUnit<'_> {
 
     /// All segments, in their order.
     fn segments(&self, alloc: Global) -> Result<Outs, Memory>
-        requires { IsShort (seen_given self.now.given.now) self.now.called.now }
-        ensures { IfOk result (λ outs. outs ≡ map (segment_output (seen_given self.now.given.now) self.now.called.now self.now.point self.now.reference) (range_with_len 0 (segment_count (seen_given self.now.given.now) self.now.called.now))) }
+        requires { IsShort (seen_outgoing self.now) }
+        ensures { IfOk result (λ outs. outs ≡ segment_outputs (seen_outgoing self.now)) }
     {
         let mut outs = Outs::new(alloc);
         for place in 0..self.segment_count() {
@@ -123,9 +123,9 @@ impl OutgoingUnit<'_> {
     /// The unit as one UDT.
     #[tactic(auto, unfolding(crate::specs::Given::whole_output))]
     fn whole(&self, alloc: Global) -> Result<Output, Memory>
-        requires short { IsShort (seen_given self.now.given.now) self.now.called.now }
-        requires uncut { is_cut (seen_given self.now.given.now) self.now.called.now ≡ false }
-        ensures { IfOk result (λ output. output ≡ whole_output (seen_given self.now.given.now) self.now.called.now self.now.point) }
+        requires short { IsShort (seen_outgoing self.now) }
+        requires uncut { is_cut (seen_outgoing self.now) ≡ false }
+        ensures { IfOk result (λ output. output ≡ whole_output (seen_outgoing self.now)) }
     {
         let given = self.given;
         let unit = UnitView {
@@ -149,8 +149,9 @@ impl OutgoingUnit<'_> {
     /// What leaves, and whether it was cut into segments.
     #[tactic(auto, unfolding(crate::specs::Given::sent_outputs))]
     pub fn sending(&self, alloc: Global) -> Result<(Outs, bool), Memory>
-        requires { IsShort (seen_given self.now.given.now) self.now.called.now }
-        ensures { IfOk result (λ x. record { outs = x.0; is_cut = x.1 } ≡ sending_to (seen_given self.now.given.now) self.now.called.now self.now.point self.now.reference) }
+        requires { IsShort (seen_outgoing self.now) }
+        ensures outs { IfOk result (λ x. x.0 ≡ sent_outputs (seen_outgoing self.now)) }
+        ensures cut { IfOk result (λ x. x.1 ≡ is_cut (seen_outgoing self.now)) }
     {
         if self.is_cut() {
             return Ok((self.segments(alloc)?, true));

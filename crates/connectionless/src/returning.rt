@@ -1,10 +1,11 @@
-//! The return of a unit, and what else comes of a refusal (Q.714, return on error).
+//! The return of a unit, and what else comes of a refusal (Q.714, 4.2).
 ghost use Rattle.std.specs.Prelude.{◌≡◌, ◌++◌, ◌∷◌, [], IfOk, OnOk, OnErr};
 ghost use Rattle.connectionless.specs.Unitdata.{seen_unit};
 ghost use Rattle.connectionless.specs.Returning.{return_point, return_output, asks_return, refusal_output, unit_in};
 
 use crate::leaving::leaving_octets;
 use crate::unitdata::{Kind, UnitView};
+use plant_core::MOST_HOPS;
 use reassembly::Piece;
 use relay_base::{Lost, Memory, Output, Outs, Pc, Sls};
 use sccp_address::parse;
@@ -33,12 +34,12 @@ fn return_output(
     cause: u8,
     unit: &UnitView<'_>,
 ) -> Result<Output, Memory>
-    ensures { IfOk result (λ output. output ≡ return_output own opc sls cause (seen_unit unit.now)) }
+    ensures { IfOk result (λ x. x ≡ return_output own opc sls cause (seen_unit unit.now)) }
 {
     let returned = UnitView {
         is_service: true,
         first: cause,
-        hop: Some(15),
+        hop: Some(MOST_HOPS),
         called: unit.calling,
         calling: unit.called,
         ..*unit
@@ -69,7 +70,7 @@ pub fn refusal_output(
     cause: u8,
     unit: &UnitView<'_>,
 ) -> Result<Output, Memory>
-    ensures { IfOk result (λ output. output ≡ refusal_output own opc sls cause (seen_unit unit.now)) }
+    ensures { IfOk result (λ x. x ≡ refusal_output own opc sls cause (seen_unit unit.now)) }
 {
     if !asks_return(unit) {
         return Ok(Output::Lost(Lost::Cause(cause)));
@@ -86,14 +87,16 @@ pub fn return_outs(
     cause: u8,
     outs: &mut Outs,
 ) -> Result<(), Memory>
-    ensures ok { OnOk result (outs.new ≡ outs.old ++ refusal_output own piece.now.opc piece.now.sls cause (unit_in piece.now) ∷ []) }
+    ensures ok { let p = piece.now in
+        let output = refusal_output own p.opc p.sls cause (unit_in p)
+        in OnOk result (outs.new ≡ outs.old ++ output ∷ []) }
     ensures err { OnErr result (outs.new ≡ outs.old) }
 {
     let unit = UnitView {
         kind: Kind::Extended,
         is_service: false,
         first: piece.class_octet,
-        hop: Some(15),
+        hop: Some(MOST_HOPS),
         called: piece.called.as_slice(),
         calling: piece.calling.as_slice(),
         body: piece.body.as_slice(),

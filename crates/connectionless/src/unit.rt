@@ -27,7 +27,8 @@ fn outcome(
     answer: &Answer,
 ) -> Result<(Outs, Next), Memory>
     requires { IsOk (address_of unit.now.called.now) }
-    ensures { IfOk result (λ x. record { outs = x.0; next = x.1 } ≡ unit_outcome own opc sls (seen_unit unit.now) answer.now) }
+    ensures { let outcome = unit_outcome own opc sls (seen_unit unit.now) answer.now
+        in IfOk result (λ x. record { outs = x.0; next = x.1 } ≡ outcome) }
 {
     let mut outs = Outs::new(alloc);
     match answer {
@@ -66,8 +67,10 @@ pub fn unit_outs(
     outs: &mut Outs,
 ) -> Result<Next, Memory>
     requires { IsRoutable (seen view.now) }
-    ensures ok { OnOk result (outs.new ≡ outs.old ++ (outcome_of own opc sls (unitdata_of (seen view.now)) answer.now).outs) }
-    ensures next { IfOk result (λ next. next ≡ (outcome_of own opc sls (unitdata_of (seen view.now)) answer.now).next) }
+    ensures ok { let outcome = outcome_of own opc sls (unitdata_of (seen view.now)) answer.now
+        in OnOk result (outs.new ≡ outs.old ++ outcome.outs) }
+    ensures next { let outcome = outcome_of own opc sls (unitdata_of (seen view.now)) answer.now
+        in IfOk result (λ next. next ≡ outcome.next) }
     ensures err { OnErr result (outs.new ≡ outs.old) }
 {
     let Some(unit) = unit_of(view) else {

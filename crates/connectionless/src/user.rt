@@ -1,7 +1,6 @@
 //! What comes of a unit that a user gives.
 ghost use Rattle.std.specs.Prelude.{◌≡◌, ◌++◌, IfOk, IsTrue, OnOk, OnErr};
-ghost use Rattle.plant_core.specs.Rewriting.{called_onward};
-ghost use Rattle.connectionless.specs.Given.{is_unit_request, given_of, given_outcome, refused_by, sending_of, sending_to, told_output, reference_after, seen_given, IsInRange};
+ghost use Rattle.connectionless.specs.Given.{is_unit_request, given_of, given_outcome, refused_by, sending_of, sending, outgoing, told_output, reference_after, seen_given, IsInRange};
 
 use crate::given::{GivenView, given_in};
 use crate::outgoing::OutgoingUnit;
@@ -25,7 +24,7 @@ fn told(alloc: Global, ssn: Ssn, given: &GivenView<'_>) -> Result<Output, Memory
 
 /// What comes of a refused unit: a notice to its user where that asked for return, with the addresses in exchange.
 fn refused(alloc: Global, cause: u8, given: &GivenView<'_>) -> Result<Output, Memory>
-    ensures { IfOk result (λ output. output ≡ refused_by given.now.ret cause (seen_given given.now)) }
+    ensures { IfOk result (λ x. x ≡ refused_by given.now.ret cause (seen_given given.now)) }
 {
     if !given.ret {
         return Ok(Output::Lost(Lost::Cause(cause)));
@@ -51,7 +50,8 @@ fn sent(
     reference: Ref24,
 ) -> Result<(Outs, bool), Memory>
     requires { IsInRange (seen_given given.now) }
-    ensures { IfOk result (λ x. record { outs = x.0; is_cut = x.1 } ≡ sending_to (seen_given given.now) (called_onward rewrite.now given.now.called.now) point reference) }
+    ensures { let unit = outgoing (seen_given given.now) point rewrite.now reference
+        in IfOk result (λ x. record { outs = x.0; is_cut = x.1 } ≡ sending unit) }
 {
     let called = called_onward(alloc, given.called, rewrite)?;
     let outgoing = OutgoingUnit {
@@ -72,7 +72,8 @@ fn outcome(
     reference: Ref24,
 ) -> Result<(Outs, bool), Memory>
     requires { IsInRange (seen_given given.now) }
-    ensures { IfOk result (λ x. record { outs = x.0; is_cut = x.1 } ≡ given_outcome (seen_given given.now) answer.now reference) }
+    ensures { let outcome = given_outcome (seen_given given.now) answer.now reference
+        in IfOk result (λ x. record { outs = x.0; is_cut = x.1 } ≡ outcome) }
 {
     let output = match answer {
         Answer::Local(ssn) => told(alloc, *ssn, given)?,
@@ -110,8 +111,10 @@ pub fn user_outs(
     outs: &mut Outs,
 ) -> Result<bool, Memory>
     requires { IsTrue (is_unit_request request.now) }
-    ensures ok { OnOk result (outs.new ≡ outs.old ++ (sending_of (given_of ssn request.now) answer.now (reference_after lane count)).outs) }
-    ensures cut { IfOk result (λ cut. cut ≡ (sending_of (given_of ssn request.now) answer.now (reference_after lane count)).is_cut) }
+    ensures ok { let sending = sending_of (given_of ssn request.now) answer.now (reference_after lane count)
+        in OnOk result (outs.new ≡ outs.old ++ sending.outs) }
+    ensures cut { let sending = sending_of (given_of ssn request.now) answer.now (reference_after lane count)
+        in IfOk result (λ cut. cut ≡ sending.is_cut) }
     ensures err { OnErr result (outs.new ≡ outs.old) }
 {
     let own = subsystem_address(ssn);

@@ -7,6 +7,6 @@ pub octets_of-requires : goal.octets_of-requires
 unfolding message_of
 octets_of-requires c =
     let given = c.args.self.now.given.now in
-    segment-in_range _ 15 c.args.self.now.called.now given.calling.now _ _
+    segment-in_range _ _ c.args.self.now.called.now given.calling.now _ _
     (omega (arith, length-part c.segment_size-size.result (c.segment_size-size.result * c.args.place) given.body.now c.part.result.now c.part.ensures, c.segment_size-size.ensures.value))
     (ap length c.segmentation.ensures)

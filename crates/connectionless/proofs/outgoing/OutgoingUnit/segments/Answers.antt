@@ -1,10 +1,10 @@
 use Rattle.std.proofs.Common.{arith}
 use Rattle.std.proofs.lemmas.List.FromFn.{map-range_with_len_more}
-use Rattle.connectionless.specs.Given.{seen_given, segment_output}
+use Rattle.connectionless.specs.Given.{seen_outgoing, segment_output}
 use Rattle.connectionless.proofs.outgoing.OutgoingUnit.segments.Goals as goal
 
 pub loop-place-preserved : goal.loop-place-preserved
 loop-place-preserved c =
     let unit = c.args.self.now in
-    let more = map-range_with_len_more (segment_output (seen_given unit.given.now) unit.called.now unit.point unit.reference) 0 c.loop-place.place c.loop-place.place (omega arith) in
+    let more = map-range_with_len_more (segment_output (seen_outgoing unit)) 0 c.loop-place.place c.loop-place.place (omega arith) in
     cc (c.in_ok-push.ensures.ok, c.in_ok-segment.ensures, c.loop-place.invariant, more)

@@ -1,8 +1,8 @@
 use Rattle.std.proofs.Common.{◌≡◌, map}
 use Rattle.std.specs.List.{range_with_len}
-use Rattle.connectionless.specs.Given.{seen_given, segment_output}
+use Rattle.connectionless.specs.Given.{seen_outgoing, segment_output}
 use Rattle.connectionless.proofs.outgoing.OutgoingUnit.segments.Given as goal
 
 abbrev pub invariant-loop-place : goal.invariant-loop-place
 invariant-loop-place l =
-    l.outs ≡ map (segment_output (seen_given l.self.given.now) l.self.called.now l.self.point l.self.reference) (range_with_len 0 l.place)
+    l.outs ≡ map (segment_output (seen_outgoing l.self)) (range_with_len 0 l.place)
