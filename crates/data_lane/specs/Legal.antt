@@ -1,5 +1,6 @@
 -- A legal data journal: what each event asks of routing, and what comes of it by the answer and by what the entries before it left.
 use Rattle.std.specs.Prelude.{◌≡◌, ℕ, ◌+◌, ◌/◌, ◌%◌, ◌==◌, Bool, true, false, List, [], ◌∷◌, ◌++◌, map, slice_index, if◌then◌else◌, Option, Some, None, is_some}
+use Rattle.relay_base.specs.declared.causes.TheConstants.{RETURN_SEGMENTATION_FAILURE, RETURN_LOCAL_PROCESSING}
 use Rattle.relay_base.specs.declared.words.Event.{Event}
 use Rattle.relay_base.specs.declared.words.Stamp.{Stamp}
 use Rattle.relay_base.specs.declared.words.Output.{Output}
@@ -76,14 +77,14 @@ effect_by head number cut of_tick answer = effect_with [] work.Tick
 effect_by head number cut (from_network opc sls message q) None = effect_with [] work.Nothing
 effect_by head number cut (from_user ssn request q) None = effect_with [] work.Nothing
 
--- What comes of the reassemblies (Q.714): a failed one is returned with cause 0E hex, and one without room with cause 9.
+-- What comes of the reassemblies (Q.714, 4.1.1): a failed one is returned, and so is one without room.
 
 abbrev pub failure : ℕ → ℕ → Piece → Output
 failure own cause p = refusal_output own p.opc p.sls cause (unit_in p)
 
 abbrev pub failures : ℕ → Option Piece → List Output
 failures own None = []
-failures own (Some p) = failure own 0x0E p ∷ []
+failures own (Some p) = failure own RETURN_SEGMENTATION_FAILURE p ∷ []
 
 -- bit 7 of the segmentation's first octet
 abbrev pub class_bit : Piece → ℕ
@@ -97,7 +98,7 @@ abbrev pub of_now : ℕ → Now → List Output
 of_now own Waiting = []
 of_now own Orphan = Dropped SegmentLost ∷ []
 of_now own Broken = Dropped SegmentLost ∷ []
-of_now own (NoRoom p) = failure own 0x09 p ∷ []
+of_now own (NoRoom p) = failure own RETURN_LOCAL_PROCESSING p ∷ []
 of_now own (Whole p) = whole_told p ∷ []
 
 abbrev pub is_no_room : Now → Bool
@@ -122,7 +123,7 @@ ticks_of head = if head.reassembly == 0 then 1 else head.reassembly
 abbrev pub worked : ℕ → ℕ → List Process → Work → Worked
 worked own ticks processes work.Nothing = record { processes = processes; outs = [] }
 worked own ticks processes (work.Segment piece) = of_taken own (takes ticks processes piece)
-worked own ticks processes work.Tick = record { processes = after_tick processes; outs = map (failure own 0x0E) (ended_by_tick processes) }
+worked own ticks processes work.Tick = record { processes = after_tick processes; outs = map (failure own RETURN_SEGMENTATION_FAILURE) (ended_by_tick processes) }
 
 -- What the entries before leave: how many of them cut a user's unit into segments, and the reassemblies under way.
 pub record State : Type 0 where
@@ -177,7 +178,7 @@ pub record LaneState : Type 0 where
   pub journal : List Entry
 
 -- an event was taken with these routing data: the journal has one entry more
-pub record Takes (plant : PlantState) (stamp : Stamp) (e : Event) (old new : LaneState) : Type 0 where
+pub record AddsEntry (plant : PlantState) (stamp : Stamp) (e : Event) (old new : LaneState) : Type 0 where
   pub entry : Entry
   pub journal : new.journal ≡ old.journal ++ entry ∷ []
   pub stamped : entry.stamp ≡ stamp

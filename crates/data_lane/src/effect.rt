@@ -2,10 +2,10 @@
 ghost use Rattle.std.specs.Prelude.{◌≡◌, [], ◌∷◌, IfOk};
 ghost use Rattle.relay_base.specs.declared.words.Output.TheVariants.{Lost as Dropped};
 ghost use Rattle.q713_codec.specs.Reading.{seen};
-ghost use Rattle.connectionless.specs.Asking.{Matter, matter_by_question, matter_by_message, matter_by_request, message_question, message_in, user_question, question_in, matter_of};
-ghost use Rattle.plant_core.specs.Asking.{asked_at, answer_in};
+ghost use Rattle.connectionless.specs.Asking.{matter_by_question, matter_by_message, matter_by_request, message_question, message_in, user_question, question_in, matter_of};
 ghost use Rattle.data_lane.specs.declared.effect.Work.TheVariants as work;
-ghost use Rattle.data_lane.specs.Legal.{asked_of, piece_of, work_of, effect_with, effect_by};
+ghost use Rattle.data_lane.specs.Legal.{asked_of, piece_of, work_of, effect_with};
+ghost use Rattle.data_lane.specs.Lane.{asked_in, effect_in};
 
 use connectionless::{Next, Segment, message_ask, message_in, unit_outs, user_ask, user_outs};
 use plant_core::{Asked, LaneHead, Plant};
@@ -93,8 +93,10 @@ pub struct Context<'a> {
 impl Context<'_> {
     /// What comes of a message that was read.
     fn read(&self, opc: Pc, sls: Sls, view: &View<'_>) -> Result<(Option<Asked>, Effect), Memory>
-        ensures asked { IfOk result (λ x. x.0 ≡ asked_at self.now.plant.now.edition self.now.plant.now.routing (question_in (matter_by_question opc sls (seen view.now) (message_question (seen view.now))))) }
-        ensures effect { IfOk result (λ x. x.1 ≡ effect_by self.now.head self.now.number self.now.cut (matter_by_question opc sls (seen view.now) (message_question (seen view.now))) (answer_in x.0)) }
+        ensures asked { let matter = matter_by_question opc sls (seen view.now) (message_question (seen view.now))
+            in IfOk result (λ x. x.0 ≡ asked_in self.now (question_in matter)) }
+        ensures effect { let matter = matter_by_question opc sls (seen view.now) (message_question (seen view.now))
+            in IfOk result (λ x. x.1 ≡ effect_in self.now matter x.0) }
     {
         let ask = match message_ask(view) {
             Err(lost) => return Ok((None, Effect::of_lost(self.alloc, lost)?)),
@@ -110,8 +112,10 @@ impl Context<'_> {
 
     /// What comes of octets from the network.
     fn message(&self, opc: Pc, sls: Sls, bytes: &[u8]) -> Result<(Option<Asked>, Effect), Memory>
-        ensures asked { IfOk result (λ x. x.0 ≡ asked_at self.now.plant.now.edition self.now.plant.now.routing (question_in (matter_by_message opc sls (message_in bytes.now)))) }
-        ensures effect { IfOk result (λ x. x.1 ≡ effect_by self.now.head self.now.number self.now.cut (matter_by_message opc sls (message_in bytes.now)) (answer_in x.0)) }
+        ensures asked { let matter = matter_by_message opc sls (message_in bytes.now)
+            in IfOk result (λ x. x.0 ≡ asked_in self.now (question_in matter)) }
+        ensures effect { let matter = matter_by_message opc sls (message_in bytes.now)
+            in IfOk result (λ x. x.1 ≡ effect_in self.now matter x.0) }
     {
         match message_in(bytes) {
             Ok(view) => self.read(opc, sls, &view),
@@ -121,8 +125,10 @@ impl Context<'_> {
 
     /// What comes of a user's request.
     fn request(&self, ssn: Ssn, request: &Request) -> Result<(Option<Asked>, Effect), Memory>
-        ensures asked { IfOk result (λ x. x.0 ≡ asked_at self.now.plant.now.edition self.now.plant.now.routing (question_in (matter_by_request ssn request.now (user_question request.now)))) }
-        ensures effect { IfOk result (λ x. x.1 ≡ effect_by self.now.head self.now.number self.now.cut (matter_by_request ssn request.now (user_question request.now)) (answer_in x.0)) }
+        ensures asked { let matter = matter_by_request ssn request.now (user_question request.now)
+            in IfOk result (λ x. x.0 ≡ asked_in self.now (question_in matter)) }
+        ensures effect { let matter = matter_by_request ssn request.now (user_question request.now)
+            in IfOk result (λ x. x.1 ≡ effect_in self.now matter x.0) }
     {
         let mut outs = Outs::new(self.alloc);
         let Some(ask) = user_ask(request) else {
@@ -150,7 +156,8 @@ impl Context<'_> {
     #[tactic(auto, unfolding(connectionless::specs::Asking::matter_of))]
     pub fn effect_of(&self, event: &Event) -> Result<(Option<Asked>, Effect), Memory>
         ensures asked { IfOk result (λ x. x.0 ≡ asked_of self.now.plant.now event.now) }
-        ensures effect { IfOk result (λ x. x.1 ≡ effect_by self.now.head self.now.number self.now.cut (matter_of event.now) (answer_in x.0)) }
+        ensures effect { let matter = matter_of event.now
+            in IfOk result (λ x. x.1 ≡ effect_in self.now matter x.0) }
     {
         match event {
             Event::Message { opc, sls, bytes } => self.message(*opc, *sls, bytes.as_slice()),

@@ -1,4 +1,4 @@
-//! The reassemblies' part in what comes of an event (Q.714).
+//! The reassemblies' part in what comes of an event (Q.714, 4.1.1).
 ghost use Rattle.std.specs.Prelude.{◌≡◌, ◌++◌, ◌≤◌, ◌+◌, true, map, take, length, vec_len, vec_capacity, IfOk, OnOk, OnErr};
 ghost use Rattle.reassembly.specs.Laws.{IsWithinBounds};
 ghost use Rattle.reassembly.specs.Reassembly.{takes, ended_by_tick, after_tick};
@@ -8,13 +8,9 @@ use crate::effect::Work;
 use connectionless::return_outs;
 use plant_core::LaneHead;
 use reassembly::{Bench, Now, Piece};
+use relay_base::causes::{RETURN_LOCAL_PROCESSING, RETURN_SEGMENTATION_FAILURE};
 use relay_base::{BoxedOctets, Lost, Memory, Octets, Output, Outs, Pc, Tell};
 use std::alloc::Global;
-
-/// The return causes of a reassembly that failed, and of one without room (Q.713).
-const FAILED: u8 = 0x0E;
-
-const NO_ROOM: u8 = 0x09;
 
 /// Room for what a user is told of a message: its octets take no more memory then.
 #[derive(Drop)]
@@ -60,12 +56,13 @@ fn put_ended(
     piece: &Piece,
     outs: &mut Outs,
 ) -> Result<(), Memory>
-    ensures { OnOk result (outs.new ≡ outs.old ++ failures own (takes bench.now.ticks bench.now.processes piece.now).1.failed) }
+    ensures { let after = takes bench.now.ticks bench.now.processes piece.now
+        in OnOk result (outs.new ≡ outs.old ++ failures own after.1.failed) }
 {
     let Some(first) = bench.ending(piece) else {
         return Ok(());
     };
-    return_outs(alloc, own, first, FAILED, outs)
+    return_outs(alloc, own, first, RETURN_SEGMENTATION_FAILURE, outs)
 }
 
 /// Puts what comes of a segment at the end, where there is room for one output. Only the return of one without room can lack memory.
@@ -84,7 +81,7 @@ fn put_now(
         Now::Waiting => return Ok(Outs::from(outs)),
         Now::NoRoom(piece) => {
             let mut outs = Outs::from(outs);
-            return_outs(alloc, own, &piece, NO_ROOM, &mut outs)?;
+            return_outs(alloc, own, &piece, RETURN_LOCAL_PROCESSING, &mut outs)?;
             return Ok(outs);
         }
         Now::Orphan | Now::Broken => Output::Lost(Lost::Segment),
@@ -103,8 +100,10 @@ fn take(
     mut outs: Outs,
 ) -> Result<Outs, Memory>
     requires { IsWithinBounds bench.old.processes }
-    ensures outs { IfOk result (λ all. all ≡ outs ++ (of_taken own (takes bench.old.ticks bench.old.processes piece)).outs) }
-    ensures processes { OnOk result (bench.new.processes ≡ (takes bench.old.ticks bench.old.processes piece).0) }
+    ensures outs { let after = takes bench.old.ticks bench.old.processes piece
+        in IfOk result (λ all. all ≡ outs ++ (of_taken own after).outs) }
+    ensures processes { let after = takes bench.old.ticks bench.old.processes piece
+        in OnOk result (bench.new.processes ≡ after.0) }
     ensures ticks { bench.new.ticks ≡ bench.old.ticks }
     ensures err { OnErr result (bench.new ≡ bench.old) }
     ensures bounds { IsWithinBounds bench.new.processes }
@@ -121,7 +120,8 @@ fn take(
 /// reassemblies are as before.
 fn tick(alloc: Global, own: Pc, bench: &mut Bench, mut outs: Outs) -> Result<Outs, Memory>
     requires { IsWithinBounds bench.old.processes }
-    ensures outs { IfOk result (λ all. all ≡ outs ++ map (failure own 0x0E) (ended_by_tick bench.old.processes)) }
+    ensures outs { let ended = ended_by_tick bench.old.processes
+        in IfOk result (λ all. all ≡ outs ++ map (failure own RETURN_SEGMENTATION_FAILURE) ended) }
     ensures processes { OnOk result (bench.new.processes ≡ after_tick bench.old.processes) }
     ensures ticks { bench.new.ticks ≡ bench.old.ticks }
     ensures err { OnErr result (bench.new ≡ bench.old) }
@@ -129,7 +129,7 @@ fn tick(alloc: Global, own: Pc, bench: &mut Bench, mut outs: Outs) -> Result<Out
 {
     let mut at = 0;
     while let Some(first) = bench.due(at) {
-        return_outs(alloc, own, first, FAILED, &mut outs)?;
+        return_outs(alloc, own, first, RETURN_SEGMENTATION_FAILURE, &mut outs)?;
         at += 1;
     }
     bench.tick()?;
@@ -145,8 +145,10 @@ pub fn work_off(
     outs: Outs,
 ) -> Result<Outs, Memory>
     requires { IsWithinBounds bench.old.processes }
-    ensures outs { IfOk result (λ all. all ≡ outs ++ (worked own bench.old.ticks bench.old.processes work).outs) }
-    ensures processes { OnOk result (bench.new.processes ≡ (worked own bench.old.ticks bench.old.processes work).processes) }
+    ensures outs { let done = worked own bench.old.ticks bench.old.processes work
+        in IfOk result (λ all. all ≡ outs ++ done.outs) }
+    ensures processes { let done = worked own bench.old.ticks bench.old.processes work
+        in OnOk result (bench.new.processes ≡ done.processes) }
     ensures ticks { bench.new.ticks ≡ bench.old.ticks }
     ensures err { OnErr result (bench.new ≡ bench.old) }
     ensures bounds { IsWithinBounds bench.new.processes }

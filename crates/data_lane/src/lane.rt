@@ -13,7 +13,7 @@ use std::alloc::Global;
 use std::marker::Model;
 use std::mem;
 
-/// How many references of segments a lane has (Q.713, segmentation local reference: 24 bits, of which four are the lane's number).
+/// How many references of segments a lane has (Q.713, 3.17: a reference has 24 bits, of which four are the lane's number).
 const REFERENCES: u32 = 1_048_576;
 
 /// The units of one lane. Its journal is a legal one at all times.
@@ -68,8 +68,11 @@ fn write(
     work: Work,
 ) -> Result<(), Memory>
     requires { IsWithinBounds bench.old.processes }
-    ensures entry { OnOk result (journal.new.items ≡ journal.old.items ++ record entry { outs = entry.outs ++ (worked own bench.old.ticks bench.old.processes work).outs } ∷ []) }
-    ensures processes { OnOk result (bench.new.processes ≡ (worked own bench.old.ticks bench.old.processes work).processes) }
+    ensures entry { let done = worked own bench.old.ticks bench.old.processes work in
+        let written = record entry { outs = entry.outs ++ done.outs }
+        in OnOk result (journal.new.items ≡ journal.old.items ++ written ∷ []) }
+    ensures processes { let done = worked own bench.old.ticks bench.old.processes work
+        in OnOk result (bench.new.processes ≡ done.processes) }
     ensures ticks { bench.new.ticks ≡ bench.old.ticks }
     ensures journal { OnErr result (journal.new.items ≡ journal.old.items) }
     ensures bench { OnErr result (bench.new ≡ bench.old) }
@@ -93,11 +96,11 @@ fn write(
 }
 
 impl DataLane {
-    ghost use Rattle.data_lane.specs.Legal.{IsDataJournal, Takes};
+    ghost use Rattle.data_lane.specs.Legal.{IsDataJournal, AddsEntry};
 
     /// The data lane of this number, from 0, before its first event.
     pub fn new(alloc: Global, head: &LaneHead, number: u8) -> Result<DataLane, Memory>
-        ensures { IfOk result (λ lane. lane ≡ record { head = head.now; number = number; journal = [] }) }
+        ensures { IfOk result (λ x. x ≡ record { head = head.now; number = number; journal = [] }) }
     {
         Ok(DataLane {
             alloc,
@@ -111,7 +114,7 @@ impl DataLane {
 
     /// Takes an event, with these routing data. After want of memory the lane is as before.
     pub fn step(&mut self, plant: &Plant, stamp: Stamp, event: &Event) -> Result<(), Memory>
-        ensures ok { OnOk result (Takes plant.now stamp event.now self.old self.new) }
+        ensures ok { OnOk result (AddsEntry plant.now stamp event.now self.old self.new) }
         ensures err { OnErr result (self.new ≡ self.old) }
     {
         let context = Context {
