@@ -21,7 +21,7 @@ use Rattle.capture_form.specs.declared.fault.CaptureFault.TheVariants as refused
 use Rattle.capture_form.specs.declared.capture.Capture.{Capture}
 use Rattle.capture_form.specs.declared.steps.TheConstants.{MOST_LINES, MOST_TICKS, MOST_BARRIERS}
 use Rattle.capture_form.specs.declared.reading.Reading.{Reading}
-use Rattle.capture_form.specs.Capture.{Line, is_skipped, lines_from, is_barrier, is_tick, barriers, ticks, event_lines, fault_in, barrier_fault, event_fault, fault_at, event_at, phases_of, unless_faulty, capture_after}
+use Rattle.capture_form.specs.Capture.{Line, is_skipped, lines_from, is_barrier, is_tick, barriers, ticks, event_lines, form_fault, barrier_fault, event_fault, fault_at, event_at, phases_of, unless_faulty, capture_after}
 use Rattle.capture_form.specs.Inner.Reader.{at_line, phase_ended, event_added, barrier_taken, event_put, event_taken, words_taken, line_taken, lines_taken, reading_from, phases_read, capture_read}
 use Rattle.capture_form.proofs.PhaseLemmas.{AreUpTo, up-to-push, up-to-next, lists-push, lists-empty, phases-before, number-is, both-left}
 
@@ -152,7 +152,7 @@ barrier-agrees head more ih above events b n t number ws c k false true =
 event-agrees : (head : Head) (more : List (List ℕ)) → Agrees head more → (above : List Line) (events : Stamped) (b n t t' number : ℕ) (ws : List (List ℕ)) → Counts above events b n t
     → is_barrier (number, ws) ≡ false → ticks (above ++ (number, ws) ∷ []) ≡ t' → (f : Result Linked LineKind)
     → then_read head more (at_line number f >>= (λ e. Ok (event_added (kept head.links events b n t' number) e)))
-    ≡ given_with head above events (number, ws) (lines_from (number + 1) more) (fault_in number f) (option_map (stamped b number) (result_ok f))
+    ≡ given_with head above events (number, ws) (lines_from (number + 1) more) (form_fault number f) (option_map (stamped b number) (result_ok f))
 event-agrees head more ih above events b n t t' number ws c k ticked (Err kind) = refl
 event-agrees head more ih above events b n t t' number ws c k ticked (Ok e) =
     ap (λ r. then_read head more (Ok r)) (kept-added head.links events b n t' number e)
@@ -173,7 +173,7 @@ abbrev counted_by : Bool → Bool → Bool → Reading → Result Reading Captur
 counted_by full tick late r = cond full (Err (refused.TooLong Lines)) (cond tick (cond late (Err (refused.TooLong Ticks)) (Ok (record r { ticks = r.ticks + 1 }))) (Ok r))
 
 abbrev event_fault_of : Bool → Bool → Bool → ℕ → Result Linked LineKind → Option CaptureFault
-event_fault_of full tick late number f = cond full (Some (refused.TooLong Lines)) (cond (tick && late) (Some (refused.TooLong Ticks)) (fault_in number f))
+event_fault_of full tick late number f = cond full (Some (refused.TooLong Lines)) (cond (tick && late) (Some (refused.TooLong Ticks)) (form_fault number f))
 
 -- an event line is counted before its form is tested
 counted-agrees : (head : Head) (more : List (List ℕ)) → Agrees head more → (above : List Line) (events : Stamped) (b n t number : ℕ) (ws : List (List ℕ)) → Counts above events b n t

@@ -5,7 +5,6 @@ pub mod Inner
 pub mod Line
 pub mod Note
 pub mod Place
-pub mod Refused
 pub mod Requests
 pub mod Text
 pub mod Words

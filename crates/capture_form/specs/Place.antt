@@ -1,16 +1,15 @@
 -- In which lane an event stands, by the head and the event alone.
-use Rattle.std.specs.Prelude.{ℕ, ◌+◌, ◌%◌, ◌==◌, ◌||◌, ◌&&◌, nat_lt, not, Bool, true, false, List, length, slice_index, if◌then◌else◌, Option, Some, None, Ok, Err}
+use Rattle.std.specs.Prelude.{ℕ, ◌+◌, ◌%◌, ◌==◌, List, if◌then◌else◌, Ok, Err}
 use Rattle.std.specs.declared.result.Result.{Result}
 use Rattle.relay_base.specs.declared.words.ReadFault.{ReadFault}
 use Rattle.relay_base.specs.declared.words.Event.{Event}
 use Rattle.relay_base.specs.declared.words.Event.TheVariants.{Message as Arrived, Asked as Requested, Tick}
 use Rattle.relay_base.specs.declared.words.Request.{Request}
 use Rattle.relay_base.specs.declared.words.Request.TheVariants as request
-use Rattle.sccp_address.specs.Form.{Form}
-use Rattle.sccp_address.specs.Parsing.{address_of}
-use Rattle.sccp_address.specs.declared.address.AddressFault.{AddressFault}
+use Rattle.scmg_messages.specs.Messages.{is_for_management}
 use Rattle.q713_codec.specs.declared.message.Message.{Message}
 use Rattle.q713_codec.specs.declared.message.Message.TheVariants.{Cr, Cc, Cref, Rlsd, Rlc, Dt1, Dt2, Ak, Udt, Udts, Ed, Ea, Rsr, Rsc, Err as Error, It, Xudt, Xudts, Ludt, Ludts}
+use Rattle.q713_codec.specs.Longest.{is_too_long}
 use Rattle.q713_codec.specs.Reading.{reading_of}
 use Rattle.plant_core.specs.declared.entry.ControlEvent.{ControlEvent}
 use Rattle.plant_core.specs.declared.entry.ControlEvent.TheVariants.{Plain, Change as Changed}
@@ -31,18 +30,6 @@ in_data head number = Data (lane_among head.data_lanes number)
 -- a local reference has its lane in the last four bits
 abbrev pub of_reference : Head → ℕ → LanePlace
 of_reference head reference = in_conn head (reference % 16)
-
--- an address that routes on the subsystem number of management, which is 1
-abbrev pub is_one : Option ℕ → Bool
-is_one None = false
-is_one (Some ssn) = ssn == 1
-
-abbrev pub is_for_management_by : Result Form AddressFault → Bool
-is_for_management_by (Ok a) = a.on_ssn && is_one a.ssn
-is_for_management_by (Err fault) = false
-
-abbrev pub is_for_management : List ℕ → Bool
-is_for_management called = is_for_management_by (address_of called)
 
 -- UDT, by its called address
 abbrev pub place_of_udt : Head → ℕ → List ℕ → LanePlace
@@ -75,10 +62,6 @@ place_of_message head opc sls (Ludts _ _ _ _ _ _ _) = in_data head sls
 abbrev pub place_of_reading : Head → ℕ → ℕ → Result Message ReadFault → LanePlace
 place_of_reading head opc sls (Ok message) = place_of_message head opc sls message
 place_of_reading head opc sls (Err fault) = in_data head sls
-
--- longer than a message may be that isn't LUDT or LUDTS
-abbrev pub is_too_long : List ℕ → Bool
-is_too_long bytes = nat_lt 268 (length bytes) && not (slice_index bytes 0 == 0x13 || slice_index bytes 0 == 0x14)
 
 abbrev pub place_of_octets : Head → ℕ → ℕ → List ℕ → LanePlace
 place_of_octets head opc sls bytes =

@@ -3,9 +3,10 @@ use Rattle.std.specs.Prelude.{ℕ, ◌==◌, ◌||◌, ◌&&◌, nat_lt, nat_le,
 use Rattle.std.specs.List.{list_any}
 use Rattle.std.specs.declared.result.Result.{Result}
 use Rattle.relay_base.specs.Giving.{◌>>=◌}
+use Rattle.relay_base.specs.Decimal.{number_of}
 use Rattle.sccp_address.specs.Parsing.{address_of}
 use Rattle.gtt_table.specs.declared.row.Entity.{Entity}
-use Rattle.node_head.specs.Entity.{number_of, digits_of, entity_of}
+use Rattle.node_head.specs.Entity.{digits_of, entity_of}
 use Rattle.capture_form.specs.Text.{same, is_dash, hex_of}
 use Rattle.capture_form.specs.declared.fault.LineKind.{LineKind}
 use Rattle.capture_form.specs.declared.fault.LineKind.TheVariants.{Number, Hex, Address, Size, Digits, Entity as NoEntity, User, Point}

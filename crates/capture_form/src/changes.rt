@@ -1,5 +1,6 @@
 //! What the lines of an operator change.
-ghost use Rattle.std.specs.Prelude.{◌≡◌, map};
+ghost use Rattle.std.specs.Prelude.{◌≡◌};
+ghost use Rattle.capture_form.specs.Inner.Words.{texts};
 ghost use Rattle.capture_form.specs.Changes.{indicator_of, carried, selector_of, second_of, row_of, add_form, del_form, row_form, status_form, service_form, change_of};
 
 use crate::fault::LineKind;
@@ -41,7 +42,7 @@ fn selector(gti: &[u8], tt: &[u8], np: &[u8], nai: &[u8]) -> Result<Selector, Li
 
 /// Where a translation leads in the second place, if there is a word for it.
 fn second(own: Pc, words: &[&[u8]]) -> Result<Option<Entity>, LineKind>
-    ensures { result ≡ second_of own (map (λ w. w.now) words.now) }
+    ensures { result ≡ second_of own (texts words.now) }
 {
     if words.is_empty() {
         return Ok(None);
@@ -56,13 +57,13 @@ fn row_of(
     selector: Selector,
     digits: &[u8],
     first: &[u8],
-    second_words: &[&[u8]],
+    more: &[&[u8]],
 ) -> Result<Row, LineKind>
-    ensures { result ≡ row_of own selector digits.now first.now (map (λ w. w.now) second_words.now) }
+    ensures { result ≡ row_of own selector digits.now first.now (texts more.now) }
 {
     let prefix = prefix(digits)?;
     let first = lead(own, first)?;
-    let second = second(own, second_words)?;
+    let second = second(own, more)?;
     Ok(Row {
         selector,
         prefix,
@@ -74,7 +75,7 @@ fn row_of(
 /// `e add <gti> <tt> <np> <nai> <digits> <first> [<second>]`, of which the words after `add`.
 #[tactic(auto, using(crate::proofs::LineForms::add_short))]
 fn add_form(own: Pc, words: &[&[u8]]) -> Result<Change, LineKind>
-    ensures { result ≡ add_form own (map (λ w. w.now) words.now) }
+    ensures { result ≡ add_form own (texts words.now) }
 {
     if words.len() < 6 || words.len() > 7 {
         return Err(LineKind::Words);
@@ -86,7 +87,7 @@ fn add_form(own: Pc, words: &[&[u8]]) -> Result<Change, LineKind>
 
 /// `e del <gti> <tt> <np> <nai> <digits>`, of which the words after `del`.
 fn del_form(words: &[&[u8]]) -> Result<Change, LineKind>
-    ensures { result ≡ del_form (map (λ w. w.now) words.now) }
+    ensures { result ≡ del_form (texts words.now) }
 {
     if words.len() != 5 {
         return Err(LineKind::Words);
@@ -98,7 +99,7 @@ fn del_form(words: &[&[u8]]) -> Result<Change, LineKind>
 
 /// A row is added, or taken away.
 fn row_form(own: Pc, words: &[&[u8]]) -> Result<Change, LineKind>
-    ensures { result ≡ row_form own (map (λ w. w.now) words.now) }
+    ensures { result ≡ row_form own (texts words.now) }
 {
     if words.is_empty() {
         return Err(LineKind::Words);
@@ -114,7 +115,7 @@ fn row_form(own: Pc, words: &[&[u8]]) -> Result<Change, LineKind>
 
 /// `p pause <point>` or `p resume <point>`: the MTP status of another point.
 fn status_form(own: Pc, words: &[&[u8]]) -> Result<Change, LineKind>
-    ensures { result ≡ status_form own (map (λ w. w.now) words.now) }
+    ensures { result ≡ status_form own (texts words.now) }
 {
     if words.len() != 2 {
         return Err(LineKind::Words);
@@ -132,7 +133,7 @@ fn status_form(own: Pc, words: &[&[u8]]) -> Result<Change, LineKind>
 
 /// `s <ssn> in` or `s <ssn> out`: a local user goes in or out of service.
 fn service_form(users: &[Ssn], words: &[&[u8]]) -> Result<Change, LineKind>
-    ensures { result ≡ service_form users.now (map (λ w. w.now) words.now) }
+    ensures { result ≡ service_form users.now (texts words.now) }
 {
     if words.len() != 2 {
         return Err(LineKind::Words);
@@ -150,7 +151,7 @@ fn service_form(users: &[Ssn], words: &[&[u8]]) -> Result<Change, LineKind>
 
 /// What a line changes, by its first word and those after it.
 pub fn change_of(head: &Head, first: &[u8], words: &[&[u8]]) -> Result<Change, LineKind>
-    ensures { result ≡ change_of head.now first.now (map (λ w. w.now) words.now) }
+    ensures { result ≡ change_of head.now first.now (texts words.now) }
 {
     if first == b"e".as_slice() {
         row_form(head.point, words)

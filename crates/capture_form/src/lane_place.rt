@@ -1,16 +1,13 @@
 //! In which lane an event stands.
 ghost use Rattle.std.specs.Prelude.{◌≡◌};
 ghost use Rattle.q713_codec.specs.Reading.{seen};
-ghost use Rattle.capture_form.specs.Place.{lane_among, in_conn, in_data, of_reference, is_for_management, is_too_long, place_of_udt, place_of_message, place_of_octets, place_of_request, place_of_event, place_of};
+ghost use Rattle.capture_form.specs.Place.{lane_among, in_conn, in_data, of_reference, place_of_udt, place_of_message, place_of_octets, place_of_request, place_of_event, place_of};
 
 use node_head::Head;
 use plant_core::ControlEvent;
-use q713_codec::{View, read};
+use q713_codec::{View, is_too_long, read};
 use relay_base::{Event, Pc, Ref24, Request, Sls};
-use sccp_address::parse;
-
-/// The most octets of a message that isn't LUDT or LUDTS.
-const LONGEST: usize = 268;
+use scmg_messages::is_for_management;
 
 /// A lane: all of them, the control lane, or the connection lane or data lane of a number, from 0.
 #[derive(Clone, Copy, Debug, PartialEq, Eq)]
@@ -51,19 +48,6 @@ fn of_reference(head: &Head, reference: Ref24) -> LanePlace
     in_conn(head, reference.number() % 16)
 }
 
-/// Whether a called address routes on the subsystem number of management.
-fn is_for_management(called: &[u8]) -> bool
-    ensures { result ≡ is_for_management called.now }
-{
-    match parse(called) {
-        Ok(address) => match address.ssn {
-            Some(ssn) => address.on_ssn && ssn.number() == 1,
-            None => false,
-        },
-        Err(_) => false,
-    }
-}
-
 fn place_of_udt(head: &Head, sls: Sls, called: &[u8]) -> LanePlace
     ensures { result ≡ place_of_udt head.now sls called.now }
 {
@@ -101,13 +85,6 @@ fn place_of_message(head: &Head, opc: Pc, sls: Sls, view: &View<'_>) -> LanePlac
         | View::Ludt { .. }
         | View::Ludts { .. } => in_data(head, sls),
     }
-}
-
-/// Whether octets are longer than a message may be that isn't LUDT or LUDTS.
-fn is_too_long(bytes: &[u8]) -> bool
-    ensures { result ≡ is_too_long bytes.now }
-{
-    bytes.len() > LONGEST && !(bytes[0] == 0x13 || bytes[0] == 0x14)
 }
 
 /// The lane of octets from the network.

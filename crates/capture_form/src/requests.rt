@@ -1,6 +1,6 @@
 //! What a user asks for in the words of a request.
-ghost use Rattle.std.specs.Prelude.{◌≡◌, map};
-ghost use Rattle.capture_form.specs.Refused.{States};
+ghost use Rattle.std.specs.Prelude.{◌≡◌};
+ghost use Rattle.capture_form.specs.Inner.Words.{texts, States};
 ghost use Rattle.capture_form.specs.Requests.{unit_of, unit_asked, conn_of, conn_asked, accept_asked, refuse_asked, send_asked, ed_asked, reset_asked, disc_asked, coord_asked, grant_asked, is_unit, form_of, has_form, request_of};
 
 use crate::fault::LineKind;
@@ -15,17 +15,17 @@ fn unit_of(
     sls: &[u8],
     class: &[u8],
     ret: &[u8],
-    called_word: &[u8],
-    calling_word: &[u8],
+    to: &[u8],
+    from: &[u8],
     body_word: &[u8],
 ) -> Result<Request, LineRefused>
-    ensures { States result (unit_of sls.now class.now ret.now called_word.now calling_word.now body_word.now) }
+    ensures { States result (unit_of sls.now class.now ret.now to.now from.now body_word.now) }
 {
     let sls = below::<16>(sls)?;
     let class = below::<2>(class)?.number() as u8;
     let ret = asks_return(ret);
-    let called = called(alloc, called_word)?;
-    let calling = calling(alloc, calling_word)?;
+    let called = called(alloc, to)?;
+    let calling = calling(alloc, from)?;
     let body = boxed_body(alloc, 2_560, body_word)?;
     Ok(Request::Unit {
         sls,
@@ -39,7 +39,7 @@ fn unit_of(
 
 /// `unit <sls> <class> <r or -> <called> <calling or -> <hex>`
 fn unit_asked(alloc: Global, words: &[&[u8]]) -> Result<Request, LineRefused>
-    ensures { States result (unit_asked (map (λ w. w.now) words.now)) }
+    ensures { States result (unit_asked (texts words.now)) }
 {
     if words.len() != 6 {
         return Err(LineRefused::Kind(LineKind::Words));
@@ -55,15 +55,15 @@ fn conn_of(
     tag: &[u8],
     class_word: &[u8],
     credit: &[u8],
-    called_word: &[u8],
+    to: &[u8],
     body_word: &[u8],
 ) -> Result<Request, LineRefused>
-    ensures { States result (conn_of tag.now class_word.now credit.now called_word.now body_word.now) }
+    ensures { States result (conn_of tag.now class_word.now credit.now to.now body_word.now) }
 {
     let tag = below::<65_536>(tag)?.number() as u16;
     let class = class(class_word)?;
     let credit = below::<128>(credit)?.number() as u8;
-    let called = called(alloc, called_word)?;
+    let called = called(alloc, to)?;
     let body = body(alloc, 128, body_word)?;
     Ok(Request::Conn {
         tag,
@@ -76,7 +76,7 @@ fn conn_of(
 
 /// `conn <tag> <class> <credit> <called> <hex>`
 fn conn_asked(alloc: Global, words: &[&[u8]]) -> Result<Request, LineRefused>
-    ensures { States result (conn_asked (map (λ w. w.now) words.now)) }
+    ensures { States result (conn_asked (texts words.now)) }
 {
     if words.len() != 5 {
         return Err(LineRefused::Kind(LineKind::Words));
@@ -86,7 +86,7 @@ fn conn_asked(alloc: Global, words: &[&[u8]]) -> Result<Request, LineRefused>
 
 /// `accept <ref> <class> <credit> <hex>`
 fn accept_asked(alloc: Global, words: &[&[u8]]) -> Result<Request, LineRefused>
-    ensures { States result (accept_asked (map (λ w. w.now) words.now)) }
+    ensures { States result (accept_asked (texts words.now)) }
 {
     if words.len() != 4 {
         return Err(LineRefused::Kind(LineKind::Words));
@@ -105,7 +105,7 @@ fn accept_asked(alloc: Global, words: &[&[u8]]) -> Result<Request, LineRefused>
 
 /// `refuse <ref> <cause> <hex>`
 fn refuse_asked(alloc: Global, words: &[&[u8]]) -> Result<Request, LineRefused>
-    ensures { States result (refuse_asked (map (λ w. w.now) words.now)) }
+    ensures { States result (refuse_asked (texts words.now)) }
 {
     if words.len() != 3 {
         return Err(LineRefused::Kind(LineKind::Words));
@@ -118,7 +118,7 @@ fn refuse_asked(alloc: Global, words: &[&[u8]]) -> Result<Request, LineRefused>
 
 /// `send <ref> <hex>`
 fn send_asked(alloc: Global, words: &[&[u8]]) -> Result<Request, LineRefused>
-    ensures { States result (send_asked (map (λ w. w.now) words.now)) }
+    ensures { States result (send_asked (texts words.now)) }
 {
     if words.len() != 2 {
         return Err(LineRefused::Kind(LineKind::Words));
@@ -130,7 +130,7 @@ fn send_asked(alloc: Global, words: &[&[u8]]) -> Result<Request, LineRefused>
 
 /// `ed <ref> <hex>`
 fn ed_asked(alloc: Global, words: &[&[u8]]) -> Result<Request, LineRefused>
-    ensures { States result (ed_asked (map (λ w. w.now) words.now)) }
+    ensures { States result (ed_asked (texts words.now)) }
 {
     if words.len() != 2 {
         return Err(LineRefused::Kind(LineKind::Words));
@@ -142,7 +142,7 @@ fn ed_asked(alloc: Global, words: &[&[u8]]) -> Result<Request, LineRefused>
 
 /// `reset <ref>`
 fn reset_asked(words: &[&[u8]]) -> Result<Request, LineRefused>
-    ensures { States result (reset_asked (map (λ w. w.now) words.now)) }
+    ensures { States result (reset_asked (texts words.now)) }
 {
     if words.len() != 1 {
         return Err(LineRefused::Kind(LineKind::Words));
@@ -153,7 +153,7 @@ fn reset_asked(words: &[&[u8]]) -> Result<Request, LineRefused>
 
 /// `disc <ref> <cause> <hex>`
 fn disc_asked(alloc: Global, words: &[&[u8]]) -> Result<Request, LineRefused>
-    ensures { States result (disc_asked (map (λ w. w.now) words.now)) }
+    ensures { States result (disc_asked (texts words.now)) }
 {
     if words.len() != 3 {
         return Err(LineRefused::Kind(LineKind::Words));
@@ -166,7 +166,7 @@ fn disc_asked(alloc: Global, words: &[&[u8]]) -> Result<Request, LineRefused>
 
 /// `coord`
 fn coord_asked(words: &[&[u8]]) -> Result<Request, LineRefused>
-    ensures { States result (coord_asked (map (λ w. w.now) words.now)) }
+    ensures { States result (coord_asked (texts words.now)) }
 {
     if words.is_empty() {
         Ok(Request::Coord)
@@ -177,7 +177,7 @@ fn coord_asked(words: &[&[u8]]) -> Result<Request, LineRefused>
 
 /// `grant <point>`
 fn grant_asked(words: &[&[u8]]) -> Result<Request, LineRefused>
-    ensures { States result (grant_asked (map (λ w. w.now) words.now)) }
+    ensures { States result (grant_asked (texts words.now)) }
 {
     if words.len() != 1 {
         return Err(LineRefused::Kind(LineKind::Words));
@@ -188,7 +188,7 @@ fn grant_asked(words: &[&[u8]]) -> Result<Request, LineRefused>
 
 /// The six words after `unit`, of which the third says whether return on error is asked.
 fn is_unit(words: &[&[u8]]) -> bool
-    ensures { result ≡ is_unit (map (λ w. w.now) words.now) }
+    ensures { result ≡ is_unit (texts words.now) }
 {
     words.len() == 6 && is_return(words[2])
 }
@@ -230,7 +230,7 @@ impl RequestForm {
 
     /// Whether the words after the first are as a whole a request of this form.
     pub fn has(self, words: &[&[u8]]) -> bool
-        ensures { result ≡ has_form self (map (λ w. w.now) words.now) }
+        ensures { result ≡ has_form self (texts words.now) }
     {
         match self {
             RequestForm::Unit => is_unit(words),
@@ -245,7 +245,7 @@ impl RequestForm {
 
     /// What the words after the first of a request ask for.
     pub fn request(self, alloc: Global, words: &[&[u8]]) -> Result<Request, LineRefused>
-        ensures { States result (request_of self (map (λ w. w.now) words.now)) }
+        ensures { States result (request_of self (texts words.now)) }
     {
         match self {
             RequestForm::Unit => unit_asked(alloc, words),

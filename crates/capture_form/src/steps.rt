@@ -1,8 +1,8 @@
 //! What one line adds to what was read.
-ghost use Rattle.std.specs.Prelude.{◌≡◌, ◌<◌, ◌≤◌, ◌+◌, ◌^◌, ◌++◌, [], ◌∷◌, length, map, replicate, slice_set, slice_index_or, IfOk, OnOk, OnErr, Ok};
-ghost use Rattle.capture_form.specs.Refused.{FaultAt};
+ghost use Rattle.std.specs.Prelude.{◌≡◌, ◌<◌, ◌≤◌, ◌+◌, ◌^◌, length, IfOk, OnOk, OnErr, Ok};
+ghost use Rattle.capture_form.specs.Inner.Words.{texts, FaultAt};
 ghost use Rattle.capture_form.specs.Capture.{Reads, begins, is_skipped};
-ghost use Rattle.capture_form.specs.Inner.Reader.{Takes, empty_phase, phase_ended, barrier_taken, tick_counted, line_counted, event_put, event_taken, line_taken, at_line};
+ghost use Rattle.capture_form.specs.Inner.Reader.{Takes, IsNext, IsStill, pushed, empty_phase, phase_ended, barrier_taken, tick_counted, line_counted, event_put, event_taken, line_taken, at_line};
 ghost use Rattle.capture_form.specs.Line.{event_of};
 ghost use Rattle.capture_form.specs.Text.{words};
 
@@ -46,7 +46,7 @@ fn put(
     event: (Stamp, ControlEvent),
 ) -> Result<(), Memory>
     requires { link < length phase.old }
-    ensures { OnOk result (phase.new ≡ slice_set phase.old link (slice_index_or phase.old link [] ++ event ∷ [])) }
+    ensures { OnOk result (phase.new ≡ pushed phase.old link event) }
 {
     let mut lists = mem::replace(phase, Phase::new(alloc)).into_vec();
     lists[link].push(event)?;
@@ -56,7 +56,7 @@ fn put(
 
 /// Whether the first of the words is this one.
 fn begins(word: &[u8], words: &[&[u8]]) -> bool
-    ensures { result ≡ begins word.now (map (λ w. w.now) words.now) }
+    ensures { result ≡ begins word.now (texts words.now) }
 {
     match words {
         [] => false,
@@ -88,7 +88,7 @@ fn event_at(
     line: u32,
     words: &[&[u8]],
 ) -> Result<(u8, ControlEvent), CaptureFault>
-    ensures value { Reads result (at_line line (event_of head.now (map (λ w. w.now) words.now))) }
+    ensures value { Reads result (at_line line (event_of head.now (texts words.now))) }
     ensures within { IfOk result (λ e. e.0 ≤ head.now.links) }
 {
     match event_of(alloc, head, words) {
@@ -115,7 +115,7 @@ fn fitted(alloc: Global, phase: Phase) -> Phase
 fn end_phase(alloc: Global, head: &Head, read: &mut Reading) -> Result<(), CaptureFault>
     requires { (read.old.phase + 1 < 2 ^ 32) × (read.old.line + 1 < 2 ^ 32) }
     ensures value { Takes read.new result (Ok (phase_ended head.now read.old)) }
-    ensures kept { OnOk result ((length read.new.current ≡ head.now.links + 1) × (read.new.line ≡ read.old.line + 1)) }
+    ensures kept { OnOk result (IsNext head.now read.old read.new) }
 {
     let next = empty_phase(alloc, head.links)?;
     let ended = mem::replace(&mut read.current, next);
@@ -133,8 +133,8 @@ fn take_barrier(
     words: &[&[u8]],
 ) -> Result<(), CaptureFault>
     requires { read.old.line + 1 < 2 ^ 32 }
-    ensures value { Takes read.new result (barrier_taken head.now read.old (map (λ w. w.now) words.now)) }
-    ensures kept { OnOk result ((length read.new.current ≡ head.now.links + 1) × (read.new.line ≡ read.old.line + 1)) }
+    ensures value { Takes read.new result (barrier_taken head.now read.old (texts words.now)) }
+    ensures kept { OnOk result (IsNext head.now read.old read.new) }
 {
     if read.phase > MOST_BARRIERS {
         return Err(CaptureFault::TooLong(Limit::Barriers));
@@ -148,7 +148,8 @@ fn take_barrier(
 /// Counts a tick line.
 fn count_tick(read: &mut Reading) -> Result<(), CaptureFault>
     ensures value { Takes read.new result (tick_counted read.old) }
-    ensures kept { (read.new.current ≡ read.old.current) × (read.new.line ≡ read.old.line) × (read.new.events ≡ read.old.events) }
+    ensures kept { IsStill read.old read.new }
+    ensures events { read.new.events ≡ read.old.events }
 {
     if read.ticks >= MOST_TICKS {
         return Err(CaptureFault::TooLong(Limit::Ticks));
@@ -159,8 +160,8 @@ fn count_tick(read: &mut Reading) -> Result<(), CaptureFault>
 
 /// Counts an event line, and whether it is a tick line.
 fn count_line(read: &mut Reading, words: &[&[u8]]) -> Result<(), CaptureFault>
-    ensures value { Takes read.new result (line_counted read.old (map (λ w. w.now) words.now)) }
-    ensures kept { (read.new.current ≡ read.old.current) × (read.new.line ≡ read.old.line) }
+    ensures value { Takes read.new result (line_counted read.old (texts words.now)) }
+    ensures kept { IsStill read.old read.new }
     ensures few { OnOk result (read.new.events < MOST_LINES) }
 {
     if read.events >= MOST_LINES {
@@ -183,8 +184,8 @@ fn put_event(
     requires line { read.old.line + 1 < 2 ^ 32 }
     requires links { length read.old.current ≡ head.now.links + 1 }
     requires few { read.old.events < MOST_LINES }
-    ensures value { Takes read.new result (event_put head.now (map (λ w. w.now) words.now) read.old) }
-    ensures kept { OnOk result ((length read.new.current ≡ head.now.links + 1) × (read.new.line ≡ read.old.line + 1)) }
+    ensures value { Takes read.new result (event_put head.now (texts words.now) read.old) }
+    ensures kept { OnOk result (IsNext head.now read.old read.new) }
 {
     let (link, event) = event_at(alloc, head, read.line, words)?;
     let stamp = Stamp {
@@ -207,8 +208,8 @@ fn take_event(
 ) -> Result<(), CaptureFault>
     requires line { read.old.line + 1 < 2 ^ 32 }
     requires links { length read.old.current ≡ head.now.links + 1 }
-    ensures value { Takes read.new result (event_taken head.now read.old (map (λ w. w.now) words.now)) }
-    ensures kept { OnOk result ((length read.new.current ≡ head.now.links + 1) × (read.new.line ≡ read.old.line + 1)) }
+    ensures value { Takes read.new result (event_taken head.now read.old (texts words.now)) }
+    ensures kept { OnOk result (IsNext head.now read.old read.new) }
 {
     count_line(read, words)?;
     put_event(alloc, head, words, read)
@@ -225,7 +226,7 @@ pub fn take_line(
     requires line { read.old.line + 1 < 2 ^ 32 }
     requires links { length read.old.current ≡ head.now.links + 1 }
     ensures value { Takes read.new result (line_taken head.now read.old line.now) }
-    ensures kept { OnOk result ((length read.new.current ≡ head.now.links + 1) × (read.new.line ≡ read.old.line + 1)) }
+    ensures kept { OnOk result (IsNext head.now read.old read.new) }
 {
     if is_skipped(line) {
         read.line += 1;

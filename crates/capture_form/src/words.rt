@@ -2,15 +2,15 @@
 ghost use Rattle.std.specs.Prelude.{◌≡◌, ◌≤◌, ◌<◌, codes, false, is_ok, IfOk};
 ghost use Rattle.capture_form.specs.Text.{is_dash};
 ghost use Rattle.capture_form.specs.Words.{below, link_of, class_of, user_of, other_point_of, prefix_of, lead_of, octets_of, address_in, called_of, calling_of, body_of, text_of, asks_return, is_return};
-ghost use Rattle.capture_form.specs.Refused.{States};
+ghost use Rattle.capture_form.specs.Inner.Words.{States};
 ghost use Rattle.sccp_address.specs.Parsing.{address_of};
 
 use crate::fault::LineKind;
 use crate::refused::LineRefused;
 use crate::text::{is_dash, octets};
 use gtt_table::Entity;
-use node_head::{digits_of, entity_of, number_of};
-use relay_base::{Below, BoxedOctets, Digits, Octets, Pc, Ssn};
+use node_head::{digits_of, entity_of};
+use relay_base::{Below, BoxedOctets, Digits, Octets, Pc, Ssn, number_of};
 use sccp_address::parse;
 use std::alloc::Global;
 

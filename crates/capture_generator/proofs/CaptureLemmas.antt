@@ -1,11 +1,11 @@
 -- The phases of a generated capture: their stamps, and how many events they have.
 use Rattle.std.proofs.Common.{◌≡◌, ◌∙◌, ℕ, zero, suc, ◌+◌, ◌*◌, ◌/◌, ◌%◌, ◌==◌, ◌≤◌, append_assoc, subst, Bool, true, false, cond, List, [], ◌∷◌, ◌++◌, length, refl, ap, arith, rules, length-append}
 use Rattle.std.proofs.lemmas.List.Concat.{flat_map-append}
-use Rattle.std.specs.List.{AllByRecursion, IsDistinct, flat_map}
+use Rattle.std.specs.List.{AllByRecursion, IsDistinct}
 use Rattle.plant_core.specs.Terms.{AreTicks}
 use Rattle.node_head.specs.Ranges.{AreNumbers, AreReplicates, IsHead}
-use Rattle.capture_form.specs.Capture.{Stamped, AreOfLinks, AreOfPhases}
-use Rattle.capture_generator.specs.Generator.{usual_ticks, generator_head, Phases, number_after, stamped_at, events_after, block_phase, tick_phase, whole_blocks, phases_after, events_in}
+use Rattle.capture_form.specs.Events.{Stamped, phase_events, all_events, AreOfLinks, AreOfPhases}
+use Rattle.capture_generator.specs.Generator.{usual_ticks, generator_head, Phases, number_after, stamped_at, events_after, block_phase, tick_phase, whole_blocks, phases_after}
 
 all-push : {A : Type 0} (P : A → Type 0) (xs : List A) (x : A) → AllByRecursion P xs → P x → AllByRecursion P (xs ++ x ∷ [])
 all-push P [] x h p = (p, tt)
@@ -114,20 +114,16 @@ unfolding events_after
 length-events x i zero = refl
 length-events x i (suc n) = omega (arith, length-append (events_after x i n) (stamped_at (number_after x (suc n)) (i + n) ∷ []), length-events x i n)
 
--- the events of one phase
-abbrev phase_events : List Stamped → Stamped
-phase_events lists = flat_map (λ events. events) lists
-
 length-block : (x b n : ℕ) → length (phase_events (block_phase x b n)) ≡ n
 length-block x b n = omega (arith, length-append (events_after (number_after x (400 * b)) (400 * b) n) [], length-events (number_after x (400 * b)) (400 * b) n)
 
-length-phase : (lists : List Stamped) (more : Phases) → length (events_in (lists ∷ more)) ≡ length (phase_events lists) + length (events_in more)
-length-phase lists more = length-append (phase_events lists) (events_in more)
+length-phase : (lists : List Stamped) (more : Phases) → length (all_events (lists ∷ more)) ≡ length (phase_events lists) + length (all_events more)
+length-phase lists more = length-append (phase_events lists) (all_events more)
 
-length-joined : (phases more : Phases) → length (events_in (phases ++ more)) ≡ length (events_in phases) + length (events_in more)
-length-joined phases more = ap length (flat_map-append phase_events phases more) ∙ length-append (events_in phases) (events_in more)
+length-joined : (phases more : Phases) → length (all_events (phases ++ more)) ≡ length (all_events phases) + length (all_events more)
+length-joined phases more = ap length (flat_map-append phase_events phases more) ∙ length-append (all_events phases) (all_events more)
 
-length-whole : (x b : ℕ) → length (events_in (whole_blocks x b)) ≡ 401 * b
+length-whole : (x b : ℕ) → length (all_events (whole_blocks x b)) ≡ 401 * b
 unfolding whole_blocks
 length-whole x zero = refl
 length-whole x (suc b) = omega (
@@ -138,7 +134,7 @@ length-whole x (suc b) = omega (
   length-whole x b,
 )
 
-few-choice : (none : Bool) (x lines : ℕ) → lines ≤ 199000 → length (events_in (cond none [] (whole_blocks x (lines / 400) ++ block_phase x (lines / 400) (lines % 400) ∷ []))) ≤ 200000
+few-choice : (none : Bool) (x lines : ℕ) → lines ≤ 199000 → length (all_events (cond none [] (whole_blocks x (lines / 400) ++ block_phase x (lines / 400) (lines % 400) ∷ []))) ≤ 200000
 few-choice true x lines h = omega arith
 few-choice false x lines h = omega (
   arith,
@@ -149,5 +145,5 @@ few-choice false x lines h = omega (
   length-whole x (lines / 400),
 )
 
-pub phases-few : (x lines : ℕ) → lines ≤ 199000 → length (events_in (phases_after x lines)) ≤ 200000
+pub phases-few : (x lines : ℕ) → lines ≤ 199000 → length (all_events (phases_after x lines)) ≤ 200000
 phases-few x lines h = few-choice (lines == 0) x lines h

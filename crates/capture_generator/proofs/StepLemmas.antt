@@ -1,6 +1,6 @@
 -- One step more of the generator's recursions.
 use Rattle.std.proofs.Common.{◌≡◌, ◌∙◌, ℕ, zero, suc, ◌+◌, ◌*◌, [], ◌∷◌, ◌++◌, refl, sym, ap, arith}
-use Rattle.capture_generator.specs.Generator.{next_number, number_after, stamped_at, events_after, block_phase, tick_phase, whole_blocks}
+use Rattle.capture_generator.specs.Generator.{next_number, number_after, stamped_at, events_after, lines_phase, block_phase, tick_phase, whole_blocks}
 
 pub number_none : (x : ℕ) → number_after x 0 ≡ x
 unfolding number_after
@@ -44,5 +44,5 @@ blocks_more x b =
     ap (whole_blocks x) one
 
 -- the phases of one whole block more, of which y is the number before the first line
-pub blocks_step : (x y b : ℕ) → y ≡ number_after x (400 * b) → whole_blocks x b ++ ([] ∷ events_after y (400 * b) 400 ∷ []) ∷ tick_phase b ∷ [] ≡ whole_blocks x (b + 1)
-blocks_step x y b e = ap (λ z. whole_blocks x b ++ ([] ∷ events_after z (400 * b) 400 ∷ []) ∷ tick_phase b ∷ []) e ∙ sym (blocks_more x b)
+pub blocks_step : (x y b : ℕ) → y ≡ number_after x (400 * b) → whole_blocks x b ++ lines_phase y (400 * b) 400 ∷ tick_phase b ∷ [] ≡ whole_blocks x (b + 1)
+blocks_step x y b e = ap (λ z. whole_blocks x b ++ lines_phase z (400 * b) 400 ∷ tick_phase b ∷ []) e ∙ sym (blocks_more x b)

@@ -1,6 +1,5 @@
 -- The capture of the generator: a fixed head, and events that a sequence of numbers picks.
 use Rattle.std.specs.Prelude.{ℕ, zero, suc, ◌+◌, ◌*◌, ◌/◌, ◌%◌, ◌==◌, List, [], ◌∷◌, ◌++◌, if◌then◌else◌}
-use Rattle.std.specs.List.{flat_map}
 use Rattle.relay_base.specs.declared.words.Event.{Event}
 use Rattle.relay_base.specs.declared.words.Event.TheVariants.{Message as Arrived, Asked, Tick}
 use Rattle.relay_base.specs.declared.words.Request.TheVariants.{Accept}
@@ -9,7 +8,7 @@ use Rattle.plant_core.specs.declared.entry.ControlEvent.{ControlEvent}
 use Rattle.plant_core.specs.declared.entry.ControlEvent.TheVariants.{Plain}
 use Rattle.plant_core.specs.declared.terms.Ticks.{Ticks}
 use Rattle.node_head.specs.declared.head.Head.{Head}
-use Rattle.capture_form.specs.Capture.{Stamped}
+use Rattle.capture_form.specs.Events.{Stamped}
 use Rattle.capture_form.specs.declared.capture.Capture.{Capture}
 
 -- ---- the head: five lines with its mark, so that the events begin at line 6
@@ -110,9 +109,13 @@ events_after x i (suc n) = events_after x i n ++ stamped_at (number_after x (suc
 abbrev pub Phases : Type 0
 Phases = List (List Stamped)
 
+-- the events of so many lines, of which x is the number before the first
+abbrev pub lines_phase : ℕ → ℕ → ℕ → List Stamped
+lines_phase x first count = [] ∷ events_after x first count ∷ []
+
 -- the phase of so many lines after b whole blocks of 400
 abbrev pub block_phase : ℕ → ℕ → ℕ → List Stamped
-block_phase x b count = [] ∷ events_after (number_after x (400 * b)) (400 * b) count ∷ []
+block_phase x b count = lines_phase (number_after x (400 * b)) (400 * b) count
 
 -- the tick after block b, from 0
 abbrev pub tick_phase : ℕ → List Stamped
@@ -136,7 +139,3 @@ generated_phases number lines = phases_after (number % 2147483648) lines
 -- the capture of a number and a count of lines
 abbrev pub generated_capture : ℕ → ℕ → Capture
 generated_capture number lines = record { head = generator_head; phases = generated_phases number lines }
-
--- the events of all phases, in each one link after the other
-abbrev pub events_in : Phases → Stamped
-events_in phases = flat_map (λ lists. flat_map (λ events. events) lists) phases

@@ -2,8 +2,9 @@
 ghost use Rattle.std.specs.Prelude.{◌≡◌, ◌≤◌, [], length, IsTrue, IfOk};
 ghost use Rattle.node_head.specs.Addable.{are_addable};
 ghost use Rattle.node_head.specs.Ranges.{IsHead};
-ghost use Rattle.capture_form.specs.Capture.{IsStamped};
-ghost use Rattle.capture_generator.specs.Generator.{usual_ticks, generator_head, generated_capture, events_in};
+ghost use Rattle.capture_form.specs.Events.{all_events, IsStamped};
+ghost use Rattle.capture_form.specs.declared.steps.TheConstants.{MOST_LINES};
+ghost use Rattle.capture_generator.specs.Generator.{usual_ticks, generator_head, generated_capture};
 
 use crate::blocks::phases_after;
 use capture_form::Capture;
@@ -59,7 +60,7 @@ pub fn generated(alloc: Global, number: u32, lines: u32) -> Result<Capture, Memo
     ensures stamped { IfOk result (λ c. IsStamped c.head c.phases) }
     ensures addable { IfOk result (λ c. IsTrue (are_addable [] c.head.row)) }
     ensures range { IfOk result (λ c. IsHead c.head) }
-    ensures few { IfOk result (λ c. length (events_in c.phases) ≤ 200000) }
+    ensures few { IfOk result (λ c. length (all_events c.phases) ≤ MOST_LINES) }
 {
     let head = generator_head(alloc)?;
     let phases = phases_after(alloc, number % 2_147_483_648, lines)?;

@@ -10,8 +10,9 @@ use Rattle.clap.specs.Takes.{default_passes, is_valid, level_passes, settle_pass
 use Rattle.clap.specs.declared.parser.ArgMatches.{ArgMatches}
 use Rattle.clap.specs.declared.parser.ArgMatches.TheViews.{out-ArgMatches}
 use Rattle.clap.proofs.OnLiterals.{clap_on_literals}
-use Rattle.command_words.specs.Commands.{same, is_number, digits_value, within, number_in, generate_of, generate_in, command_in, is_refused}
-use Rattle.command_words.specs.Parser.{generate_app, relay_app, command_found, command_of_rows}
+use Rattle.relay_base.specs.Decimal.{is_number, digits_value, number_of}
+use Rattle.command_words.specs.Commands.{same, within, number_in, generate_of, generate_in, command_in}
+use Rattle.command_words.specs.Inner.Parser.{generate_app, relay_app, command_found, command_of_rows, is_refused}
 use Rattle.command_words.specs.declared.command.Command.{Command}
 use Rattle.command_words.specs.declared.command.Command.TheVariants.{Run}
 
@@ -138,11 +139,11 @@ not_number xs = go (length (45 ∷ xs) == 0 || nat_lt 10 (length (45 ∷ xs)))
 
 -- a dash begins no number, and no word of none is one
 dashed_none : (least most : ℕ) (xs : List ℕ) → number_in least most (45 ∷ xs) ≡ None
-unfolding number_in
+unfolding number_in number_of
 dashed_none least most xs = ap (λ b. within least most (cond b (Some (digits_value (45 ∷ xs))) None)) (not_number xs)
 
 empty_none : (least most : ℕ) → number_in least most [] ≡ None
-unfolding number_in
+unfolding number_in number_of
 empty_none least most = refl
 
 -- a number has a first octet, which is no dash

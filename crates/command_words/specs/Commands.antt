@@ -1,8 +1,7 @@
 -- The commands that words state.
-use Rattle.std.specs.Prelude.{ℕ, ◌+◌, ◌-◌, ◌*◌, ◌==◌, ◌||◌, ◌&&◌, nat_eq, nat_lt, nat_le, codes, Bool, false, List, [], ◌∷◌, length, fold, if◌then◌else◌, Option, Some, None}
-use Rattle.std.specs.Char.{is_ascii_digit}
-use Rattle.std.specs.List.{list_all, list_any}
+use Rattle.std.specs.Prelude.{ℕ, ◌&&◌, nat_eq, nat_le, codes, Bool, List, [], ◌∷◌, if◌then◌else◌, Option, Some, None}
 use lib.Pointwise.{pointwise}
+use Rattle.relay_base.specs.Decimal.{number_of}
 use Rattle.command_words.specs.declared.command.Command.{Command}
 use Rattle.command_words.specs.declared.command.Command.TheVariants.{Run, Generate}
 
@@ -11,16 +10,6 @@ abbrev pub same : List ℕ → List ℕ → Bool
 same word text = pointwise nat_eq word text
 
 -- ---- numbers
-
--- 1 to 10 decimal digits
-abbrev pub is_number : List ℕ → Bool
-is_number word = if length word == 0 || nat_lt 10 (length word) then false else list_all is_ascii_digit word
-
-abbrev pub digits_value : List ℕ → ℕ
-digits_value word = fold (λ number digit. 10 * number + (digit - 48)) 0 word
-
-abbrev pub number_of : List ℕ → Option ℕ
-number_of word = if is_number word then Some (digits_value word) else None
 
 abbrev pub within : ℕ → ℕ → Option ℕ → Option ℕ
 within least most None = None
@@ -47,17 +36,3 @@ command_in (word ∷ []) = if same word (codes "run") then Some Run else None
 command_in (word ∷ _ ∷ []) = None
 command_in (word ∷ number ∷ lines ∷ []) = if same word (codes "gen") then generate_in number lines else None
 command_in _ = None
-
--- ---- words that are refused before they are parsed
-
-abbrev pub is_dashed : List ℕ → Bool
-is_dashed [] = false
-is_dashed (first ∷ more) = first == 45
-
-abbrev pub asks_help : List (List ℕ) → Bool
-asks_help [] = false
-asks_help (word ∷ more) = same word (codes "help")
-
--- a word begins with a dash, or the first is `help`
-abbrev pub is_refused : List (List ℕ) → Bool
-is_refused words = list_any is_dashed words || asks_help words

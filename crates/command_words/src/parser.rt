@@ -2,7 +2,7 @@
 ghost use Rattle.std.specs.Prelude.{◌≡◌, false, IfOk};
 ghost use Rattle.clap.specs.Words.{app_of, rule_of};
 ghost use Rattle.clap.specs.declared.builder.Command.TheViews.{out-Command};
-ghost use Rattle.command_words.specs.Parser.{required_rule, generate_app, top_app, relay_app};
+ghost use Rattle.command_words.specs.Inner.Parser.{required_rule, generate_app, top_app, relay_app};
 
 use clap::{Arg, Command};
 use std::alloc::{AllocError, Global};

@@ -1,9 +1,9 @@
 //! The command that the words state: what the parser found, where these are the words.
-ghost use Rattle.std.specs.Prelude.{◌≡◌, ◌≢◌, None, IfOk, map, option_map, string_bytes};
+ghost use Rattle.std.specs.Prelude.{◌≡◌, ◌≢◌, None, IfOk, map, string_bytes};
 ghost use Rattle.std.specs.List.{list_any};
 ghost use Rattle.clap.specs.Words.{kind_of, subcommand_rows_of};
-ghost use Rattle.command_words.specs.Commands.{same, is_dashed, asks_help, is_refused, generate_in, command_in};
-ghost use Rattle.command_words.specs.Parser.{is_given, command_found, command_of_rows};
+ghost use Rattle.command_words.specs.Commands.{generate_in, command_in};
+ghost use Rattle.command_words.specs.Inner.Parser.{given, texts, is_given, command_found, command_of_rows, is_dashed, asks_help, is_refused};
 
 use crate::command::Command;
 use crate::number::number_in;
@@ -29,7 +29,7 @@ fn has_dashed(words: &[String]) -> bool
 }
 
 fn asks_help(words: &[String]) -> bool
-    ensures { result ≡ asks_help (map string_bytes words.now) }
+    ensures { result ≡ asks_help (texts words.now) }
 {
     match words {
         [] => false,
@@ -39,7 +39,7 @@ fn asks_help(words: &[String]) -> bool
 
 /// Whether the words are refused before they are parsed: one begins with a dash, or the first is `help`.
 fn is_refused(words: &[String]) -> bool
-    ensures { result ≡ is_refused (map string_bytes words.now) }
+    ensures { result ≡ is_refused (texts words.now) }
 {
     has_dashed(words) || asks_help(words)
 }
@@ -53,10 +53,10 @@ fn generate_in(number: &str, lines: &str) -> Option<Command>
     Some(Command::Generate { number, lines })
 }
 
-fn is_given(given: Option<&str>, word: &str) -> bool
-    ensures { result ≡ is_given (option_map (λ s. s.now) given.entry) word.now }
+fn is_given(found: Option<&str>, word: &str) -> bool
+    ensures { result ≡ is_given (given found.entry) word.now }
 {
-    match given {
+    match found {
         Some(text) => word == text,
         None => false,
     }
@@ -69,7 +69,7 @@ fn command_found(
     lines: Option<&str>,
     words: &[String],
 ) -> Option<Command>
-    ensures { result ≡ command_found name.now (option_map (λ s. s.now) number.entry) (option_map (λ s. s.now) lines.entry) (map string_bytes words.now) }
+    ensures { result ≡ command_found name.now (given number.entry) (given lines.entry) (texts words.now) }
 {
     match words {
         [word] if name == "run" && word.as_str() == name => Some(Command::Run),
@@ -86,7 +86,7 @@ fn command_found(
 
 /// The command of what the parser found.
 fn command_of_matches(matches: &ArgMatches<'_>, words: &[String]) -> Option<Command>
-    ensures { result ≡ command_of_rows (subcommand_rows_of matches.now) (map string_bytes words.now) }
+    ensures { result ≡ command_of_rows (subcommand_rows_of matches.now) (texts words.now) }
 {
     let (name, found) = matches.subcommand()?;
     command_found(name, found.get_str("number"), found.get_str("lines"), words)

@@ -14,7 +14,7 @@ use Rattle.journal_text.specs.declared.book.Book.{Book}
 use Rattle.journal_text.specs.Print.{entries_text, controls_text, lanes_text, book_text}
 use Rattle.journal_text.specs.declared.writing.WriteFault.{WriteFault}
 use Rattle.journal_text.specs.declared.writing.WriteFault.TheVariants as write_fault
-use Rattle.journal_text.specs.Writing.{Carried, Carries}
+use Rattle.journal_text.specs.Inner.Writing.{Carried, Carries}
 
 -- a part of a text is a part of the text with more behind it
 pub AppendedPart-more : (a b : Option (List ℕ)) (xs ys : List ℕ) → AppendedPart a b xs → AppendedPart a b (xs ++ ys)

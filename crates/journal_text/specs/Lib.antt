@@ -1,3 +1,3 @@
 pub mod Book
+pub mod Inner
 pub mod Print
-pub mod Writing

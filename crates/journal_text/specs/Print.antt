@@ -48,15 +48,23 @@ reason_text reason.Expedited = codes "expedited"
 reason_text reason.Unknown = codes "unknown"
 reason_text reason.Replicate = codes "replicate"
 
+-- a word, a number, two addresses and data
+abbrev pub unit_text : List ℕ → ℕ → List ℕ → List ℕ → List ℕ → List ℕ
+unit_text word number called calling body = spaced (word ∷ decimal number ∷ octets_text called ∷ octets_text calling ∷ octets_text body ∷ [])
+
+-- a word, the reference of a connection, and data that it carries
+abbrev pub data_text : List ℕ → ℕ → List ℕ → List ℕ
+data_text word mine body = spaced (word ∷ decimal mine ∷ octets_text body ∷ [])
+
 abbrev pub tell_text : Tell → List ℕ
-tell_text (tell.Unit class called calling body) = spaced (codes "unit" ∷ decimal class ∷ octets_text called ∷ octets_text calling ∷ octets_text body ∷ [])
-tell_text (tell.Notice cause called calling body) = spaced (codes "notice" ∷ decimal cause ∷ octets_text called ∷ octets_text calling ∷ octets_text body ∷ [])
+tell_text (tell.Unit class called calling body) = unit_text (codes "unit") class called calling body
+tell_text (tell.Notice cause called calling body) = unit_text (codes "notice") cause called calling body
 tell_text (tell.Conn mine class credit called calling body) = spaced (codes "conn" ∷ decimal mine ∷ decimal class ∷ decimal credit ∷ octets_text called ∷ optional_text calling ∷ optional_text body ∷ [])
 tell_text (tell.Named tag mine) = spaced (codes "ref" ∷ decimal tag ∷ decimal mine ∷ [])
 tell_text (tell.NotMade tag cause) = spaced (codes "not-made" ∷ decimal tag ∷ decimal cause ∷ [])
 tell_text (tell.Confirm mine class credit called body) = spaced (codes "confirm" ∷ decimal mine ∷ decimal class ∷ decimal credit ∷ optional_text called ∷ optional_text body ∷ [])
-tell_text (tell.Text mine body) = spaced (codes "text" ∷ decimal mine ∷ octets_text body ∷ [])
-tell_text (tell.Expedited mine body) = spaced (codes "ed" ∷ decimal mine ∷ octets_text body ∷ [])
+tell_text (tell.Text mine body) = data_text (codes "text") mine body
+tell_text (tell.Expedited mine body) = data_text (codes "ed") mine body
 tell_text (tell.Renewed mine cause) = spaced (codes "reset" ∷ decimal mine ∷ decimal cause ∷ [])
 tell_text (tell.ResetDone mine) = spaced (codes "reset-done" ∷ decimal mine ∷ [])
 tell_text (tell.Disc mine cause body) = spaced (codes "disc" ∷ decimal mine ∷ decimal cause ∷ optional_text body ∷ [])
@@ -120,8 +128,11 @@ abbrev pub stamp_text : Stamp → List ℕ
 stamp_text stamp = decimal stamp.phase ++ codes "." ++ decimal stamp.link ++ codes "." ++ decimal stamp.line
 
 -- a line for each output
+abbrev pub output_line : Output → List ℕ
+output_line o = codes " " ++ output_text o ++ codes "\n"
+
 abbrev pub outs_text : List Output → List ℕ
-outs_text outs = flat_map (λ o. codes " " ++ output_text o ++ codes "\n") outs
+outs_text outs = flat_map output_line outs
 
 abbrev pub entry_text : Entry → List ℕ
 entry_text e = stamp_text e.stamp ++ asked_text e.asked ++ codes "\n" ++ outs_text e.outs

@@ -1,12 +1,12 @@
 //! The journals of a run, and their print.
-ghost use Rattle.std.specs.Prelude.{◌≡◌, ◌+◌, ◌^◌, ◌<◌, ◌++◌, [], codes, length, IfOk, OnOk, IsTrue, ◌↔◌, string_bytes};
-ghost use Rattle.journal_text.specs.Print.{lanes_text, book_text};
+ghost use Rattle.std.specs.Prelude.{◌≡◌, IfOk, IsTrue, ◌↔◌};
+ghost use Rattle.journal_text.specs.Print.{book_text};
 ghost use Rattle.journal_text.specs.Book.{IsEmpty};
 
-use crate::entries::push_entries;
+use crate::writing::write_book;
 use plant_core::{ControlList, EntryList, JournalList};
-use relay_base::{Memory, Octets};
-use std::alloc::{AllocError, Global};
+use relay_base::{Memory, Octets, StdSink};
+use std::alloc::Global;
 
 /// The journals of the control lane, the connection lanes and the data lanes.
 #[derive(PartialEq, Eq, Drop)]
@@ -36,35 +36,19 @@ impl Book {
     }
 }
 
-fn push_lanes(
-    alloc: Global,
-    text: &mut String,
-    name: &str,
-    lanes: &[EntryList],
-) -> Result<(), AllocError>
-    ensures { OnOk result (string_bytes text.new ≡ string_bytes text.old ++ lanes_text name.now 0 lanes.now) }
-{
-    for (number, lane) in lanes.iter().enumerate() {
-        writeln!(text, "= {name} {number}")?;
-        push_entries(alloc, text, lane.as_slice())?;
-    }
-    Ok(())
-}
-
-fn book_text(alloc: Global, book: &Book) -> Result<String, AllocError>
-    ensures { IfOk result (λ t. string_bytes t ≡ book_text book.now) }
-{
-    let mut text = String::from_str(alloc, "= control\n")?;
-    push_entries(alloc, &mut text, book.control.as_slice())?;
-    push_lanes(alloc, &mut text, "conn", book.conns.as_slice())?;
-    push_lanes(alloc, &mut text, "data", book.units.as_slice())?;
-    Ok(text)
-}
-
-/// The print of a book.
+/// The print of a book, in memory.
+///
+/// A run writes its print by [`write_book`] instead, so that a long one does not stand in memory whole; this is for callers
+/// that want the text.
 pub fn print_book(alloc: Global, book: &Book) -> Result<Octets, Memory>
     ensures { IfOk result (λ o. o ≡ book_text book.now) }
 {
-    let text = book_text(alloc, book)?;
-    Ok(Octets::from(text.into_bytes()))
+    let mut sink = StdSink {
+        inner: Vec::new(alloc),
+        faults: 0,
+    };
+    match write_book(alloc, book, &mut sink) {
+        Ok(()) => Ok(Octets::from(sink.inner)),
+        Err(_) => Err(Memory),
+    }
 }

@@ -1,6 +1,6 @@
 //! The print of the entries of a journal.
-ghost use Rattle.std.specs.Prelude.{◌≡◌, ◌++◌, [], codes, IfOk, OnOk, string_bytes};
-ghost use Rattle.std.specs.List.{flat_map};
+ghost use Rattle.std.specs.Prelude.{◌≡◌, ◌++◌, OnOk, string_bytes};
+ghost use Rattle.journal_text.specs.Inner.Texts.{Gives};
 ghost use Rattle.journal_text.specs.Print.{cause_text, asked_text, published_text, outs_text};
 
 use crate::tell::push_output;
@@ -34,7 +34,7 @@ fn cause_text(cause: RouteCause) -> &'static str
 }
 
 fn asked_text(alloc: Global, asked: &Option<Asked>) -> Result<String, AllocError>
-    ensures { IfOk result (λ t. string_bytes t ≡ asked_text asked.now) }
+    ensures { Gives result (asked_text asked.now) }
 {
     let Some(asked) = asked else {
         return Ok(String::new(alloc));
@@ -57,7 +57,7 @@ fn asked_text(alloc: Global, asked: &Option<Asked>) -> Result<String, AllocError
 }
 
 fn published_text(alloc: Global, published: Option<u64>) -> Result<String, AllocError>
-    ensures { IfOk result (λ t. string_bytes t ≡ published_text published) }
+    ensures { Gives result (published_text published) }
 {
     match published {
         Some(edition) => format!(in alloc; " new e{edition}"),
@@ -98,18 +98,4 @@ impl Printed for ControlEntry {
         writeln!(text, "{phase}.{link}.{line}{published}")?;
         push_outs(alloc, text, self.outs.as_slice())
     }
-}
-
-/// Appends the prints of entries.
-pub(crate) fn push_entries<P: Printed>(
-    alloc: Global,
-    text: &mut String,
-    entries: &[P],
-) -> Result<(), AllocError>
-    ensures { OnOk result (string_bytes text.new ≡ string_bytes text.old ++ flat_map P.print entries.now) }
-{
-    for entry in entries {
-        entry.push(alloc, text)?;
-    }
-    Ok(())
 }

@@ -1,14 +1,15 @@
 //! The text of what a user is told, of what is lost, and of outputs.
-ghost use Rattle.std.specs.Prelude.{◌≡◌, [], ◌∷◌, ◌++◌, codes, IfOk, OnOk, string_bytes};
+ghost use Rattle.std.specs.Prelude.{◌≡◌, [], ◌∷◌, ◌++◌, OnOk, string_bytes};
 ghost use Rattle.std.specs.Fmt.{decimal};
-ghost use Rattle.journal_text.specs.Print.{spaced, octets_text, optional_text, up_text, reason_text, tell_text, read_fault_text, lost_text, output_text};
+ghost use Rattle.journal_text.specs.Inner.Texts.{Gives};
+ghost use Rattle.journal_text.specs.Print.{spaced, octets_text, optional_text, up_text, reason_text, unit_text, data_text, tell_text, read_fault_text, lost_text, output_line};
 
 use relay_base::{BoxedOctets, Lost, Octets, Output, Pc, ReadFault, Reason, Ref24, Ssn, Tell};
 use std::alloc::{AllocError, Global};
 
 /// Octets in hex, or a dash for none.
 fn octets_text(alloc: Global, octets: &[u8]) -> Result<String, AllocError>
-    ensures { IfOk result (λ t. string_bytes t ≡ octets_text octets.now) }
+    ensures { Gives result (octets_text octets.now) }
 {
     if octets.is_empty() {
         String::from_str(alloc, "-")
@@ -18,7 +19,7 @@ fn octets_text(alloc: Global, octets: &[u8]) -> Result<String, AllocError>
 }
 
 fn optional_text(alloc: Global, octets: &Option<BoxedOctets>) -> Result<String, AllocError>
-    ensures { IfOk result (λ t. string_bytes t ≡ optional_text octets.now) }
+    ensures { Gives result (optional_text octets.now) }
 {
     match octets {
         Some(octets) => octets_text(alloc, octets.as_slice()),
@@ -55,7 +56,7 @@ fn unit_text(
     calling: &BoxedOctets,
     body: &BoxedOctets,
 ) -> Result<String, AllocError>
-    ensures { IfOk result (λ t. string_bytes t ≡ spaced (word.now ∷ decimal number ∷ octets_text called.now ∷ octets_text calling.now ∷ octets_text body.now ∷ [])) }
+    ensures { Gives result (unit_text word.now number called.now calling.now body.now) }
 {
     let called = octets_text(alloc, called.as_slice())?;
     let calling = octets_text(alloc, calling.as_slice())?;
@@ -72,7 +73,7 @@ fn conn_text(
     calling: &Option<BoxedOctets>,
     body: &Option<BoxedOctets>,
 ) -> Result<String, AllocError>
-    ensures { IfOk result (λ t. string_bytes t ≡ tell_text (Tell.Conn mine class credit called.now calling.now body.now)) }
+    ensures { Gives result (tell_text (Tell.Conn mine class credit called.now calling.now body.now)) }
 {
     let mine = mine.number();
     let called = octets_text(alloc, called.as_slice())?;
@@ -89,7 +90,7 @@ fn confirm_text(
     called: &Option<BoxedOctets>,
     body: &Option<BoxedOctets>,
 ) -> Result<String, AllocError>
-    ensures { IfOk result (λ t. string_bytes t ≡ tell_text (Tell.Confirm mine class credit called.now body.now)) }
+    ensures { Gives result (tell_text (Tell.Confirm mine class credit called.now body.now)) }
 {
     let mine = mine.number();
     let called = optional_text(alloc, called)?;
@@ -99,7 +100,7 @@ fn confirm_text(
 
 /// A word, the reference of a connection, and data that it carries.
 fn data_text(alloc: Global, word: &str, mine: Ref24, body: &Octets) -> Result<String, AllocError>
-    ensures { IfOk result (λ t. string_bytes t ≡ spaced (word.now ∷ decimal mine ∷ octets_text body.now ∷ [])) }
+    ensures { Gives result (data_text word.now mine body.now) }
 {
     let mine = mine.number();
     let body = octets_text(alloc, body.as_slice())?;
@@ -112,7 +113,7 @@ fn disc_text(
     cause: u8,
     body: &Option<BoxedOctets>,
 ) -> Result<String, AllocError>
-    ensures { IfOk result (λ t. string_bytes t ≡ tell_text (Tell.Disc mine cause body.now)) }
+    ensures { Gives result (tell_text (Tell.Disc mine cause body.now)) }
 {
     let mine = mine.number();
     let body = optional_text(alloc, body)?;
@@ -120,7 +121,7 @@ fn disc_text(
 }
 
 fn state_text(alloc: Global, ssn: Ssn, point: Pc, up: bool) -> Result<String, AllocError>
-    ensures { IfOk result (λ t. string_bytes t ≡ tell_text (Tell.State ssn point up)) }
+    ensures { Gives result (tell_text (Tell.State ssn point up)) }
 {
     let ssn = ssn.number();
     let point = point.number();
@@ -129,7 +130,7 @@ fn state_text(alloc: Global, ssn: Ssn, point: Pc, up: bool) -> Result<String, Al
 }
 
 fn point_text(alloc: Global, point: Pc, up: bool) -> Result<String, AllocError>
-    ensures { IfOk result (λ t. string_bytes t ≡ tell_text (Tell.Point point up)) }
+    ensures { Gives result (tell_text (Tell.Point point up)) }
 {
     let point = point.number();
     let up = up_text(up);
@@ -138,14 +139,14 @@ fn point_text(alloc: Global, point: Pc, up: bool) -> Result<String, AllocError>
 
 /// A word and a number.
 fn number_text(alloc: Global, word: &str, number: u32) -> Result<String, AllocError>
-    ensures { IfOk result (λ t. string_bytes t ≡ spaced (word.now ∷ decimal number ∷ [])) }
+    ensures { Gives result (spaced (word.now ∷ decimal number ∷ [])) }
 {
     format!(in alloc; "{word} {number}")
 }
 
 /// The text of what a user is told.
 pub fn tell_text(alloc: Global, tell: &Tell) -> Result<String, AllocError>
-    ensures { IfOk result (λ t. string_bytes t ≡ tell_text tell.now) }
+    ensures { Gives result (tell_text tell.now) }
 {
     match tell {
         Tell::Unit {
@@ -192,7 +193,7 @@ pub fn tell_text(alloc: Global, tell: &Tell) -> Result<String, AllocError>
 }
 
 fn read_fault_text(alloc: Global, fault: ReadFault) -> Result<String, AllocError>
-    ensures { IfOk result (λ t. string_bytes t ≡ read_fault_text fault) }
+    ensures { Gives result (read_fault_text fault) }
 {
     match fault {
         ReadFault::Empty => String::from_str(alloc, "read 1"),
@@ -204,7 +205,7 @@ fn read_fault_text(alloc: Global, fault: ReadFault) -> Result<String, AllocError
 }
 
 fn lost_text(alloc: Global, lost: Lost) -> Result<String, AllocError>
-    ensures { IfOk result (λ t. string_bytes t ≡ lost_text lost) }
+    ensures { Gives result (lost_text lost) }
 {
     match lost {
         Lost::Read(fault) => read_fault_text(alloc, fault),
@@ -226,7 +227,7 @@ fn lost_text(alloc: Global, lost: Lost) -> Result<String, AllocError>
 
 /// Appends the line of an output.
 pub fn push_output(alloc: Global, text: &mut String, output: &Output) -> Result<(), AllocError>
-    ensures { OnOk result (string_bytes text.new ≡ string_bytes text.old ++ (codes " " ++ output_text output.now ++ codes "\n")) }
+    ensures { OnOk result (string_bytes text.new ≡ string_bytes text.old ++ output_line output.now) }
 {
     match output {
         Output::Sent { point, sls, bytes } => {

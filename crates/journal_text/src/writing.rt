@@ -5,7 +5,7 @@ ghost use Rattle.std.specs.Io.KnownBytes.{Appends};
 ghost use Rattle.relay_base.specs.Causes.{Rose};
 ghost use Rattle.relay_base.specs.Streams.{AppendedPart};
 ghost use Rattle.journal_text.specs.Print.{lanes_text, book_text};
-ghost use Rattle.journal_text.specs.Writing.{Writes, Carries};
+ghost use Rattle.journal_text.specs.Inner.Writing.{Writes, Carries};
 
 use crate::book::Book;
 use crate::entries::Printed;
@@ -54,7 +54,8 @@ impl From<AllocError> for WriteFault {
 }
 
 fn write_text<K: Sink>(out: &mut K, text: &str) -> Result<(), WriteFault>
-    ensures { Writes (K.held out.old) (K.held out.new) (K.faults out.old) (K.faults out.new) text.now result }
+    ensures { Writes (K.held out.old) (K.held out.new) (K.faults out.old) (K.faults out.new)
+        text.now result }
 {
     write_all(out, text.as_bytes())?;
     Ok(())
@@ -62,7 +63,8 @@ fn write_text<K: Sink>(out: &mut K, text: &str) -> Result<(), WriteFault>
 
 /// Writes a text that waits, where it is long.
 fn write_if_long<K: Sink>(out: &mut K, text: &mut String) -> Result<(), WriteFault>
-    ensures { Carries (K.held out.old) (K.held out.new) (K.faults out.old) (K.faults out.new) (string_bytes text.old) (string_bytes text.new) result }
+    ensures { Carries (K.held out.old) (K.held out.new) (K.faults out.old) (K.faults out.new)
+        (string_bytes text.old) (string_bytes text.new) result }
 {
     if text.len() >= LONG {
         write_text(out, text.as_str())?;
@@ -78,7 +80,8 @@ fn carry_entry<K: Sink, P: Printed>(
     text: &mut String,
     entry: &P,
 ) -> Result<(), WriteFault>
-    ensures { Carries (K.held out.old) (K.held out.new) (K.faults out.old) (K.faults out.new) (string_bytes text.old ++ P.print entry.now) (string_bytes text.new) result }
+    ensures { Carries (K.held out.old) (K.held out.new) (K.faults out.old) (K.faults out.new)
+        (string_bytes text.old ++ P.print entry.now) (string_bytes text.new) result }
 {
     entry.push(alloc, text)?;
     write_if_long(out, text)
@@ -91,7 +94,8 @@ fn carry_entries<K: Sink, P: Printed>(
     text: &mut String,
     entries: &[P],
 ) -> Result<(), WriteFault>
-    ensures { Carries (K.held out.old) (K.held out.new) (K.faults out.old) (K.faults out.new) (string_bytes text.old ++ flat_map P.print entries.now) (string_bytes text.new) result }
+    ensures { Carries (K.held out.old) (K.held out.new) (K.faults out.old) (K.faults out.new)
+        (string_bytes text.old ++ flat_map P.print entries.now) (string_bytes text.new) result }
 {
     for entry in entries {
         carry_entry(alloc, out, text, entry)?;
@@ -107,7 +111,8 @@ fn carry_lanes<K: Sink>(
     name: &str,
     lanes: &[EntryList],
 ) -> Result<(), WriteFault>
-    ensures { Carries (K.held out.old) (K.held out.new) (K.faults out.old) (K.faults out.new) (string_bytes text.old ++ lanes_text name.now 0 lanes.now) (string_bytes text.new) result }
+    ensures { Carries (K.held out.old) (K.held out.new) (K.faults out.old) (K.faults out.new)
+        (string_bytes text.old ++ lanes_text name.now 0 lanes.now) (string_bytes text.new) result }
 {
     for (number, lane) in lanes.iter().enumerate() {
         writeln!(text, "= {name} {number}")?;

@@ -10,8 +10,8 @@ use Rattle.std.proofs.lemmas.List.Elements.{filter-append, All-from_recursion}
 use Rattle.std.proofs.lemmas.List.Sorted.{IsNonDecreasingBy-push}
 use Rattle.relay_base.specs.declared.words.Stamp.{Stamp}
 use Rattle.plant_core.specs.declared.entry.ControlEvent.{ControlEvent}
-use Rattle.capture_form.specs.Capture.{AreOfLinks}
-use Rattle.node_engine.specs.Own.{Stamped, is_at, events_at, phase_events, HasEventsInOrder}
+use Rattle.capture_form.specs.Events.{Stamped, is_at, phase_events, AreOfLinks}
+use Rattle.node_engine.specs.Own.{events_at, HasEventsInOrder}
 use Rattle.node_engine.proofs.ListLemmas.{weaker, all-append, all-push}
 
 abbrev IsOf : ℕ → ℕ → Stamp × ControlEvent → Type 0

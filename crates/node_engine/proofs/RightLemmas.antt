@@ -13,12 +13,12 @@ use Rattle.data_lane.specs.Legal.{LaneState, IsDataJournal}
 use Rattle.conn_lane.specs.Lanes.{ConnLaneState, IsConnJournal}
 use Rattle.scmg.specs.Control.{IsControlJournal}
 use Rattle.node_head.specs.declared.head.Head.{Head}
-use Rattle.capture_form.specs.Capture.{AreOfLinks}
+use Rattle.capture_form.specs.Events.{Stamped, phase_events, AreOfLinks}
 use Rattle.capture_form.specs.Place.{place_of}
 use Rattle.capture_form.specs.declared.lane_place.LanePlace.{LanePlace}
 use Rattle.journal_text.specs.declared.book.Book.{Book}
 use Rattle.node_engine.specs.declared.node.Node.{Node}
-use Rattle.node_engine.specs.Own.{Stamped, HasEventsInOrder, pairs_of, control_pairs_of, phase_events}
+use Rattle.node_engine.specs.Own.{HasEventsInOrder, pairs_of, control_pairs_of}
 use Rattle.node_engine.specs.Heads.{lane_head_of, control_head_of}
 use Rattle.node_engine.specs.Placed.{in_control, taken, placed, IsOfLane}
 use Rattle.node_engine.specs.Lanes.{LaneKind, LanesFrom, IsServed, conn_kind, data_kind}

@@ -14,11 +14,11 @@ use Rattle.plant_core.specs.declared.entry.ControlEvent.{ControlEvent}
 use Rattle.plant_core.specs.declared.entry.ControlEvent.TheVariants.{Plain}
 use Rattle.conn_lane.specs.Lanes.{ConnLaneState}
 use Rattle.node_head.specs.declared.head.Head.{Head}
-use Rattle.capture_form.specs.Capture.{AreOfLinks, AreOfPhases}
+use Rattle.capture_form.specs.Events.{Stamped, AreOfLinks, AreOfPhases}
 use Rattle.capture_form.specs.Place.{place_of}
 use Rattle.capture_form.specs.declared.lane_place.LanePlace.{LanePlace}
 use Rattle.node_engine.specs.declared.node.Node.{Node}
-use Rattle.node_engine.specs.Own.{Stamped, pairs_of, control_pairs_of}
+use Rattle.node_engine.specs.Own.{pairs_of, control_pairs_of}
 use Rattle.node_engine.specs.Placed.{in_control, taken}
 use Rattle.node_engine.specs.Lanes.{LaneKind, conn_kind, data_kind}
 use Rattle.node_engine.specs.Running.{PairsFrom, CanTake, HasRoom, IsOf, Took, Went, conn_journals, data_journals}

@@ -12,7 +12,8 @@ use Rattle.plant_core.specs.declared.entry.Entry.{Entry}
 use Rattle.plant_core.specs.declared.entry.ControlEntry.{ControlEntry}
 use Rattle.plant_core.specs.declared.terms.LaneHead.{LaneHead}
 use Rattle.capture_form.specs.declared.lane_place.LanePlace.{LanePlace}
-use Rattle.node_engine.specs.Own.{Stamped, pairs_of}
+use Rattle.capture_form.specs.Events.{Stamped}
+use Rattle.node_engine.specs.Own.{pairs_of}
 use Rattle.node_engine.specs.Placed.{in_conn, in_data, IsOfLane}
 use Rattle.node_engine.specs.Heads.{lane_head_of}
 use Rattle.node_engine.specs.Editions.{IsRouting, editions_in}

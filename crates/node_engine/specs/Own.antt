@@ -1,15 +1,10 @@
 -- Which events the journal of a lane has, and in which order.
-use Rattle.std.specs.Prelude.{◌≡◌, ℕ, zero, suc, ◌==◌, ◌&&◌, Bool, List, [], map, filter, slice_index_or}
-use Rattle.std.specs.List.{flat_map}
+use Rattle.std.specs.Prelude.{◌≡◌, ℕ, zero, suc, List, [], map, filter, slice_index_or}
 use Rattle.std.specs.List.Sorted.{IsNonDecreasingBy}
-use Rattle.relay_base.specs.declared.words.Stamp.{Stamp}
 use Rattle.plant_core.specs.declared.entry.Entry.{Entry}
 use Rattle.plant_core.specs.declared.entry.ControlEntry.{ControlEntry}
-use Rattle.plant_core.specs.declared.entry.ControlEvent.{ControlEvent}
 use Rattle.plant_core.specs.declared.entry.ControlEvent.TheVariants.{Plain}
-
-abbrev pub Stamped : Type 0
-Stamped = List (Stamp × ControlEvent)
+use Rattle.capture_form.specs.Events.{Stamped, is_at}
 
 -- the pairs of stamp and event of a journal, and of the control lane's
 abbrev pub pairs_of : List Entry → Stamped
@@ -17,10 +12,6 @@ pairs_of journal = map (λ e. (e.stamp, Plain e.event)) journal
 
 abbrev pub control_pairs_of : List ControlEntry → Stamped
 control_pairs_of journal = map (λ e. (e.stamp, e.event)) journal
-
--- whether a pair stands in this phase and on this link
-abbrev pub is_at : ℕ → ℕ → Stamp × ControlEvent → Bool
-is_at phase link e = e.0.phase == phase && e.0.link == link
 
 -- the events of a phase, counted from 1, and of a link, from 0
 abbrev pub events_at : List (List Stamped) → ℕ → ℕ → Stamped
@@ -31,10 +22,3 @@ events_at phases (suc n) link = slice_index_or (slice_index_or phases n []) link
 pub record HasEventsInOrder (journal : Stamped) (phases : List (List Stamped)) : Type 0 where
   pub phases_rise : IsNonDecreasingBy (λ e. e.0.phase) journal
   pub in_order : (phase link : ℕ) → filter (is_at phase link) journal ≡ events_at phases phase link
-
--- the events of a phase, one link after the other, and of all phases
-abbrev pub phase_events : List Stamped → Stamped
-phase_events lists = flat_map (λ events. events) lists
-
-abbrev pub all_events : List (List Stamped) → Stamped
-all_events phases = flat_map phase_events phases

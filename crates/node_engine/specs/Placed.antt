@@ -4,7 +4,8 @@ use Rattle.node_head.specs.declared.head.Head.{Head}
 use Rattle.capture_form.specs.declared.lane_place.LanePlace.{LanePlace}
 use Rattle.capture_form.specs.declared.lane_place.LanePlace.TheVariants.{All, Control, Conn, Unit as Data}
 use Rattle.capture_form.specs.Place.{place_of}
-use Rattle.node_engine.specs.Own.{Stamped, HasEventsInOrder}
+use Rattle.capture_form.specs.Events.{Stamped}
+use Rattle.node_engine.specs.Own.{HasEventsInOrder}
 
 -- the places that are in the control lane, and in the connection lane and the data lane of a number
 abbrev pub in_control : LanePlace → Bool

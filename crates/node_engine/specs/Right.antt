@@ -5,7 +5,8 @@ use Rattle.scmg.specs.Control.{IsControlJournal}
 use Rattle.conn_lane.specs.Lanes.{IsConnJournal}
 use Rattle.data_lane.specs.Legal.{IsDataJournal}
 use Rattle.journal_text.specs.declared.book.Book.{Book}
-use Rattle.node_engine.specs.Own.{Stamped, control_pairs_of}
+use Rattle.capture_form.specs.Events.{Stamped}
+use Rattle.node_engine.specs.Own.{control_pairs_of}
 use Rattle.node_engine.specs.Placed.{in_control, IsOfLane}
 use Rattle.node_engine.specs.Heads.{routing_of, lane_head_of, control_head_of}
 use Rattle.node_engine.specs.Lanes.{LanesFrom, IsServed, conn_kind, data_kind}

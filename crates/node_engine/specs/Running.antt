@@ -22,7 +22,8 @@ use Rattle.scmg.specs.Lane.{ControlState}
 use Rattle.scmg.specs.Lane.{changes_of as changes_by}
 use Rattle.node_engine.specs.declared.changes.PhaseChanges.{PhaseChanges}
 use Rattle.node_engine.specs.declared.node.Node.{Node}
-use Rattle.node_engine.specs.Own.{Stamped, pairs_of, control_pairs_of}
+use Rattle.capture_form.specs.Events.{Stamped}
+use Rattle.node_engine.specs.Own.{pairs_of, control_pairs_of}
 use Rattle.node_engine.specs.Heads.{routing_of, lane_head_of, control_head_of}
 use Rattle.node_engine.specs.Placed.{in_control, in_conn, in_data, taken}
 use Rattle.node_engine.specs.Editions.{changes_of, editions_in}

@@ -2,8 +2,7 @@
 ghost use Rattle.std.specs.Prelude.{◌≡◌, ◌++◌, ◌+◌, ◌<◌, ◌∷◌, [], List, length, OnOk};
 ghost use Rattle.std.specs.List.{AllByRecursion};
 ghost use Rattle.scmg.specs.Control.{IsControlJournal};
-ghost use Rattle.capture_form.specs.Capture.{AreOfLinks};
-ghost use Rattle.node_engine.specs.Own.{Stamped, phase_events};
+ghost use Rattle.capture_form.specs.Events.{Stamped, phase_events, AreOfLinks};
 ghost use Rattle.node_engine.specs.Right.{HasServed};
 ghost use Rattle.node_engine.specs.Running.{CanTake, ConnsTake, ControlTakes, IsOpen, UnitsTake, Went, book_of};
 

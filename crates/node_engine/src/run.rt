@@ -5,8 +5,7 @@ ghost use Rattle.conn_lane.specs.Lanes.{IsConnJournal};
 ghost use Rattle.data_lane.specs.Legal.{IsDataJournal};
 ghost use Rattle.node_head.specs.Ranges.{IsHead};
 ghost use Rattle.journal_text.specs.Book.{IsEmpty};
-ghost use Rattle.capture_form.specs.Capture.{IsStamped};
-ghost use Rattle.node_engine.specs.Own.{all_events};
+ghost use Rattle.capture_form.specs.Events.{all_events, IsStamped};
 ghost use Rattle.node_engine.specs.Right.{HasServed, IsRight};
 ghost use Rattle.node_engine.specs.Running.{CanTake, HasLegal, IsOf, book_of, conn_journals, data_journals};
 

@@ -8,6 +8,7 @@ use Rattle.relay_base.specs.Giving.{◌>>=◌}
 use Rattle.toml.specs.Data.{Data, Members, no_members, get_member, as_integer, as_array, as_table}
 use Rattle.sccp_address.specs.declared.address.Selector.{Selector}
 use Rattle.gtt_table.specs.Rows.{has_row}
+use Rattle.gtt_table.specs.declared.table.TheConstants.Table.{MOST}
 use Rattle.gtt_table.specs.declared.row.Row.{Row}
 use Rattle.plant_core.specs.Terms.{IsWithin, AreTicks}
 use Rattle.plant_core.specs.declared.terms.Replicate.{Replicate}
@@ -24,7 +25,9 @@ use Rattle.node_head.specs.Addable.{are_addable}
 use Rattle.node_head.specs.Entity.{digits_of}
 use Rattle.node_head.specs.Keys.{path, required, usual, number_in, number_value, number_at, point_at, text_at}
 use Rattle.node_head.specs.Numbers.{integers_after, new_number, numbers_after, numbers_value, users_value, other_points, concerned_value}
-use Rattle.node_head.specs.Timers.{ticks_at, connection_ticks, release_ticks, waiting_ticks, management_ticks, ticks_of, timers_value}
+use Rattle.node_head.specs.Timers.{ticks_at, ticks_of, timers_value}
+use Rattle.node_head.specs.Inner.Timers.{connection_ticks, release_ticks, waiting_ticks, management_ticks, grouped_ticks}
+use Rattle.node_head.proofs.TimerLemmas.{grouped-flat}
 use Rattle.node_head.specs.Tables.{tables_value}
 use Rattle.node_head.specs.Rows.{selector_at, new_prefix, prefix_at, entity_at, second_at, row_of, rows_after, rows_value}
 use Rattle.node_head.specs.Replicates.{has_replicate, is_new_user, user_at, other_point_at, replicate_of, replicates_after, replicates_value}
@@ -129,9 +132,9 @@ management-within place ms =
     bound_if (λ n. IsWithin status n 65535) _ (ticks_at place ms (codes "status_max") (max 600 status) status) _ (ticks-within place ms (codes "status_max") (max 600 status) status (longest status h)) (λ status_max i.
     bound_if (λ n. IsWithin 1 n 65535) _ (ticks_at place ms (codes "coord") 90 1) _ (ticks-within place ms (codes "coord") 90 1 (omega arith, omega arith)) (λ coord j. (h, i, j))))
 
-all-within : (place : Place) (ms : Members) → IfGiven AreTicks (ticks_of place ms)
-unfolding ticks_of
-all-within place ms =
+grouped-within : (place : Place) (ms : Members) → IfGiven AreTicks (grouped_ticks place ms)
+unfolding grouped_ticks
+grouped-within place ms =
     bound_if (λ (t : ℕ × ℕ × ℕ). IsWithin 1 t.0 65535 × IsWithin 60 t.1 65535 × IsWithin 1 t.2 65535) AreTicks (connection_ticks place ms) _ (connection-within place ms) (λ connection h.
     bound_if (λ (t : ℕ × ℕ × ℕ). IsWithin 1 t.0 65535 × IsWithin 5 t.1 65535 × IsWithin 1 t.2 65535) AreTicks (release_ticks place ms) _ (release-within place ms) (λ release i.
     bound_if (λ (t : ℕ × ℕ × ℕ). IsWithin 1 t.0 65535 × IsWithin 1 t.1 65535 × IsWithin 1 t.2 65535) AreTicks (waiting_ticks place ms) _ (waiting-within place ms) (λ waiting j.
@@ -150,6 +153,9 @@ all-within place ms =
       status_max = k.1;
       coord = k.2;
     }))))
+
+all-within : (place : Place) (ms : Members) → IfGiven AreTicks (ticks_of place ms)
+all-within place ms = subst (IfGiven AreTicks) (grouped-flat place ms) (grouped-within place ms)
 
 timers-within : (d : Option Data) → IfGiven AreTicks (timers_value d)
 unfolding timers_value
@@ -264,14 +270,14 @@ rows-addable own (ms ∷ more) found h few =
     (row-new own found (Nth Rows (length found + 1)) ms)
     (λ row apart. rows-addable own more (found ++ row ∷ []) (addable_more found row h (omega (arith, few)) apart) (omega (arith, few, length-append found (row ∷ []))))
 
-few-rows : (n : ℕ) → nat_lt 4096 n ≡ false → 0 + n ≤ 4096
+few-rows : (n : ℕ) → nat_lt MOST n ≡ false → 0 + n ≤ 4096
 few-rows n h = grind (arith, nat_tests)
 
 rows-are : (own : ℕ) (d : Option Data) → IfGiven (λ rows. IsTrue (are_addable [] rows)) (rows_value own d)
 unfolding rows_value
 rows-are own d =
     bound (λ rows. IsTrue (are_addable [] rows)) (tables_value Rows d) _ (λ tables.
-    by_test (λ rows. IsTrue (are_addable [] rows)) (nat_lt 4096 (length tables)) (Err (fault kind.Range (codes "row"))) (rows_after own [] tables) (λ e. tt)
+    by_test (λ rows. IsTrue (are_addable [] rows)) (nat_lt MOST (length tables)) (Err (fault kind.Range (codes "row"))) (rows_after own [] tables) (λ e. tt)
     (λ e. rows-addable own tables [] refl (few-rows (length tables) e)))
 
 -- ---- replicates
@@ -366,6 +372,6 @@ head-in ms =
     })))))))
 
 -- a head that was read is in its ranges
-pub read_in_range : (r : Result Head HeadRefused) (ms : Members) → Reads (λ h. h) r (values_of ms) → IfOk r IsHead
+pub read_in_range : (r : Result Head HeadRefused) (ms : Members) → Reads r (values_of ms) → IfOk r IsHead
 read_in_range (Ok head) ms e = subst (IfGiven IsHead) e (head-in ms)
 read_in_range (Err f) ms e = tt

@@ -1,7 +1,6 @@
 -- The texts of a row: the digits of a prefix, and where a translation leads.
-use Rattle.std.specs.Prelude.{ℕ, ◌+◌, ◌-◌, ◌*◌, ◌==◌, ◌&&◌, ◌||◌, not, nat_lt, nat_le, true, false, codes, Bool, List, [], ◌∷◌, ◌++◌, length, take, drop, fold, position, if◌then◌else◌, Option, Some, None, option_map, option_and_then}
-use Rattle.std.specs.Char.{is_ascii_digit}
-use Rattle.std.specs.List.{list_all}
+use Rattle.std.specs.Prelude.{ℕ, ◌+◌, ◌-◌, ◌==◌, ◌&&◌, not, nat_lt, nat_le, true, false, codes, List, [], ◌∷◌, ◌++◌, length, take, drop, position, if◌then◌else◌, Option, Some, None, option_map, option_and_then}
+use Rattle.relay_base.specs.Decimal.{number_of}
 use Rattle.gtt_table.specs.declared.row.Entity.{Entity}
 use Rattle.node_head.specs.Keys.{same}
 
@@ -25,16 +24,6 @@ digits_after found (c ∷ cs) = option_and_then (λ d. digits_after (found ++ d 
 -- at most 24 hex digits
 unfoldable pub digits_of : List ℕ → Option (List ℕ)
 digits_of text = if nat_lt 24 (length text) then None else digits_after [] text
-
--- 1 to 10 digits
-abbrev pub is_number : List ℕ → Bool
-is_number word = if length word == 0 || nat_lt 10 (length word) then false else list_all is_ascii_digit word
-
-abbrev pub digits_value : List ℕ → ℕ
-digits_value word = fold (λ number digit. 10 * number + (digit - 48)) 0 word
-
-unfoldable pub number_of : List ℕ → Option ℕ
-number_of word = if is_number word then Some (digits_value word) else None
 
 -- a number below a limit
 abbrev pub number_below : ℕ → List ℕ → Option ℕ

@@ -1,17 +1,15 @@
 -- The keys of a head, and the reading of a number or a text at one.
-use Rattle.std.specs.Prelude.{ℕ, ℤ, pos, negsuc, ◌+◌, ◌≤◌, ◌&&◌, ◌||◌, nat_eq, nat_le, codes, Bool, List, ◌++◌, if◌then◌else◌, Option, Some, None, Ok, Err, IfSome, option_map, unwrap_or, option_and_then}
+use Rattle.std.specs.Prelude.{ℕ, ℤ, pos, negsuc, ◌+◌, ◌&&◌, ◌||◌, nat_eq, nat_le, codes, Bool, List, ◌++◌, if◌then◌else◌, Option, Some, None, Ok, Err, unwrap_or, option_and_then}
 use lib.Pointwise.{pointwise}
 use Rattle.std.specs.Fmt.{decimal}
 use Rattle.std.specs.declared.result.Result.{Result}
 use Rattle.relay_base.specs.Giving.{◌>>=◌}
 use Rattle.toml.specs.Data.{Data, Items, no_items, item, Members, no_members, member, get_member, as_integer, as_str, as_array, as_table}
-use Rattle.toml.specs.View.{table_view}
 use Rattle.node_head.specs.declared.fault.HeadFault.{HeadFault}
 use Rattle.node_head.specs.declared.fault.HeadKind.TheVariants as kind
 use Rattle.node_head.specs.declared.section.Bounds.{Bounds}
 use Rattle.node_head.specs.declared.section.Place.{Place}
 use Rattle.node_head.specs.declared.section.Place.TheVariants.{Top, Timers, Nth}
-use Rattle.node_head.specs.declared.section.Section.{Section}
 use Rattle.node_head.specs.declared.section.TableArray.{TableArray}
 use Rattle.node_head.specs.declared.section.TableArray.TheVariants.{Rows, Replicates}
 use Rattle.node_head.specs.Refusals.{fault, or_fault}
@@ -72,11 +70,15 @@ known_tables array n (item d ds) = do
 abbrev pub known_array : TableArray → Members → Result (Unit {0}) HeadFault
 known_array array ms = known_tables array 1 (items_at (get_member (array_key array) ms))
 
+-- the keys of the timers
+abbrev pub known_timers : Members → Result (Unit {0}) HeadFault
+known_timers ms = known_keys Timers (members_at (get_member (codes "timers") ms))
+
 -- no key is unknown: those of the top level first, then those of the timers, of each row, and of each replicate
 unfoldable pub all_known : Members → Result (Unit {0}) HeadFault
 all_known ms = do
   top ← known_keys Top ms
-  timers ← known_keys Timers (members_at (get_member (codes "timers") ms))
+  timers ← known_timers ms
   rows ← known_array Rows ms
   known_array Replicates ms
 
@@ -91,10 +93,6 @@ required least most = record { default = None; least = least; most = most }
 
 abbrev pub usual : ℕ → ℕ → ℕ → Bounds
 usual default least most = record { default = Some default; least = least; most = most }
-
--- the default is not above the greatest value
-abbrev pub IsBounds : Bounds → Type 0
-IsBounds b = IfSome b.default (λ d. d ≤ b.most)
 
 -- an integer within its bounds; its default where it is absent
 abbrev pub number_value : List ℕ → Bounds → Option Data → Result ℕ HeadFault
@@ -117,7 +115,3 @@ text_value key (Some d) = or_fault (as_str d) (fault kind.Kind key)
 
 unfoldable pub text_at : Place → Members → List ℕ → Result (List ℕ) HeadFault
 text_at place ms key = text_value (path place key) (get_member key ms)
-
--- the members of a table as the code holds it
-abbrev pub members_of : Section → Members
-members_of s = unwrap_or (option_map (λ t. table_view t.now) s.table) no_members

@@ -1,25 +1,23 @@
 -- What a reading of the head returned, beside what a definition gives.
-use Rattle.std.specs.Prelude.{◌≡◌, ℕ, List, Option, Some, None, Ok, Err}
+use Rattle.std.specs.Prelude.{ℕ, List, Option, Some, None, Ok, Err}
 use Rattle.std.specs.declared.result.Result.{Result}
+use Rattle.relay_base.specs.Giving.{GivesOrMemory}
 use Rattle.node_head.specs.declared.fault.HeadKind.{HeadKind}
 use Rattle.node_head.specs.declared.fault.HeadFault.{HeadFault}
 use Rattle.node_head.specs.declared.fault.HeadRefused.{HeadRefused}
 use Rattle.node_head.specs.declared.fault.HeadRefused.TheVariants.{Fault, Memory}
 
--- the refusal is this fault, unless memory ran out
-abbrev pub Refuses : HeadRefused → HeadFault → Type 0
-Refuses Memory f = Unit {0}
-Refuses (Fault g) f = g ≡ f
-
--- a refused call, beside what the definition gives
-abbrev pub Fails : {Y : Type 0} → HeadRefused → Result Y HeadFault → Type 0
-Fails Memory given = Unit {0}
-Fails (Fault f) given = given ≡ Err f
+-- the fault that a refusal tells; none is want of memory
+abbrev pub fault_in : HeadRefused → Option HeadFault
+fault_in Memory = None
+fault_in (Fault f) = Some f
 
 -- the call gave, seen by view, what the definition gives, unless memory ran out
-abbrev pub Reads : {X Y : Type 0} → (X → Y) → Result X HeadRefused → Result Y HeadFault → Type 0
-Reads view (Ok x) given = given ≡ Ok (view x)
-Reads view (Err e) given = Fails e given
+abbrev pub ReadsAs : {X Y : Type 0} → (X → Y) → Result X HeadRefused → Result Y HeadFault → Type 0
+ReadsAs view result given = GivesOrMemory view fault_in result given
+
+abbrev pub Reads : {Y : Type 0} → Result Y HeadRefused → Result Y HeadFault → Type 0
+Reads result given = ReadsAs (λ x. x) result given
 
 abbrev pub fault : HeadKind → List ℕ → HeadFault
 fault kind key = record { kind = kind; key = key }

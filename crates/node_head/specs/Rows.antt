@@ -6,6 +6,7 @@ use Rattle.sccp_address.specs.declared.address.Selector.{Selector}
 use Rattle.gtt_table.specs.declared.row.Row.{Row}
 use Rattle.gtt_table.specs.declared.row.Entity.{Entity}
 use Rattle.gtt_table.specs.Rows.{has_row}
+use Rattle.gtt_table.specs.declared.table.TheConstants.Table.{MOST}
 use Rattle.toml.specs.Data.{Data, Members, get_member}
 use Rattle.node_head.specs.declared.fault.HeadFault.{HeadFault}
 use Rattle.node_head.specs.declared.fault.HeadKind.TheVariants as kind
@@ -75,4 +76,4 @@ rows_after own found (ms ∷ more) = do
 unfoldable pub rows_value : ℕ → Option Data → Result (List Row) HeadFault
 rows_value own d = do
   tables ← tables_value Rows d
-  if nat_lt 4096 (length tables) then Err (fault kind.Range (codes "row")) else rows_after own [] tables
+  if nat_lt MOST (length tables) then Err (fault kind.Range (codes "row")) else rows_after own [] tables

@@ -8,64 +8,43 @@ use Rattle.node_head.specs.declared.fault.HeadFault.{HeadFault}
 use Rattle.node_head.specs.declared.fault.HeadKind.TheVariants as kind
 use Rattle.node_head.specs.declared.section.Place.{Place}
 use Rattle.node_head.specs.declared.section.Place.TheVariants.{Timers}
+use Rattle.node_head.specs.declared.timers.TheConstants.{MOST_TICKS}
 use Rattle.node_head.specs.Keys.{usual, number_at}
 use Rattle.node_head.specs.Refusals.{fault, or_fault}
 
 -- the ticks at a key: their default, and the range from the least to 65,535
 unfoldable pub ticks_at : Place → Members → List ℕ → ℕ → ℕ → Result ℕ HeadFault
-ticks_at place ms key default least = number_at place ms key (usual default least 65535)
+ticks_at place ms key default least = number_at place ms key (usual default least MOST_TICKS)
 
--- T(conn est), T(ias), T(iar)
-unfoldable pub connection_ticks : Place → Members → Result (ℕ × ℕ × ℕ) HeadFault
-connection_ticks place ms = do
+-- the timers with their keys, defaults and least values: T(conn est), T(ias), T(iar), T(rel), T(repeat rel), T(int), T(reset),
+-- T(reassembly), how long a local reference is frozen, T(stat info) at first and at most, and T(coord chg)
+unfoldable pub ticks_of : Place → Members → Result Ticks HeadFault
+ticks_of place ms = do
   connect ← ticks_at place ms (codes "connect") 90 1
   ias ← ticks_at place ms (codes "ias") 420 60
   iar ← ticks_at place ms (codes "iar") 900 1
-  Ok (connect, ias, iar)
-
--- T(rel), T(repeat rel), T(int)
-unfoldable pub release_ticks : Place → Members → Result (ℕ × ℕ × ℕ) HeadFault
-release_ticks place ms = do
   rel ← ticks_at place ms (codes "rel") 15 1
   repeat ← ticks_at place ms (codes "repeat") 15 5
   int ← ticks_at place ms (codes "int") 60 1
-  Ok (rel, repeat, int)
-
--- T(reset), T(reassembly), and how long a local reference is frozen
-unfoldable pub waiting_ticks : Place → Members → Result (ℕ × ℕ × ℕ) HeadFault
-waiting_ticks place ms = do
   reset ← ticks_at place ms (codes "reset") 15 1
   reassembly ← ticks_at place ms (codes "reassembly") 15 1
   freeze ← ticks_at place ms (codes "freeze") 60 1
-  Ok (reset, reassembly, freeze)
-
--- T(stat info) at first and at most, T(coord chg)
-unfoldable pub management_ticks : Place → Members → Result (ℕ × ℕ × ℕ) HeadFault
-management_ticks place ms = do
   status ← ticks_at place ms (codes "status") 30 1
   status_max ← ticks_at place ms (codes "status_max") (max 600 status) status
   coord ← ticks_at place ms (codes "coord") 90 1
-  Ok (status, status_max, coord)
-
-unfoldable pub ticks_of : Place → Members → Result Ticks HeadFault
-ticks_of place ms = do
-  connection ← connection_ticks place ms
-  release ← release_ticks place ms
-  waiting ← waiting_ticks place ms
-  management ← management_ticks place ms
   Ok (record {
-    connect = connection.0;
-    ias = connection.1;
-    iar = connection.2;
-    rel = release.0;
-    repeat = release.1;
-    int = release.2;
-    reset = waiting.0;
-    reassembly = waiting.1;
-    freeze = waiting.2;
-    status = management.0;
-    status_max = management.1;
-    coord = management.2;
+    connect = connect;
+    ias = ias;
+    iar = iar;
+    rel = rel;
+    repeat = repeat;
+    int = int;
+    reset = reset;
+    reassembly = reassembly;
+    freeze = freeze;
+    status = status;
+    status_max = status_max;
+    coord = coord;
   })
 
 -- the timers of a table, all with their defaults where there is none

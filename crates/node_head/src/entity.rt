@@ -1,11 +1,9 @@
 //! The texts of a row: numbers, the digits of a prefix, and where a translation leads.
 ghost use Rattle.std.specs.Prelude.{◌≡◌, ◌==◌, length, position, option_map};
-ghost use Rattle.std.specs.Char.{is_ascii_digit};
-ghost use Rattle.std.specs.List.{list_all};
-ghost use Rattle.node_head.specs.Entity.{hex_digit, digits_of, is_number, number_of, number_below, optional_subsystem, parted, leading, entity_of};
+ghost use Rattle.node_head.specs.Entity.{hex_digit, digits_of, number_below, optional_subsystem, parted, leading, entity_of};
 
 use gtt_table::Entity;
-use relay_base::{Digit, Digits, Pc, Ssn};
+use relay_base::{Digit, Digits, Pc, Ssn, number_of};
 
 /// The value of a hex digit of either case.
 fn hex_digit(octet: u8) -> Option<Digit>
@@ -32,37 +30,6 @@ pub fn digits_of(text: &[u8]) -> Option<Digits>
         digits.push(hex_digit(*octet)?);
     }
     Some(digits)
-}
-
-fn all_digits(word: &[u8]) -> bool
-    ensures { result ≡ list_all is_ascii_digit word.now }
-{
-    word.iter().all(|d| d.is_ascii_digit())
-}
-
-/// Whether a word is a number: 1 to 10 digits.
-fn is_number(word: &[u8]) -> bool
-    ensures { result ≡ is_number word.now }
-{
-    if word.is_empty() || word.len() > 10 {
-        return false;
-    }
-    all_digits(word)
-}
-
-/// The number that a word writes: 1 to 10 decimal digits.
-#[tactic(auto, unfolding(crate::specs::Entity::number_of))]
-pub fn number_of(word: &[u8]) -> Option<u64>
-    ensures { result ≡ number_of word.now }
-{
-    if !is_number(word) {
-        return None;
-    }
-    let mut number = 0u64;
-    for digit in word {
-        number = 10 * number + u64::from(*digit - b'0');
-    }
-    Some(number)
 }
 
 fn point_of(word: &[u8]) -> Option<Pc>

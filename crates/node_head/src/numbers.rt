@@ -1,6 +1,7 @@
 //! The lists of different numbers in a head: its local users, and the points that are concerned.
-ghost use Rattle.std.specs.Prelude.{◌≡◌, ◌<◌, [], option_map, IfOk};
-ghost use Rattle.toml.specs.View.{view, items_view};
+ghost use Rattle.std.specs.Prelude.{◌≡◌, ◌<◌, [], IfOk};
+ghost use Rattle.toml.specs.View.{array_view};
+ghost use Rattle.node_head.specs.Inner.Sections.{integers_in, data_in};
 ghost use Rattle.node_head.specs.Keys.{number_in};
 ghost use Rattle.node_head.specs.Refusals.{Reads};
 ghost use Rattle.node_head.specs.Numbers.{integers_after, new_number, numbers_after, numbers_value, users_value, other_points, concerned_value};
@@ -27,7 +28,7 @@ fn number_from<const LIMIT: u32>(bounds: &Bounds, number: i64) -> Option<Below<L
 
 /// The integers of an array, where each item is one.
 fn integers(alloc: Global, array: &Array) -> Result<Option<Vec<i64>>, AllocError>
-    ensures { IfOk result (λ found. option_map (λ v. v.items) found ≡ integers_after [] (items_view array.now.items)) }
+    ensures { IfOk result (λ found. integers_in found ≡ integers_after [] (array_view array.now)) }
 {
     let mut found = Vec::new(alloc);
     for value in array {
@@ -84,7 +85,7 @@ fn numbers_of<const LIMIT: u32>(
     value: Option<&Value>,
 ) -> Result<PlainList<Below<LIMIT>>, HeadRefused>
     requires { bounds.now.most < LIMIT }
-    ensures { Reads (λ l. l) result (numbers_value key.now bounds.now (option_map (λ v. view v.now) value.entry)) }
+    ensures { Reads result (numbers_value key.now bounds.now (data_in value.entry)) }
 {
     let Some(value) = value else {
         return Ok(PlainList::new(alloc));
@@ -106,14 +107,14 @@ fn numbers_of<const LIMIT: u32>(
 
 /// The local users, none where the key is absent.
 pub fn users_of(alloc: Global, value: Option<&Value>) -> Result<SsnList, HeadRefused>
-    ensures { Reads (λ l. l) result (users_value (option_map (λ v. view v.now) value.entry)) }
+    ensures { Reads result (users_value (data_in value.entry)) }
 {
     numbers_of(alloc, "users", &Bounds::required(2, 254), value)
 }
 
 /// Refuses points among which the own one is.
 fn other_points(alloc: Global, own: Pc, points: PcList) -> Result<PcList, HeadRefused>
-    ensures { Reads (λ l. l) result (other_points own points) }
+    ensures { Reads result (other_points own points) }
 {
     if points.as_slice().contains(&own) {
         return Err(refuse(alloc, HeadKind::Range, "concerned"));
@@ -124,7 +125,7 @@ fn other_points(alloc: Global, own: Pc, points: PcList) -> Result<PcList, HeadRe
 /// The points that are concerned, none where the key is absent.
 #[tactic(auto, using(crate::proofs::HeadLemmas::failures), unfolding(crate::specs::Numbers::concerned_value))]
 pub fn concerned_of(alloc: Global, own: Pc, value: Option<&Value>) -> Result<PcList, HeadRefused>
-    ensures { Reads (λ l. l) result (concerned_value own (option_map (λ v. view v.now) value.entry)) }
+    ensures { Reads result (concerned_value own (data_in value.entry)) }
 {
     let points = numbers_of(alloc, "concerned", &Bounds::required(0, 16_383), value)?;
     other_points(alloc, own, points)

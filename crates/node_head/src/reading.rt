@@ -3,8 +3,8 @@ ghost use Rattle.std.specs.Prelude.{◌≡◌, ◌<◌, ◌^◌, [], length, IsT
 ghost use Rattle.node_head.specs.Addable.{are_addable};
 ghost use Rattle.node_head.specs.Head.{begun, head_of};
 ghost use Rattle.node_head.specs.Ranges.{IsHead};
-ghost use Rattle.node_head.specs.Refusals.{Reads};
-ghost use Rattle.node_head.specs.Lines.{lines, halves, extended};
+ghost use Rattle.node_head.specs.Refusals.{Reads, ReadsAs};
+ghost use Rattle.node_head.specs.Lines.{lines, halves};
 
 use crate::fault::{HeadKind, HeadRefused};
 use crate::head::Head;
@@ -17,7 +17,7 @@ use std::alloc::Global;
 /// Takes the lines of a head and the mark `%%` that ends it, and gives the head and how many lines stand before the mark.
 pub fn take_head(alloc: Global, lines: &mut Lines<'_>) -> Result<(Head, usize), HeadRefused>
     requires { length lines.old < 2 ^ 64 }
-    ensures value { Reads (λ h. (h.0, h.1, lines.new)) result (begun (halves lines.old)) }
+    ensures value { ReadsAs (λ h. (h.0, h.1, lines.new)) result (begun (halves lines.old)) }
     ensures addable { IfOk result (λ h. IsTrue (are_addable [] h.0.row)) }
     ensures range { IfOk result (λ h. IsHead h.0) }
 {
@@ -32,7 +32,7 @@ pub fn take_head(alloc: Global, lines: &mut Lines<'_>) -> Result<(Head, usize), 
 /// The head of an input, or the first of its faults.
 #[tactic(auto, unfolding(crate::specs::Head::head_of))]
 pub fn read_head(alloc: Global, bytes: &[u8]) -> Result<Head, HeadRefused>
-    ensures value { Reads (λ h. h) result (head_of bytes.now) }
+    ensures value { Reads result (head_of bytes.now) }
     ensures addable { IfOk result (λ h. IsTrue (are_addable [] h.row)) }
     ensures range { IfOk result IsHead }
 {

@@ -1,7 +1,7 @@
 //! The replicates of a head.
 ghost use Rattle.std.specs.Prelude.{◌≡◌, [], length, map, option_map};
-ghost use Rattle.toml.specs.View.{view, table_view};
-ghost use Rattle.node_head.specs.Keys.{members_of};
+ghost use Rattle.toml.specs.View.{table_view};
+ghost use Rattle.node_head.specs.Inner.Sections.{members_of, tables_in, data_in};
 ghost use Rattle.node_head.specs.Refusals.{Reads};
 ghost use Rattle.node_head.specs.Replicates.{has_replicate, is_new_user, user_at, other_point_at, replicate_of, replicates_after, replicates_value};
 
@@ -29,7 +29,7 @@ fn is_new_user(users: &[Ssn], found: &[Replicate], ssn: Ssn) -> bool
 impl Section<'_> {
     #[tactic(auto, using(crate::proofs::HeadLemmas::failures), unfolding(crate::specs::Replicates::user_at))]
     fn user(&self, alloc: Global, users: &[Ssn], found: &[Replicate]) -> Result<Ssn, HeadRefused>
-        ensures { Reads (λ s. s) result (user_at users.now found.now self.now.place (members_of self.now)) }
+        ensures { Reads result (user_at users.now found.now self.now.place (members_of self.now)) }
     {
         let ssn = Ssn::from(self.octet(alloc, "ssn", &Bounds::required(0, 255))?);
         if !is_new_user(users, found, ssn) {
@@ -40,7 +40,7 @@ impl Section<'_> {
 
     #[tactic(auto, using(crate::proofs::HeadLemmas::failures), unfolding(crate::specs::Replicates::other_point_at))]
     fn other_point(&self, alloc: Global, own: Pc) -> Result<Pc, HeadRefused>
-        ensures { Reads (λ p. p) result (other_point_at own self.now.place (members_of self.now)) }
+        ensures { Reads result (other_point_at own self.now.place (members_of self.now)) }
     {
         let point = self.point(alloc)?;
         if point == own {
@@ -57,7 +57,7 @@ impl Section<'_> {
         users: &[Ssn],
         found: &[Replicate],
     ) -> Result<Replicate, HeadRefused>
-        ensures { Reads (λ r. r) result (replicate_of own users.now found.now self.now.place (members_of self.now)) }
+        ensures { Reads result (replicate_of own users.now found.now self.now.place (members_of self.now)) }
     {
         let ssn = self.user(alloc, users, found)?;
         let point = self.other_point(alloc, own)?;
@@ -71,7 +71,7 @@ fn replicates(
     users: &[Ssn],
     tables: &[&Table],
 ) -> Result<ReplicateList, HeadRefused>
-    ensures { Reads (λ l. l) result (replicates_after own users.now [] (map (λ t. table_view t.now) tables.now)) }
+    ensures { Reads result (replicates_after own users.now [] (tables_in tables.now)) }
 {
     let mut found = ReplicateList::new(alloc);
     for table in tables {
@@ -93,7 +93,7 @@ pub fn replicates_of(
     users: &[Ssn],
     value: Option<&Value>,
 ) -> Result<ReplicateList, HeadRefused>
-    ensures { Reads (λ l. l) result (replicates_value own users.now (option_map (λ v. view v.now) value.entry)) }
+    ensures { Reads result (replicates_value own users.now (data_in value.entry)) }
 {
     let tables = tables_of(alloc, TableArray::Replicates, value)?;
     replicates(alloc, own, users, tables.as_slice())

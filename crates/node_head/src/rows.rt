@@ -1,9 +1,9 @@
 //! The rows of a head.
 ghost use Rattle.std.specs.Prelude.{◌≡◌, ◌∷◌, [], ◌++◌, ◌≤◌, false, IsTrue, length, map, option_map, IfOk, IfSome};
-ghost use Rattle.toml.specs.View.{view, table_view};
+ghost use Rattle.toml.specs.View.{table_view};
 ghost use Rattle.gtt_table.specs.Rows.{has_row};
+ghost use Rattle.node_head.specs.Inner.Sections.{members_of, tables_in, data_in};
 ghost use Rattle.node_head.specs.Addable.{are_addable};
-ghost use Rattle.node_head.specs.Keys.{members_of};
 ghost use Rattle.node_head.specs.Refusals.{Reads};
 ghost use Rattle.node_head.specs.Rows.{indicator_at, selector_at, new_prefix, prefix_at, entity_at, second_at, row_of, rows_after, rows_value};
 
@@ -12,14 +12,11 @@ use crate::fault::{HeadKind, HeadRefused};
 use crate::head::RowList;
 use crate::section::{Bounds, Place, Section, TableArray, refuse};
 use crate::tables::tables_of;
-use gtt_table::{Entity, Row};
+use gtt_table::{Entity, Row, Table as RowTable};
 use relay_base::{Digits, Pc};
 use sccp_address::Selector;
 use std::alloc::Global;
 use toml::{Table, Value};
-
-/// The most rows of a head.
-const MOST_ROWS: usize = 4096;
 
 fn has_row(found: &[Row], selector: &Selector, prefix: &Digits) -> bool
     ensures { result ≡ has_row selector.now prefix.now found.now }
@@ -43,7 +40,7 @@ fn new_prefix(found: &[Row], selector: &Selector, text: &[u8]) -> Option<Digits>
 impl Section<'_> {
     #[tactic(auto, using(crate::proofs::HeadLemmas::failures), unfolding(crate::specs::Rows::indicator_at))]
     fn indicator(&self, alloc: Global) -> Result<u8, HeadRefused>
-        ensures { Reads (λ n. n) result (indicator_at self.now.place (members_of self.now)) }
+        ensures { Reads result (indicator_at self.now.place (members_of self.now)) }
     {
         let gti = self.octet(alloc, "gti", &Bounds::required(1, 4))?;
         if gti == 2 {
@@ -54,7 +51,7 @@ impl Section<'_> {
 
     #[tactic(auto, using(crate::proofs::HeadLemmas::failures), unfolding(crate::specs::Rows::selector_at))]
     fn selector(&self, alloc: Global) -> Result<Selector, HeadRefused>
-        ensures { Reads (λ s. s) result (selector_at self.now.place (members_of self.now)) }
+        ensures { Reads result (selector_at self.now.place (members_of self.now)) }
     {
         let gti = self.indicator(alloc)?;
         let tt = self.octet(
@@ -82,7 +79,7 @@ impl Section<'_> {
         found: &[Row],
         selector: &Selector,
     ) -> Result<Digits, HeadRefused>
-        ensures value { Reads (λ d. d) result (prefix_at found.now selector.now self.now.place (members_of self.now)) }
+        ensures value { Reads result (prefix_at found.now selector.now self.now.place (members_of self.now)) }
         ensures apart { IfOk result (λ d. has_row selector.now d found.now ≡ false) }
     {
         let text = self.text(alloc, "digits")?;
@@ -94,7 +91,7 @@ impl Section<'_> {
 
     #[tactic(auto, using(crate::proofs::HeadLemmas::failures), unfolding(crate::specs::Rows::entity_at))]
     fn entity(&self, alloc: Global, own: Pc, key: &str) -> Result<Entity, HeadRefused>
-        ensures { Reads (λ e. e) result (entity_at own self.now.place (members_of self.now) key.now) }
+        ensures { Reads result (entity_at own self.now.place (members_of self.now) key.now) }
     {
         let text = self.text(alloc, key)?;
         match entity_of(own, text.as_bytes()) {
@@ -105,7 +102,7 @@ impl Section<'_> {
 
     #[tactic(auto, using(crate::proofs::HeadLemmas::failures), unfolding(crate::specs::Rows::second_at))]
     fn second(&self, alloc: Global, own: Pc) -> Result<Option<Entity>, HeadRefused>
-        ensures { Reads (λ e. e) result (second_at own self.now.place (members_of self.now)) }
+        ensures { Reads result (second_at own self.now.place (members_of self.now)) }
     {
         if self.value("second").is_none() {
             return Ok(None);
@@ -116,7 +113,7 @@ impl Section<'_> {
 
     #[tactic(auto, using(crate::proofs::HeadLemmas::failures), unfolding(crate::specs::Rows::row_of))]
     fn row(&self, alloc: Global, own: Pc, found: &[Row]) -> Result<Row, HeadRefused>
-        ensures value { Reads (λ r. r) result (row_of own found.now self.now.place (members_of self.now)) }
+        ensures value { Reads result (row_of own found.now self.now.place (members_of self.now)) }
         ensures apart { IfOk result (λ r. has_row r.selector r.prefix found.now ≡ false) }
     {
         let selector = self.selector(alloc)?;
@@ -133,8 +130,8 @@ impl Section<'_> {
 }
 
 fn rows(alloc: Global, own: Pc, tables: &[&Table]) -> Result<RowList, HeadRefused>
-    requires { length tables.now ≤ 4096 }
-    ensures value { Reads (λ l. l) result (rows_after own [] (map (λ t. table_view t.now) tables.now)) }
+    requires { length tables.now ≤ RowTable.MOST }
+    ensures value { Reads result (rows_after own [] (tables_in tables.now)) }
     ensures addable { IfOk result (λ l. IsTrue (are_addable [] l)) }
 {
     let mut found = RowList::new(alloc);
@@ -152,11 +149,11 @@ fn rows(alloc: Global, own: Pc, tables: &[&Table]) -> Result<RowList, HeadRefuse
 /// The rows of an array of tables, none where the key is absent.
 #[tactic(auto, using(crate::proofs::HeadLemmas::failures), unfolding(crate::specs::Rows::rows_value))]
 pub fn rows_of(alloc: Global, own: Pc, value: Option<&Value>) -> Result<RowList, HeadRefused>
-    ensures value { Reads (λ l. l) result (rows_value own (option_map (λ v. view v.now) value.entry)) }
+    ensures value { Reads result (rows_value own (data_in value.entry)) }
     ensures addable { IfOk result (λ l. IsTrue (are_addable [] l)) }
 {
     let tables = tables_of(alloc, TableArray::Rows, value)?;
-    if tables.len() > MOST_ROWS {
+    if tables.len() > RowTable::MOST {
         return Err(refuse(alloc, HeadKind::Range, "row"));
     }
     rows(alloc, own, tables.as_slice())

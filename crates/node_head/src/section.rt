@@ -1,10 +1,11 @@
 //! A table of a head, and the reading of its keys.
-ghost use Rattle.std.specs.Prelude.{◌≡◌, ◌≤◌, ◌<◌, IfOk, IfSome, not, find, option_map, string_bytes};
+ghost use Rattle.std.specs.Prelude.{◌≡◌, ◌≤◌, ◌<◌, IfOk, IfSome, find, option_map};
 ghost use Rattle.std.specs.BTreeMap.{keys};
 ghost use Rattle.toml.specs.Data.{get_member};
-ghost use Rattle.toml.specs.View.{view, table_view};
-ghost use Rattle.node_head.specs.Refusals.{Reads, Refuses, fault};
-ghost use Rattle.node_head.specs.Keys.{array_key, path, is_stated, known_keys, members_of, number_in, number_at, point_at, text_at, required, usual, IsBounds};
+ghost use Rattle.toml.specs.View.{table_view};
+ghost use Rattle.node_head.specs.Inner.Sections.{Refuses, members_of, data_in, is_unknown, IsBounds};
+ghost use Rattle.node_head.specs.Refusals.{Reads, ReadsAs, fault};
+ghost use Rattle.node_head.specs.Keys.{array_key, path, is_stated, known_keys, number_in, number_at, point_at, text_at, required, usual};
 
 use crate::fault::{HeadFault, HeadKind, HeadRefused};
 use relay_base::{Memory, Octets, Pc};
@@ -193,14 +194,14 @@ fn is_stated(place: Place, key: &str) -> bool
 
 /// The least key that is not stated.
 fn unknown_key(place: Place, table: &Table) -> Option<&String>
-    ensures { option_map (λ k. k.now) result ≡ find (λ k. not (is_stated place (string_bytes k))) (keys table.now) }
+    ensures { option_map (λ k. k.now) result ≡ find (is_unknown place) (keys table.now) }
 {
     table.keys().find(|key| !is_stated(place, key.as_str()))
 }
 
 /// Refuses the least key that is not stated.
 fn check_table(alloc: Global, place: Place, table: &Table) -> Result<(), HeadRefused>
-    ensures { Reads (λ u. u) result (known_keys place (table_view table.now)) }
+    ensures { Reads result (known_keys place (table_view table.now)) }
 {
     match unknown_key(place, table) {
         Some(key) => Err(refuse_at(alloc, HeadKind::Unknown, place, key.as_str())),
@@ -209,7 +210,7 @@ fn check_table(alloc: Global, place: Place, table: &Table) -> Result<(), HeadRef
 }
 
 fn value_at<'a>(table: &'a Table, key: &str) -> Option<&'a Value>
-    ensures { option_map (λ v. view v.now) result ≡ get_member key.now (table_view table.now) }
+    ensures { data_in result ≡ get_member key.now (table_view table.now) }
 {
     table.get(key)
 }
@@ -217,7 +218,7 @@ fn value_at<'a>(table: &'a Table, key: &str) -> Option<&'a Value>
 impl<'a> Section<'a> {
     /// The value of a key.
     pub fn value(&self, key: &str) -> Option<&'a Value>
-        ensures { option_map (λ v. view v.now) result ≡ get_member key.now (members_of self.now) }
+        ensures { data_in result ≡ get_member key.now (members_of self.now) }
     {
         match self.table {
             Some(table) => value_at(table, key),
@@ -235,7 +236,7 @@ impl<'a> Section<'a> {
     /// Refuses the least key that is not stated.
     #[tactic(auto, unfolding(crate::specs::Keys::known_keys))]
     pub fn check_keys(&self, alloc: Global) -> Result<(), HeadRefused>
-        ensures { Reads (λ u. u) result (known_keys self.now.place (members_of self.now)) }
+        ensures { Reads result (known_keys self.now.place (members_of self.now)) }
     {
         match self.table {
             Some(table) => check_table(alloc, self.place, table),
@@ -247,7 +248,7 @@ impl<'a> Section<'a> {
     #[tactic(auto, using(crate::proofs::HeadLemmas::failures), unfolding(crate::specs::Keys::number_at))]
     pub fn number(&self, alloc: Global, key: &str, bounds: &Bounds) -> Result<u32, HeadRefused>
         requires { IsBounds bounds.now }
-        ensures value { Reads (λ n. n) result (number_at self.now.place (members_of self.now) key.now bounds.now) }
+        ensures value { Reads result (number_at self.now.place (members_of self.now) key.now bounds.now) }
         ensures most { IfOk result (λ n. n ≤ bounds.now.most) }
     {
         let Some(value) = self.value(key) else {
@@ -269,7 +270,7 @@ impl<'a> Section<'a> {
     pub fn octet(&self, alloc: Global, key: &str, bounds: &Bounds) -> Result<u8, HeadRefused>
         requires bounds { IsBounds bounds.now }
         requires small { bounds.now.most < 256 }
-        ensures value { Reads (λ n. n) result (number_at self.now.place (members_of self.now) key.now bounds.now) }
+        ensures value { Reads result (number_at self.now.place (members_of self.now) key.now bounds.now) }
         ensures most { IfOk result (λ n. n ≤ bounds.now.most) }
     {
         let number = self.number(alloc, key, bounds)?;
@@ -279,7 +280,7 @@ impl<'a> Section<'a> {
     /// The point code at the key `point`.
     #[tactic(auto, using(crate::proofs::HeadLemmas::failures), unfolding(crate::specs::Keys::point_at))]
     pub fn point(&self, alloc: Global) -> Result<Pc, HeadRefused>
-        ensures { Reads (λ p. p) result (point_at self.now.place (members_of self.now)) }
+        ensures { Reads result (point_at self.now.place (members_of self.now)) }
     {
         let number = self.number(alloc, "point", &Bounds::required(0, 16_383))?;
         Ok(Pc::new(number).unwrap())
@@ -288,7 +289,7 @@ impl<'a> Section<'a> {
     /// The text at a key.
     #[tactic(auto, using(crate::proofs::HeadLemmas::failures), unfolding(crate::specs::Keys::text_at))]
     pub fn text(&self, alloc: Global, key: &str) -> Result<&'a str, HeadRefused>
-        ensures { Reads (λ t. t.now) result (text_at self.now.place (members_of self.now) key.now) }
+        ensures { ReadsAs (λ t. t.now) result (text_at self.now.place (members_of self.now) key.now) }
     {
         let Some(value) = self.value(key) else {
             return Err(self.refuse(alloc, HeadKind::Missing, key));

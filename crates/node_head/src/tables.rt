@@ -1,7 +1,8 @@
 //! The arrays of tables in a head.
-ghost use Rattle.std.specs.Prelude.{◌≡◌, [], map, option_map, IfOk};
-ghost use Rattle.toml.specs.View.{view, table_view, items_view};
-ghost use Rattle.node_head.specs.Refusals.{Reads};
+ghost use Rattle.std.specs.Prelude.{◌≡◌, [], IfOk};
+ghost use Rattle.toml.specs.View.{array_view};
+ghost use Rattle.node_head.specs.Inner.Sections.{tables_in, found_tables, data_in};
+ghost use Rattle.node_head.specs.Refusals.{ReadsAs};
 ghost use Rattle.node_head.specs.Tables.{tables_after, tables_value};
 
 use crate::fault::{HeadKind, HeadRefused};
@@ -12,7 +13,7 @@ use toml::{Table, Value};
 
 /// The tables of an array, where each item is one.
 fn tables<'a>(alloc: Global, array: &'a Array) -> Result<Option<Vec<&'a Table>>, AllocError>
-    ensures { IfOk result (λ found. option_map (λ v. map (λ t. table_view t.now) v.items) found ≡ tables_after [] (items_view array.now.items)) }
+    ensures { IfOk result (λ found. found_tables found ≡ tables_after [] (array_view array.now)) }
 {
     let mut found = Vec::new(alloc);
     for value in array {
@@ -31,7 +32,7 @@ pub fn tables_of<'a>(
     array: TableArray,
     value: Option<&'a Value>,
 ) -> Result<Vec<&'a Table>, HeadRefused>
-    ensures { Reads (λ v. map (λ t. table_view t.now) v.items) result (tables_value array (option_map (λ v. view v.now) value.entry)) }
+    ensures { ReadsAs (λ v. tables_in v.items) result (tables_value array (data_in value.entry)) }
 {
     let Some(value) = value else {
         return Ok(Vec::new(alloc));

@@ -1,9 +1,10 @@
 //! The timers of a head.
 ghost use Rattle.std.specs.Prelude.{◌≡◌, ◌≤◌, IfOk, option_map};
 ghost use Rattle.toml.specs.View.{view};
-ghost use Rattle.node_head.specs.Keys.{members_of};
+ghost use Rattle.node_head.specs.Inner.Sections.{members_of, data_in};
 ghost use Rattle.node_head.specs.Refusals.{Reads};
-ghost use Rattle.node_head.specs.Timers.{ticks_at, connection_ticks, release_ticks, waiting_ticks, management_ticks, ticks_of, timers_value};
+ghost use Rattle.node_head.specs.Timers.{ticks_at, ticks_of, timers_value};
+ghost use Rattle.node_head.specs.Inner.Timers.{connection_ticks, release_ticks, waiting_ticks, management_ticks, grouped_ticks};
 
 use crate::fault::{HeadKind, HeadRefused};
 use crate::section::{Bounds, Place, Section, refuse};
@@ -18,17 +19,17 @@ impl Section<'_> {
     /// The ticks at a key.
     #[tactic(auto, unfolding(crate::specs::Timers::ticks_at))]
     fn ticks(&self, alloc: Global, key: &str, default: u32, least: u32) -> Result<u32, HeadRefused>
-        requires { default ≤ 65535 }
-        ensures value { Reads (λ n. n) result (ticks_at self.now.place (members_of self.now) key.now default least) }
-        ensures most { IfOk result (λ n. n ≤ 65535) }
+        requires { default ≤ MOST_TICKS }
+        ensures value { Reads result (ticks_at self.now.place (members_of self.now) key.now default least) }
+        ensures most { IfOk result (λ n. n ≤ MOST_TICKS) }
     {
         self.number(alloc, key, &Bounds::usual(default, least, MOST_TICKS))
     }
 
     /// T(conn est), T(ias) and T(iar).
-    #[tactic(auto, using(crate::proofs::HeadLemmas::failures), unfolding(crate::specs::Timers::connection_ticks))]
+    #[tactic(auto, using(crate::proofs::HeadLemmas::failures), unfolding(crate::specs::Inner::Timers::connection_ticks))]
     fn connection_ticks(&self, alloc: Global) -> Result<(u32, u32, u32), HeadRefused>
-        ensures { Reads (λ t. t) result (connection_ticks self.now.place (members_of self.now)) }
+        ensures { Reads result (connection_ticks self.now.place (members_of self.now)) }
     {
         let connect = self.ticks(alloc, "connect", 90, 1)?;
         let ias = self.ticks(alloc, "ias", 420, 60)?;
@@ -37,9 +38,9 @@ impl Section<'_> {
     }
 
     /// T(rel), T(repeat rel) and T(int).
-    #[tactic(auto, using(crate::proofs::HeadLemmas::failures), unfolding(crate::specs::Timers::release_ticks))]
+    #[tactic(auto, using(crate::proofs::HeadLemmas::failures), unfolding(crate::specs::Inner::Timers::release_ticks))]
     fn release_ticks(&self, alloc: Global) -> Result<(u32, u32, u32), HeadRefused>
-        ensures { Reads (λ t. t) result (release_ticks self.now.place (members_of self.now)) }
+        ensures { Reads result (release_ticks self.now.place (members_of self.now)) }
     {
         let rel = self.ticks(alloc, "rel", 15, 1)?;
         let repeat = self.ticks(alloc, "repeat", 15, 5)?;
@@ -48,9 +49,9 @@ impl Section<'_> {
     }
 
     /// T(reset), T(reassembly), and how long a local reference is frozen.
-    #[tactic(auto, using(crate::proofs::HeadLemmas::failures), unfolding(crate::specs::Timers::waiting_ticks))]
+    #[tactic(auto, using(crate::proofs::HeadLemmas::failures), unfolding(crate::specs::Inner::Timers::waiting_ticks))]
     fn waiting_ticks(&self, alloc: Global) -> Result<(u32, u32, u32), HeadRefused>
-        ensures { Reads (λ t. t) result (waiting_ticks self.now.place (members_of self.now)) }
+        ensures { Reads result (waiting_ticks self.now.place (members_of self.now)) }
     {
         let reset = self.ticks(alloc, "reset", 15, 1)?;
         let reassembly = self.ticks(alloc, "reassembly", 15, 1)?;
@@ -59,9 +60,9 @@ impl Section<'_> {
     }
 
     /// T(stat info) at first and at most, and T(coord chg).
-    #[tactic(auto, using(crate::proofs::HeadLemmas::failures), unfolding(crate::specs::Timers::management_ticks))]
+    #[tactic(auto, using(crate::proofs::HeadLemmas::failures), unfolding(crate::specs::Inner::Timers::management_ticks))]
     fn management_ticks(&self, alloc: Global) -> Result<(u32, u32, u32), HeadRefused>
-        ensures { Reads (λ t. t) result (management_ticks self.now.place (members_of self.now)) }
+        ensures { Reads result (management_ticks self.now.place (members_of self.now)) }
     {
         let status = self.ticks(alloc, "status", 30, 1)?;
         let status_max = self.ticks(alloc, "status_max", status.max(600), status)?;
@@ -69,9 +70,10 @@ impl Section<'_> {
         Ok((status, status_max, coord))
     }
 
-    #[tactic(auto, using(crate::proofs::HeadLemmas::failures), unfolding(crate::specs::Timers::ticks_of))]
-    fn all_ticks(&self, alloc: Global) -> Result<Ticks, HeadRefused>
-        ensures { Reads (λ t. t) result (ticks_of self.now.place (members_of self.now)) }
+    /// All timers, three by three.
+    #[tactic(auto, using(crate::proofs::HeadLemmas::failures), unfolding(crate::specs::Inner::Timers::grouped_ticks))]
+    fn grouped_ticks(&self, alloc: Global) -> Result<Ticks, HeadRefused>
+        ensures { Reads result (grouped_ticks self.now.place (members_of self.now)) }
     {
         let (connect, ias, iar) = self.connection_ticks(alloc)?;
         let (rel, repeat, int) = self.release_ticks(alloc)?;
@@ -92,12 +94,19 @@ impl Section<'_> {
             coord,
         })
     }
+
+    /// All timers.
+    fn all_ticks(&self, alloc: Global) -> Result<Ticks, HeadRefused>
+        ensures { Reads result (ticks_of self.now.place (members_of self.now)) }
+    {
+        self.grouped_ticks(alloc)
+    }
 }
 
 /// The timers of a table, all with their defaults where there is none.
 #[tactic(auto, using(crate::proofs::HeadLemmas::failures), unfolding(crate::specs::Timers::timers_value))]
 pub fn timers_of(alloc: Global, value: Option<&Value>) -> Result<Ticks, HeadRefused>
-    ensures { Reads (λ t. t) result (timers_value (option_map (λ v. view v.now) value.entry)) }
+    ensures { Reads result (timers_value (data_in value.entry)) }
 {
     let place = Place::Timers;
     let Some(value) = value else {

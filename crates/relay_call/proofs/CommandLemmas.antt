@@ -3,7 +3,8 @@ use Rattle.std.proofs.Common.{◌≡◌, ℕ, ◌≤◌, ◌&&◌, nat_le, codes
 use Rattle.std.specs.Prelude.{Option}
 use Rattle.command_words.specs.declared.command.Command.{Command}
 use Rattle.command_words.specs.declared.command.Command.TheVariants.{Run, Generate}
-use Rattle.command_words.specs.Commands.{same, within, number_of, number_in, generate_of, generate_in, command_in}
+use Rattle.relay_base.specs.Decimal.{number_of}
+use Rattle.command_words.specs.Commands.{same, within, number_in, generate_of, generate_in, command_in}
 
 second : (a b : Bool) → (a && b) ≡ true → b ≡ true
 second true b e = e

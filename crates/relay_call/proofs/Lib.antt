@@ -1,4 +1,2 @@
-pub mod Given
-pub mod FewLemmas
 pub mod OutcomeLemmas
 pub mod CommandLemmas

@@ -1,12 +1,14 @@
 -- A reader of lines, which keeps what it read so far.
 use Rattle.std.specs.Prelude.{◌≡◌, ℕ, ◌+◌, ◌==◌, nat_lt, nat_le, codes, List, [], ◌∷◌, ◌++◌, length, slice_index_or, slice_set, replicate, if◌then◌else◌, Ok, Err}
 use Rattle.std.specs.declared.result.Result.{Result}
-use Rattle.relay_base.specs.Giving.{◌>>=◌}
+use Rattle.relay_base.specs.Giving.{◌>>=◌, GivesOrMemory}
+use Rattle.relay_base.specs.declared.words.Stamp.{Stamp}
+use Rattle.plant_core.specs.declared.entry.ControlEvent.{ControlEvent}
 use Rattle.node_head.specs.declared.head.Head.{Head}
 use Rattle.capture_form.specs.Text.{words}
 use Rattle.capture_form.specs.Line.{Linked, event_of}
 use Rattle.capture_form.specs.Events.{Stamped}
-use Rattle.capture_form.specs.Capture.{Fails, is_skipped, begins}
+use Rattle.capture_form.specs.Capture.{fault_in, is_skipped, begins}
 use Rattle.capture_form.specs.declared.steps.TheConstants.{MOST_LINES, MOST_TICKS, MOST_BARRIERS}
 use Rattle.capture_form.specs.declared.fault.LineKind.{LineKind}
 use Rattle.capture_form.specs.declared.fault.LineKind.TheVariants.{Words}
@@ -18,13 +20,23 @@ use Rattle.capture_form.specs.declared.reading.Reading.{Reading}
 
 -- the call left what is read by then, unless memory ran out
 abbrev pub Takes : {U : Type 0} → Reading → Result U CaptureFault → Result Reading CaptureFault → Type 0
-Takes left (Ok u) given = given ≡ Ok left
-Takes left (Err e) given = Fails e given
+Takes left result given = GivesOrMemory (λ _. left) fault_in result given
 
 -- the head was taken from the lines, unless memory ran out
 abbrev pub HeadReads : List (List ℕ) → Result (Head × ℕ) CaptureFault → Result (Head × ℕ × List (List ℕ)) CaptureFault → Type 0
-HeadReads rest (Ok h) given = given ≡ Ok (h.0, h.1, rest)
-HeadReads rest (Err e) given = Fails e given
+HeadReads rest result given = GivesOrMemory (λ (h : Head × ℕ). (h.0, h.1, rest)) fault_in result given
+
+-- the next line is to be read, into a list for each link
+abbrev pub IsNext : Head → Reading → Reading → Type 0
+IsNext head old new = (length new.current ≡ head.links + 1) × (new.line ≡ old.line + 1)
+
+-- the lists and the line are as before
+abbrev pub IsStill : Reading → Reading → Type 0
+IsStill old new = (new.current ≡ old.current) × (new.line ≡ old.line)
+
+-- the lists of a phase with an event at the end of one
+abbrev pub pushed : List Stamped → ℕ → Stamp × ControlEvent → List Stamped
+pushed lists link event = slice_set lists link (slice_index_or lists link [] ++ event ∷ [])
 
 abbrev pub at_line : {A : Type 0} → ℕ → Result A LineKind → Result A CaptureFault
 at_line number (Ok x) = Ok x
@@ -41,7 +53,7 @@ phase_ended head r = record r { phases = r.phases ++ r.current ∷ []; current =
 -- an event at the end of its link's list
 abbrev pub event_added : Reading → Linked → Reading
 event_added r e = record r {
-  current = slice_set r.current e.0 (slice_index_or r.current e.0 [] ++ (record { phase = r.phase; link = e.0; line = r.line }, e.1) ∷ []);
+  current = pushed r.current e.0 (record { phase = r.phase; link = e.0; line = r.line }, e.1);
   events = r.events + 1;
   line = r.line + 1;
 }

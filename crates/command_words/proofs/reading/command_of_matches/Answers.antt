@@ -1,7 +1,7 @@
 use Rattle.std.proofs.Common.{◌≡◌, ◌∙◌, codes, map, string_bytes, sym, ap, ap₂, Some, Global}
 use Rattle.clap.specs.Words.{found_of, rows_of, subcommand_rows_of}
 use Rattle.clap.proofs.WalkLemmas.{first_value-rows}
-use Rattle.command_words.specs.Parser.{command_found, command_of_rows}
+use Rattle.command_words.specs.Inner.Parser.{command_found, command_of_rows}
 use Rattle.command_words.proofs.ParseLemmas.{rows-are}
 use Rattle.command_words.proofs.reading.command_of_matches.Goals as goal
 

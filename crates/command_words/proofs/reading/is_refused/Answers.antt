@@ -1,5 +1,5 @@
 use Rattle.std.proofs.Common.{◌∙◌, ◌||◌, map, string_bytes, sym, ap, Global}
-use Rattle.command_words.specs.Commands.{is_dashed, asks_help}
+use Rattle.command_words.specs.Inner.Parser.{is_dashed, asks_help}
 use Rattle.command_words.proofs.ParseLemmas.{any_map}
 use Rattle.command_words.proofs.reading.is_refused.Goals as goal
 

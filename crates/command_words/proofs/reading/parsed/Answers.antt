@@ -1,7 +1,7 @@
 use Rattle.std.proofs.Common.{◌≡◌, ◌∙◌, map, string_bytes, ap, Global}
 use Rattle.std.proofs.lemmas.Result.{IfOk-weaker}
 use Rattle.clap.specs.Words.{is_simple, subcommand_of, subcommand_rows_of, takes}
-use Rattle.command_words.specs.Parser.{relay_app, command_of_rows}
+use Rattle.command_words.specs.Inner.Parser.{relay_app, command_of_rows}
 use Rattle.command_words.proofs.ParseLemmas.{is_exact, found-exact, untaken-none}
 use Rattle.command_words.proofs.reading.parsed.Goals as goal
 

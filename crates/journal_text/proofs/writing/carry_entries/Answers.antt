@@ -1,6 +1,6 @@
 use Rattle.std.proofs.Common.{◌++◌, subst, rules, string_bytes}
 use Rattle.std.specs.List.{flat_map}
-use Rattle.journal_text.specs.Writing.{Carried}
+use Rattle.journal_text.specs.Inner.Writing.{Carried}
 use Rattle.journal_text.proofs.Parts.{entries-left, Carried-then, Carries-fails}
 use Rattle.journal_text.proofs.writing.carry_entries.Goals as goal
 

@@ -1,6 +1,6 @@
 use Rattle.std.proofs.Common.{◌++◌, drop, string_bytes}
 use Rattle.std.specs.List.{flat_map}
-use Rattle.journal_text.specs.Writing.{Carried}
+use Rattle.journal_text.specs.Inner.Writing.{Carried}
 use Rattle.journal_text.proofs.writing.carry_entries.Given as goal
 
 -- with the print of what is left, a front of all was written

@@ -1,6 +1,6 @@
 use Rattle.std.proofs.Common.{◌++◌, subst, rules, string_bytes}
 use Rattle.journal_text.specs.Print.{entries_text, lanes_text}
-use Rattle.journal_text.specs.Writing.{Carried}
+use Rattle.journal_text.specs.Inner.Writing.{Carried}
 use Rattle.journal_text.proofs.Parts.{lanes-left, Carried-then, Carries-fails, Carries-lacks}
 use Rattle.journal_text.proofs.writing.carry_lanes.Goals as goal
 

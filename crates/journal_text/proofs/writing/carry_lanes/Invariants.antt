@@ -1,6 +1,6 @@
 use Rattle.std.proofs.Common.{◌++◌, drop, string_bytes}
 use Rattle.journal_text.specs.Print.{lanes_text}
-use Rattle.journal_text.specs.Writing.{Carried}
+use Rattle.journal_text.specs.Inner.Writing.{Carried}
 use Rattle.journal_text.proofs.writing.carry_lanes.Given as goal
 
 -- with the print of the lanes that are left, a front of all was written

@@ -1,5 +1,5 @@
 use Rattle.std.proofs.Common.{List, sym, subst}
-use Rattle.node_engine.specs.Own.{Stamped, phase_events}
+use Rattle.capture_form.specs.Events.{Stamped, phase_events}
 use Rattle.node_engine.specs.Running.{CanTake, Went}
 use Rattle.node_engine.proofs.RunLemmas.{can-more, went-more, went-nothing}
 use Rattle.node_engine.proofs.phase.take_links.Goals as goal

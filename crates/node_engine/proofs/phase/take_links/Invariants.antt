@@ -1,5 +1,5 @@
 use Rattle.std.proofs.Common.{take}
-use Rattle.node_engine.specs.Own.{phase_events}
+use Rattle.capture_form.specs.Events.{phase_events}
 use Rattle.node_engine.specs.Running.{IsOpen, Went}
 use Rattle.node_engine.proofs.phase.take_links.Given as goal
 

@@ -1,4 +1,4 @@
-use Rattle.node_engine.specs.Own.{all_events}
+use Rattle.capture_form.specs.Events.{all_events}
 use Rattle.node_engine.proofs.RightLemmas.{first-can, first-served, right-done}
 use Rattle.node_engine.proofs.run.book_after.Goals as goal
 

@@ -1,6 +1,5 @@
 use Rattle.std.proofs.Common.{List, take, sym, subst}
-use Rattle.capture_form.specs.Capture.{AreOfPhases}
-use Rattle.node_engine.specs.Own.{Stamped, phase_events, all_events}
+use Rattle.capture_form.specs.Events.{Stamped, phase_events, all_events, AreOfPhases}
 use Rattle.node_engine.specs.Right.{HasServed}
 use Rattle.node_engine.specs.Running.{CanTake, book_of}
 use Rattle.node_engine.proofs.RunLemmas.{can-more, went-more, went-nothing, take-more, next-phase}

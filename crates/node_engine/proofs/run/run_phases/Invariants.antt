@@ -1,5 +1,5 @@
 use Rattle.std.proofs.Common.{take}
-use Rattle.node_engine.specs.Own.{all_events}
+use Rattle.capture_form.specs.Events.{all_events}
 use Rattle.node_engine.specs.Right.{HasServed}
 use Rattle.node_engine.specs.Running.{Went, book_of}
 use Rattle.node_engine.proofs.run.run_phases.Given as goal

@@ -1,5 +1,6 @@
 use Rattle.std.proofs.Common.{◌≡◌, ◌+◌, [], ◌∷◌, ◌++◌, ◌∙◌, true, false, sym, ap, arith, length}
-use Rattle.node_head.specs.Lines.{is_mark, halves, extended}
+use Rattle.node_head.specs.Lines.{is_mark, halves}
+use Rattle.node_head.specs.Inner.Lines.{extended}
 use Rattle.node_head.proofs.LineLemmas.{halves-mark, halves-nil, halves-more}
 use Rattle.node_head.proofs.lines.take_text.Goals as goal
 

@@ -1,5 +1,6 @@
 use Rattle.std.proofs.Common.{◌≡◌, ◌+◌, ◌<◌, ◌^◌, [], length}
-use Rattle.node_head.specs.Lines.{halves, extended}
+use Rattle.node_head.specs.Lines.{halves}
+use Rattle.node_head.specs.Inner.Lines.{extended}
 use Rattle.node_head.proofs.lines.take_text.Given as goal
 
 -- what was found so far, and what the lines to come make of it

@@ -1,6 +1,9 @@
 -- The parser of the words, and the command of what it found.
-use Rattle.std.specs.Prelude.{◌&&◌, codes, Bool, true, false, List, [], ◌∷◌, if◌then◌else◌, Option, Some, None}
+use Rattle.std.specs.Prelude.{ℕ, ◌==◌, ◌&&◌, ◌||◌, codes, Bool, true, false, List, [], ◌∷◌, map, if◌then◌else◌, Option, Some, None, option_map, String, string_bytes}
+use Rattle.std.specs.Borrow.{Bor}
+use Rattle.std.specs.declared.alloc.Global.{Global}
 use Rattle.clap.specs.Words.{App, Row, Rule, Text, first_of, new_app, new_rule, with_rule, with_subcommand}
+use Rattle.std.specs.List.{list_any}
 use Rattle.command_words.specs.Commands.{same, generate_in}
 use Rattle.command_words.specs.declared.command.Command.{Command}
 use Rattle.command_words.specs.declared.command.Command.TheVariants.{Run}
@@ -21,6 +24,14 @@ top_app = record { top = record (new_app (codes "relay")).top { no_binary_name =
 abbrev pub relay_app : App
 relay_app = with_subcommand (with_subcommand top_app (new_app (codes "run")).top) generate_app.top
 
+-- a text that was given, if one was
+abbrev pub given : Option (Bor Text) → Option Text
+given word = option_map (λ s. s.now) word
+
+-- the texts of words
+abbrev pub texts : List (String Global) → List Text
+texts words = map string_bytes words
+
 -- the text was given, and is this word
 abbrev pub is_given : Option Text → Text → Bool
 is_given None word = false
@@ -40,3 +51,17 @@ abbrev pub command_of_rows : Option (Text × List Row) → List Text → Option 
 command_of_rows None words = None
 command_of_rows (Some found) words =
     command_found found.0 (first_of (codes "number") found.1) (first_of (codes "lines") found.1) words
+
+-- ---- words that are refused before they are parsed
+
+abbrev pub is_dashed : List ℕ → Bool
+is_dashed [] = false
+is_dashed (first ∷ more) = first == 45
+
+abbrev pub asks_help : List (List ℕ) → Bool
+asks_help [] = false
+asks_help (word ∷ more) = same word (codes "help")
+
+-- a word begins with a dash, or the first is `help`
+abbrev pub is_refused : List (List ℕ) → Bool
+is_refused words = list_any is_dashed words || asks_help words
