@@ -21,11 +21,6 @@ unit_of sls class ret called calling body = do
   octets ← body_of 2560 body
   Ok (request.Unit selection number (asks_return ret) to from octets)
 
--- unit <sls> <class> <r or -> <called> <calling or -> <hex>
-abbrev pub unit_asked : List (List ℕ) → Result Request LineKind
-unit_asked (sls ∷ class ∷ ret ∷ called ∷ calling ∷ body ∷ []) = unit_of sls class ret called calling body
-unit_asked _ = Err Words
-
 -- what asks for a connection: tag, class, credit, called address, data
 abbrev pub conn_of : List ℕ → List ℕ → List ℕ → List ℕ → List ℕ → Result Request LineKind
 conn_of tag class credit called body = do
@@ -35,74 +30,6 @@ conn_of tag class credit called body = do
   to ← called_of called
   octets ← body_of 128 body
   Ok (request.Conn name number granted to octets)
-
--- conn <tag> <class> <credit> <called> <hex>
-abbrev pub conn_asked : List (List ℕ) → Result Request LineKind
-conn_asked (tag ∷ class ∷ credit ∷ called ∷ body ∷ []) = conn_of tag class credit called body
-conn_asked _ = Err Words
-
--- accept <ref> <class> <credit> <hex>
-abbrev pub accept_asked : List (List ℕ) → Result Request LineKind
-accept_asked (reference ∷ class ∷ credit ∷ body ∷ []) = do
-  mine ← below 16777216 reference
-  number ← class_of class
-  granted ← below 128 credit
-  octets ← body_of 128 body
-  Ok (request.Accept mine number granted octets)
-accept_asked _ = Err Words
-
--- refuse <ref> <cause> <hex>
-abbrev pub refuse_asked : List (List ℕ) → Result Request LineKind
-refuse_asked (reference ∷ cause ∷ body ∷ []) = do
-  mine ← below 16777216 reference
-  number ← below 256 cause
-  octets ← body_of 128 body
-  Ok (request.Refuse mine number octets)
-refuse_asked _ = Err Words
-
--- send <ref> <hex>
-abbrev pub send_asked : List (List ℕ) → Result Request LineKind
-send_asked (reference ∷ body ∷ []) = do
-  mine ← below 16777216 reference
-  octets ← text_of 8192 body
-  Ok (request.Send mine octets)
-send_asked _ = Err Words
-
--- ed <ref> <hex>
-abbrev pub ed_asked : List (List ℕ) → Result Request LineKind
-ed_asked (reference ∷ body ∷ []) = do
-  mine ← below 16777216 reference
-  octets ← text_of 32 body
-  Ok (request.Expedite mine octets)
-ed_asked _ = Err Words
-
--- reset <ref>
-abbrev pub reset_asked : List (List ℕ) → Result Request LineKind
-reset_asked (reference ∷ []) = do
-  mine ← below 16777216 reference
-  Ok (request.Reset mine)
-reset_asked _ = Err Words
-
--- disc <ref> <cause> <hex>
-abbrev pub disc_asked : List (List ℕ) → Result Request LineKind
-disc_asked (reference ∷ cause ∷ body ∷ []) = do
-  mine ← below 16777216 reference
-  number ← below 256 cause
-  octets ← body_of 128 body
-  Ok (request.Disc mine number octets)
-disc_asked _ = Err Words
-
--- coord
-abbrev pub coord_asked : List (List ℕ) → Result Request LineKind
-coord_asked [] = Ok request.Coord
-coord_asked _ = Err Words
-
--- grant <point>
-abbrev pub grant_asked : List (List ℕ) → Result Request LineKind
-grant_asked (point ∷ []) = do
-  to ← below 16384 point
-  Ok (request.Grant to)
-grant_asked _ = Err Words
 
 -- the form of a request, by its first word
 abbrev pub form_of : List ℕ → Option RequestForm
@@ -139,13 +66,47 @@ has_form form.Grant more = length more == 1
 
 -- what the words after the first of a request ask for
 abbrev pub request_of : RequestForm → List (List ℕ) → Result Request LineKind
-request_of form.Unit more = unit_asked more
-request_of form.Conn more = conn_asked more
-request_of form.Accept more = accept_asked more
-request_of form.Refuse more = refuse_asked more
-request_of form.Send more = send_asked more
-request_of form.Expedite more = ed_asked more
-request_of form.Reset more = reset_asked more
-request_of form.Disc more = disc_asked more
-request_of form.Coord more = coord_asked more
-request_of form.Grant more = grant_asked more
+-- unit <sls> <class> <r or -> <called> <calling or -> <hex>
+request_of form.Unit (sls ∷ class ∷ ret ∷ called ∷ calling ∷ body ∷ []) = unit_of sls class ret called calling body
+-- conn <tag> <class> <credit> <called> <hex>
+request_of form.Conn (tag ∷ class ∷ credit ∷ called ∷ body ∷ []) = conn_of tag class credit called body
+-- accept <ref> <class> <credit> <hex>
+request_of form.Accept (reference ∷ class ∷ credit ∷ body ∷ []) = do
+  mine ← below 16777216 reference
+  number ← class_of class
+  granted ← below 128 credit
+  octets ← body_of 128 body
+  Ok (request.Accept mine number granted octets)
+-- refuse <ref> <cause> <hex>
+request_of form.Refuse (reference ∷ cause ∷ body ∷ []) = do
+  mine ← below 16777216 reference
+  number ← below 256 cause
+  octets ← body_of 128 body
+  Ok (request.Refuse mine number octets)
+-- send <ref> <hex>
+request_of form.Send (reference ∷ body ∷ []) = do
+  mine ← below 16777216 reference
+  octets ← text_of 8192 body
+  Ok (request.Send mine octets)
+-- ed <ref> <hex>
+request_of form.Expedite (reference ∷ body ∷ []) = do
+  mine ← below 16777216 reference
+  octets ← text_of 32 body
+  Ok (request.Expedite mine octets)
+-- reset <ref>
+request_of form.Reset (reference ∷ []) = do
+  mine ← below 16777216 reference
+  Ok (request.Reset mine)
+-- disc <ref> <cause> <hex>
+request_of form.Disc (reference ∷ cause ∷ body ∷ []) = do
+  mine ← below 16777216 reference
+  number ← below 256 cause
+  octets ← body_of 128 body
+  Ok (request.Disc mine number octets)
+-- coord
+request_of form.Coord [] = Ok request.Coord
+-- grant <point>
+request_of form.Grant (point ∷ []) = do
+  to ← below 16384 point
+  Ok (request.Grant to)
+request_of _ _ = Err Words

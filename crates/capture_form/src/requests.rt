@@ -1,7 +1,7 @@
 //! What a user asks for in the words of a request.
 ghost use Rattle.std.specs.Prelude.{◌≡◌};
 ghost use Rattle.capture_form.specs.Inner.Words.{texts, States};
-ghost use Rattle.capture_form.specs.Requests.{unit_of, unit_asked, conn_of, conn_asked, accept_asked, refuse_asked, send_asked, ed_asked, reset_asked, disc_asked, coord_asked, grant_asked, is_unit, form_of, has_form, request_of};
+ghost use Rattle.capture_form.specs.Requests.{unit_of, conn_of, is_unit, form_of, has_form, request_of};
 
 use crate::fault::LineKind;
 use crate::refused::LineRefused;
@@ -39,7 +39,7 @@ fn unit_of(
 
 /// `unit <sls> <class> <r or -> <called> <calling or -> <hex>`
 fn unit_asked(alloc: Global, words: &[&[u8]]) -> Result<Request, LineRefused>
-    ensures { States result (unit_asked (texts words.now)) }
+    ensures { States result (request_of RequestForm.Unit (texts words.now)) }
 {
     if words.len() != 6 {
         return Err(LineRefused::Kind(LineKind::Words));
@@ -76,7 +76,7 @@ fn conn_of(
 
 /// `conn <tag> <class> <credit> <called> <hex>`
 fn conn_asked(alloc: Global, words: &[&[u8]]) -> Result<Request, LineRefused>
-    ensures { States result (conn_asked (texts words.now)) }
+    ensures { States result (request_of RequestForm.Conn (texts words.now)) }
 {
     if words.len() != 5 {
         return Err(LineRefused::Kind(LineKind::Words));
@@ -86,7 +86,7 @@ fn conn_asked(alloc: Global, words: &[&[u8]]) -> Result<Request, LineRefused>
 
 /// `accept <ref> <class> <credit> <hex>`
 fn accept_asked(alloc: Global, words: &[&[u8]]) -> Result<Request, LineRefused>
-    ensures { States result (accept_asked (texts words.now)) }
+    ensures { States result (request_of RequestForm.Accept (texts words.now)) }
 {
     if words.len() != 4 {
         return Err(LineRefused::Kind(LineKind::Words));
@@ -105,7 +105,7 @@ fn accept_asked(alloc: Global, words: &[&[u8]]) -> Result<Request, LineRefused>
 
 /// `refuse <ref> <cause> <hex>`
 fn refuse_asked(alloc: Global, words: &[&[u8]]) -> Result<Request, LineRefused>
-    ensures { States result (refuse_asked (texts words.now)) }
+    ensures { States result (request_of RequestForm.Refuse (texts words.now)) }
 {
     if words.len() != 3 {
         return Err(LineRefused::Kind(LineKind::Words));
@@ -118,7 +118,7 @@ fn refuse_asked(alloc: Global, words: &[&[u8]]) -> Result<Request, LineRefused>
 
 /// `send <ref> <hex>`
 fn send_asked(alloc: Global, words: &[&[u8]]) -> Result<Request, LineRefused>
-    ensures { States result (send_asked (texts words.now)) }
+    ensures { States result (request_of RequestForm.Send (texts words.now)) }
 {
     if words.len() != 2 {
         return Err(LineRefused::Kind(LineKind::Words));
@@ -130,7 +130,7 @@ fn send_asked(alloc: Global, words: &[&[u8]]) -> Result<Request, LineRefused>
 
 /// `ed <ref> <hex>`
 fn ed_asked(alloc: Global, words: &[&[u8]]) -> Result<Request, LineRefused>
-    ensures { States result (ed_asked (texts words.now)) }
+    ensures { States result (request_of RequestForm.Expedite (texts words.now)) }
 {
     if words.len() != 2 {
         return Err(LineRefused::Kind(LineKind::Words));
@@ -142,7 +142,7 @@ fn ed_asked(alloc: Global, words: &[&[u8]]) -> Result<Request, LineRefused>
 
 /// `reset <ref>`
 fn reset_asked(words: &[&[u8]]) -> Result<Request, LineRefused>
-    ensures { States result (reset_asked (texts words.now)) }
+    ensures { States result (request_of RequestForm.Reset (texts words.now)) }
 {
     if words.len() != 1 {
         return Err(LineRefused::Kind(LineKind::Words));
@@ -153,7 +153,7 @@ fn reset_asked(words: &[&[u8]]) -> Result<Request, LineRefused>
 
 /// `disc <ref> <cause> <hex>`
 fn disc_asked(alloc: Global, words: &[&[u8]]) -> Result<Request, LineRefused>
-    ensures { States result (disc_asked (texts words.now)) }
+    ensures { States result (request_of RequestForm.Disc (texts words.now)) }
 {
     if words.len() != 3 {
         return Err(LineRefused::Kind(LineKind::Words));
@@ -166,7 +166,7 @@ fn disc_asked(alloc: Global, words: &[&[u8]]) -> Result<Request, LineRefused>
 
 /// `coord`
 fn coord_asked(words: &[&[u8]]) -> Result<Request, LineRefused>
-    ensures { States result (coord_asked (texts words.now)) }
+    ensures { States result (request_of RequestForm.Coord (texts words.now)) }
 {
     if words.is_empty() {
         Ok(Request::Coord)
@@ -177,7 +177,7 @@ fn coord_asked(words: &[&[u8]]) -> Result<Request, LineRefused>
 
 /// `grant <point>`
 fn grant_asked(words: &[&[u8]]) -> Result<Request, LineRefused>
-    ensures { States result (grant_asked (texts words.now)) }
+    ensures { States result (request_of RequestForm.Grant (texts words.now)) }
 {
     if words.len() != 1 {
         return Err(LineRefused::Kind(LineKind::Words));

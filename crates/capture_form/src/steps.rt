@@ -18,7 +18,7 @@ use std::alloc::Global;
 use std::mem;
 
 /// The most event lines, barriers not counted.
-const MOST_LINES: u32 = 200_000;
+pub const MOST_LINES: u32 = 200_000;
 
 /// The most tick lines.
 const MOST_TICKS: u32 = 20_000;

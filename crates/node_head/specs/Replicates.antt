@@ -1,4 +1,4 @@
--- The replicates of a head (Q.714, coordinated state change).
+-- The replicates of a head (Q.714, 5.3.5).
 use Rattle.std.specs.Prelude.{ℕ, ◌+◌, ◌==◌, ◌&&◌, not, codes, Bool, List, [], ◌∷◌, ◌++◌, length, if◌then◌else◌, Option, Ok, Err}
 use Rattle.std.specs.List.{list_any}
 use Rattle.std.specs.declared.result.Result.{Result}

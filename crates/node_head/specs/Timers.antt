@@ -1,4 +1,4 @@
--- The timers of a head, in ticks (Q.714, timers).
+-- The timers of a head, in ticks.
 use Rattle.std.specs.Prelude.{ℕ, codes, max, List, Option, Some, None, Ok}
 use Rattle.std.specs.declared.result.Result.{Result}
 use Rattle.relay_base.specs.Giving.{◌>>=◌}
@@ -16,8 +16,9 @@ use Rattle.node_head.specs.Refusals.{fault, or_fault}
 unfoldable pub ticks_at : Place → Members → List ℕ → ℕ → ℕ → Result ℕ HeadFault
 ticks_at place ms key default least = number_at place ms key (usual default least MOST_TICKS)
 
--- the timers with their keys, defaults and least values: T(conn est), T(ias), T(iar), T(rel), T(repeat rel), T(int), T(reset),
--- T(reassembly), how long a local reference is frozen, T(stat info) at first and at most, and T(coord chg)
+-- the timers with their keys, defaults and least values: T(conn est) (Q.714, 3.1), T(ias) and T(iar) (3.4), T(rel), T(repeat rel)
+-- and T(int) (3.3), T(reset) (3.7), T(reassembly) (4.1.1), how long a local reference is frozen (3.3.2), T(stat info) at first and
+-- at most (5.3.4), and T(coord chg) (5.3.5)
 unfoldable pub ticks_of : Place → Members → Result Ticks HeadFault
 ticks_of place ms = do
   connect ← ticks_at place ms (codes "connect") 90 1
