@@ -1,6 +1,6 @@
 -- What a section does, with its other end.
 use Rattle.std.proofs.Common.{◌≡◌, ℕ, ◌+◌, ◌-◌, ◌≤◌, ◌==◌, ◌&&◌, ◌||◌, nat_le, not, true, false, List, [], ◌∷◌, ◌++◌, length, Option, Some, None, refl, arith, zero-le}
-use Rattle.std.proofs.lemmas.Bool.{eqb-false, leb-true, not-false}
+use Rattle.std.proofs.lemmas.Bool.{eqb-false, not-false}
 use Rattle.std.proofs.lemmas.List.{length_push}
 use Rattle.section_model.specs.declared.hand.Hand.{Hand}
 use Rattle.section_model.specs.declared.hand.Unit.{Unit as DataUnit}

@@ -5,7 +5,6 @@ use Rattle.section_model.specs.Views.{section_of}
 use Rattle.section_model.specs.declared.cell.Cell.TheVariants as cell
 use Rattle.section_model.specs.declared.cell.Occasion.TheVariants as on
 use Rattle.section_model.specs.declared.hand.Acted.{Acted}
-use Rattle.section_model.specs.declared.hand.KeptRelease.{KeptRelease}
 use Rattle.section_model.specs.declared.input.Input.{Input}
 use Rattle.section_model.specs.declared.input.Input.TheVariants as input
 use Rattle.section_model.specs.declared.wire.WireHead.{WireHead}
@@ -19,11 +18,6 @@ use Rattle.section_class2.specs.declared.line.Line.{Line}
 -- a section: its head, and what it keeps beside it
 abbrev pub line_of : WireHead → Line → SectionLine
 line_of wire line = record { head = section_of wire; kept = line.kept }
-
--- an act of a section that leaves what it keeps as it is
-abbrev pub ActsOnHead : (SectionLine → SectionLine × Acted) → WireHead → WireHead → Acted → Type 0
-ActsOnHead act wire wire' done =
-    (kept : KeptRelease) → act (record { head = section_of wire; kept = kept }) ≡ (record { head = section_of wire'; kept = kept }, done)
 
 -- a message for a connection is DT1
 abbrev pub IsDt1 : Event → Type 0

@@ -15,7 +15,9 @@ use relay_base::causes::{
     ERROR_CLASS_MISMATCH, REFUSAL_UNQUALIFIED, RELEASE_INCONSISTENT_DATA, RELEASE_UNQUALIFIED,
 };
 use relay_base::{Event, Lost, Memory, Octets, Output, Pc};
-use section_model::{Acted, Cell, Hand, KeptRelease, ParametersView, SectionState, WireHead, arrival_in};
+use section_model::{
+    Acted, Cell, Hand, KeptRelease, ParametersView, SectionState, WireHead, arrival_in,
+};
 use std::alloc::Global;
 
 /// The credit that CC agrees on: none but in class 3, where it is at least 1 and at most the credit that was asked for.
@@ -113,7 +115,7 @@ impl Line {
     ) -> Result<Acted, Memory>
         ensures ok { IfOk result (λ done.
             confirms point (seen_parameters message.now) (line_of wire.old self.old) ≡
-                (line_of wire.new self.new, done)) }
+            (line_of wire.new self.new, done)) }
         ensures err { OnErr result ((wire.new ≡ wire.old) × (self.new ≡ self.old)) }
     {
         let mut reached = *wire;
@@ -154,7 +156,7 @@ impl Line {
     ) -> Result<Acted, Memory>
         ensures ok { IfOk result (λ done.
             confirms_late point (seen_parameters message.now) (line_of wire.old self.old) ≡
-                (line_of wire.new self.new, done)) }
+            (line_of wire.new self.new, done)) }
         ensures err { OnErr result ((wire.new ≡ wire.old) × (self.new ≡ self.old)) }
     {
         let mut reached = *wire;
@@ -169,7 +171,7 @@ impl Line {
         Ok(acted)
     }
 
-    /// ERR: the section is released upon cause 3, else it is freed; the other end is ended.
+    /// ERR: the section is released where the class is mismatched, else it is freed; the other end is ended.
     fn hears_error(
         &mut self,
         alloc: Global,
@@ -178,7 +180,7 @@ impl Line {
     ) -> Result<Acted, Memory>
         ensures ok { IfOk result (λ done.
             hears_error (seen_parameters message.now) (line_of wire.old self.old) ≡
-                (line_of wire.new self.new, done)) }
+            (line_of wire.new self.new, done)) }
         ensures err { OnErr result ((wire.new ≡ wire.old) × (self.new ≡ self.old)) }
     {
         if message.cause == ERROR_CLASS_MISMATCH {
@@ -203,13 +205,35 @@ impl Line {
     ) -> Result<Acted, Memory>
         ensures ok { IfOk result (λ done.
             hears_test (seen_parameters message.now) (line_of wire.old self.old) ≡
-                (line_of wire.new self.new, done)) }
+            (line_of wire.new self.new, done)) }
         ensures err { OnErr result ((wire.new ≡ wire.old) × (self.new ≡ self.old)) }
     {
         if message.slr == wire.other && message.class == wire.class {
             return Ok(Acted::nothing(alloc));
         }
         self.breaks(alloc, wire, RELEASE_INCONSISTENT_DATA)
+    }
+
+    /// A message for a connection from a point; nothing comes of other events here.
+    pub(crate) fn hear_event(
+        &mut self,
+        alloc: Global,
+        wire: &mut WireHead,
+        cell: Cell,
+        event: &Event,
+    ) -> Result<Acted, Memory>
+        ensures ok { IfOk result (λ done.
+            line_hears_event cell event.now (line_of wire.old self.old) ≡
+            (line_of wire.new self.new, done)) }
+        ensures err { OnErr result ((wire.new ≡ wire.old) × (self.new ≡ self.old)) }
+    {
+        let Event::Message { opc, bytes, .. } = event else {
+            return Ok(Acted::nothing(alloc));
+        };
+        match arrival_in(bytes.as_slice()) {
+            Some(arrival) => self.hear(alloc, wire, cell, *opc, &arrival.parameters),
+            None => Ok(Acted::nothing(alloc)),
+        }
     }
 
     /// A message from a point, by the table's cell for it.
@@ -224,7 +248,7 @@ impl Line {
     ) -> Result<Acted, Memory>
         ensures ok { IfOk result (λ done.
             line_hears cell point (seen_parameters message.now) (line_of wire.old self.old) ≡
-                (line_of wire.new self.new, done)) }
+            (line_of wire.new self.new, done)) }
         ensures err { OnErr result ((wire.new ≡ wire.old) × (self.new ≡ self.old)) }
     {
         match cell {
@@ -242,28 +266,6 @@ impl Line {
             Cell::TestReceived => self.hears_test(alloc, wire, message),
             Cell::Discard => Acted::giving(alloc, Output::Lost(Lost::State)),
             _ => Ok(Acted::nothing(alloc)),
-        }
-    }
-
-    /// A message for a connection from a point; nothing comes of other events here.
-    pub(crate) fn hear_event(
-        &mut self,
-        alloc: Global,
-        wire: &mut WireHead,
-        cell: Cell,
-        event: &Event,
-    ) -> Result<Acted, Memory>
-        ensures ok { IfOk result (λ done.
-            line_hears_event cell event.now (line_of wire.old self.old) ≡
-                (line_of wire.new self.new, done)) }
-        ensures err { OnErr result ((wire.new ≡ wire.old) × (self.new ≡ self.old)) }
-    {
-        let Event::Message { opc, bytes, .. } = event else {
-            return Ok(Acted::nothing(alloc));
-        };
-        match arrival_in(bytes.as_slice()) {
-            Some(arrival) => self.hear(alloc, wire, cell, *opc, &arrival.parameters),
-            None => Ok(Acted::nothing(alloc)),
         }
     }
 }

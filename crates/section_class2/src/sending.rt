@@ -4,7 +4,7 @@ ghost use Rattle.q713_codec.specs.Writing.{InRange};
 ghost use Rattle.q713_codec.specs.declared.message.Message.TheVariants.{Cc, Cref, Dt1, It};
 ghost use Rattle.section_model.specs.Views.{section_of};
 ghost use Rattle.section_model.specs.Line.{sent_on, credit_of, rlsd, rlc};
-ghost use Rattle.section_model.specs.Lengths.{IsAddress, IsData, IsWithin, KeptWithin};
+ghost use Rattle.section_model.specs.Lengths.{IsAddress, IsData, IsUnitData, KeptWithin};
 
 use q713_codec::{Message, write};
 use relay_base::{Memory, Octets, Output};
@@ -70,7 +70,7 @@ pub fn rlc(alloc: Global, wire: &WireHead) -> Result<Output, Memory>
 pub fn test(alloc: Global, wire: &WireHead) -> Result<Output, Memory>
     ensures { IfOk result (λ output.
         output ≡ sent_on (section_of wire.now)
-            (It wire.now.other wire.now.mine wire.now.class (0 ∷ 0 ∷ []) wire.now.credit)) }
+        (It wire.now.other wire.now.mine wire.now.class (0 ∷ 0 ∷ []) wire.now.credit)) }
 {
     let message = Message::It {
         dlr: wire.other,
@@ -96,8 +96,8 @@ pub fn confirmation(
     requires body { IsData body.now }
     ensures { IfOk result (λ output.
         output ≡ sent_on (section_of wire.now)
-            (Cc wire.now.other wire.now.mine class (credit_of class credit)
-                called.now body.now importance)) }
+        (Cc wire.now.other wire.now.mine class (credit_of class credit)
+        called.now body.now importance)) }
 {
     let credit = if class == 3 { Some(credit) } else { None };
     let message = Message::Cc {
@@ -138,7 +138,7 @@ pub fn refusal(
 
 /// DT1 with a unit of data.
 pub fn data(alloc: Global, wire: &WireHead, more: bool, body: &Octets) -> Result<Output, Memory>
-    requires { IsWithin 1 255 body.now }
+    requires { IsUnitData body.now }
     ensures { IfOk result (λ output. output ≡
         sent_on (section_of wire.now) (Dt1 wire.now.other (if more then 1 else 0) body.now)) }
 {

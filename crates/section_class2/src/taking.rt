@@ -2,7 +2,8 @@
 ghost use Rattle.std.specs.Prelude.{◌≡◌, IfOk, OnErr};
 ghost use Rattle.section_model.specs.Line.{line_takes, passes_accept, passes_refuse, passes_end, keeps_end, passes_unit};
 ghost use Rattle.section_model.specs.Lengths.{HandWithin};
-ghost use Rattle.section_class2.specs.Lines.{line_of, ActsOnHead};
+ghost use Rattle.section_class2.specs.Inner.Heads.{ActsOnHead};
+ghost use Rattle.section_class2.specs.Lines.{line_of};
 
 use crate::line::Line;
 use crate::sending::{confirmation, copied, data, refusal, rlsd};
@@ -68,7 +69,12 @@ fn passes_unit(alloc: Global, wire: &WireHead, hand: &Hand) -> Result<Acted, Mem
 
 impl Line {
     /// The other end ends: RLSD, which is kept.
-    fn passes_end(&mut self, alloc: Global, wire: &mut WireHead, hand: &Hand) -> Result<Acted, Memory>
+    fn passes_end(
+        &mut self,
+        alloc: Global,
+        wire: &mut WireHead,
+        hand: &Hand,
+    ) -> Result<Acted, Memory>
         requires { HandWithin hand.now }
         ensures ok { IfOk result (λ done.
             passes_end hand.now (line_of wire.old self.old) ≡ (line_of wire.new self.new, done)) }

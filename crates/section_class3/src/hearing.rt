@@ -46,7 +46,7 @@ impl Windows {
         requires agreed { self.old.agreed ≡ wire.old.credit }
         ensures ok { IfOk result (λ done.
             takes_data (seen_parameters message.now) (windowed_of wire.old self.old) ≡
-                (windowed_of wire.new self.new, done)) }
+            (windowed_of wire.new self.new, done)) }
         ensures err { OnErr result ((wire.new ≡ wire.old) × (self.new ≡ self.old)) }
         ensures agreed { self.new.agreed ≡ wire.new.credit }
     {
@@ -74,7 +74,7 @@ impl Windows {
         requires agreed { self.old.agreed ≡ wire.old.credit }
         ensures ok { IfOk result (λ done.
             takes_acknowledgement (seen_parameters message.now) (windowed_of wire.old self.old) ≡
-                (windowed_of wire.new self.new, done)) }
+            (windowed_of wire.new self.new, done)) }
         ensures err { OnErr result ((wire.new ≡ wire.old) × (self.new ≡ self.old)) }
         ensures agreed { self.new.agreed ≡ wire.new.credit }
     {
@@ -95,7 +95,7 @@ impl Windows {
         requires agreed { self.old.agreed ≡ wire.old.credit }
         ensures ok { IfOk result (λ done.
             takes_expedited (seen_parameters message.now) (windowed_of wire.old self.old) ≡
-                (windowed_of wire.new self.new, done)) }
+            (windowed_of wire.new self.new, done)) }
         ensures err { OnErr result ((wire.new ≡ wire.old) × (self.new ≡ self.old)) }
         ensures agreed { self.new.agreed ≡ wire.new.credit }
     {
@@ -143,7 +143,7 @@ impl Windows {
         requires agreed { self.old.agreed ≡ wire.now.credit }
         ensures ok { IfOk result (λ done.
             windowed_hears cell.ResetByPeer (seen_parameters message.now)
-                (windowed_of wire.now self.old) ≡ (windowed_of wire.now self.new, done)) }
+            (windowed_of wire.now self.old) ≡ (windowed_of wire.now self.new, done)) }
         ensures err { OnErr result (self.new ≡ self.old) }
         ensures agreed { self.new.agreed ≡ self.old.agreed }
     {
@@ -168,7 +168,7 @@ impl Windows {
         requires waits { WindowsWithin self.old.windows }
         ensures ok { IfOk result (λ done.
             windowed_hears cell (seen_parameters message.now) (windowed_of wire.old self.old) ≡
-                (windowed_of wire.new self.new, done)) }
+            (windowed_of wire.new self.new, done)) }
         ensures err { OnErr result ((wire.new ≡ wire.old) × (self.new ≡ self.old)) }
         ensures agreed { self.new.agreed ≡ wire.new.credit }
     {
@@ -199,7 +199,7 @@ impl Windows {
         requires waits { WindowsWithin self.old.windows }
         ensures ok { IfOk result (λ done.
             windows_hear_event cell event.now (windowed_of wire.old self.old) ≡
-                (windowed_of wire.new self.new, done)) }
+            (windowed_of wire.new self.new, done)) }
         ensures err { OnErr result ((wire.new ≡ wire.old) × (self.new ≡ self.old)) }
         ensures agreed { self.new.agreed ≡ wire.new.credit }
     {

@@ -3,8 +3,9 @@ ghost use Rattle.std.specs.Prelude.{◌≡◌, ◌<◌, ◌*◌, IfOk};
 ghost use Rattle.q713_codec.specs.declared.message.Message.TheVariants.{Ak, Ed, Ea, Rsr, Rsc};
 ghost use Rattle.section_model.specs.Views.{section_of};
 ghost use Rattle.section_model.specs.Line.{sent_on};
-ghost use Rattle.section_model.specs.Lengths.{IsWithin};
-ghost use Rattle.section_class3.specs.Sending.{numbered_output, test_output};
+ghost use Rattle.section_model.specs.Lengths.{IsExpeditedData, IsUnitData};
+ghost use Rattle.section_model.specs.declared.limits.TheConstants.{SEQUENCE_NUMBERS};
+ghost use Rattle.section_class3.specs.Inner.Sending.{numbered_output, test_output};
 
 use q713_codec::Message;
 use relay_base::{Memory, Octets, Output};
@@ -20,8 +21,8 @@ pub fn numbered(
     pr: u8,
     unit: &Unit,
 ) -> Result<Output, Memory>
-    requires body { IsWithin 1 255 unit.now.body }
-    requires numbers { (ps < 128) × (pr < 128) }
+    requires body { IsUnitData unit.now.body }
+    requires numbers { (ps < SEQUENCE_NUMBERS) × (pr < SEQUENCE_NUMBERS) }
     ensures { IfOk result (λ output.
         output ≡ numbered_output (section_of wire.now) ps pr unit.now) }
 {
@@ -35,7 +36,7 @@ pub fn numbered(
 
 /// AK with P(R) below 128, and the credit that was agreed on.
 pub fn acknowledgement(alloc: Global, wire: &WireHead, pr: u8) -> Result<Output, Memory>
-    requires { pr < 128 }
+    requires { pr < SEQUENCE_NUMBERS }
     ensures { IfOk result (λ output.
         output ≡ sent_on (section_of wire.now) (Ak wire.now.other (2 * pr) wire.now.credit)) }
 {
@@ -49,7 +50,7 @@ pub fn acknowledgement(alloc: Global, wire: &WireHead, pr: u8) -> Result<Output,
 
 /// ED.
 pub fn expedited(alloc: Global, wire: &WireHead, body: &Octets) -> Result<Output, Memory>
-    requires { IsWithin 1 32 body.now }
+    requires { IsExpeditedData body.now }
     ensures { IfOk result (λ output.
         output ≡ sent_on (section_of wire.now) (Ed wire.now.other body.now)) }
 {
@@ -95,7 +96,7 @@ pub fn reset_confirmation(alloc: Global, wire: &WireHead) -> Result<Output, Memo
 
 /// IT with P(S) and P(R) below 128.
 pub fn test(alloc: Global, wire: &WireHead, ps: u8, pr: u8) -> Result<Output, Memory>
-    requires { (ps < 128) × (pr < 128) }
+    requires { (ps < SEQUENCE_NUMBERS) × (pr < SEQUENCE_NUMBERS) }
     ensures { IfOk result (λ output. output ≡ test_output (section_of wire.now) ps pr) }
 {
     let message = Message::It {

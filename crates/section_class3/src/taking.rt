@@ -1,6 +1,6 @@
 //! What a section does upon an effect of the other end, in class 3.
 ghost use Rattle.std.specs.Prelude.{◌≡◌, Some, IfOk, OnErr};
-ghost use Rattle.section_model.specs.Lengths.{HandWithin, IsWithin};
+ghost use Rattle.section_model.specs.Lengths.{HandWithin, IsExpeditedData};
 ghost use Rattle.section_model.specs.Windowed.{windowed_takes, sends_expedited, queues_unit, passes_expedited, passes_reset, counts_left};
 ghost use Rattle.section_class3.specs.Windows.{windowed_of};
 
@@ -32,10 +32,10 @@ impl Windows {
 
     /// Expedited data leave, and their EA is awaited.
     fn expedite(&mut self, alloc: Global, wire: &WireHead, body: &Octets) -> Result<Acted, Memory>
-        requires { IsWithin 1 32 body.now }
+        requires { IsExpeditedData body.now }
         ensures ok { IfOk result (λ done.
             sends_expedited (Some body.now) (windowed_of wire.now self.old) ≡
-                (windowed_of wire.now self.new, done)) }
+            (windowed_of wire.now self.new, done)) }
         ensures err { OnErr result (self.new ≡ self.old) }
         ensures agreed { self.new.agreed ≡ self.old.agreed }
     {
@@ -59,7 +59,7 @@ impl Windows {
         requires { HandWithin hand.now }
         ensures ok { IfOk result (λ done.
             passes_expedited hand.now (windowed_of wire.now self.old) ≡
-                (windowed_of wire.now self.new, done)) }
+            (windowed_of wire.now self.new, done)) }
         ensures err { OnErr result (self.new ≡ self.old) }
         ensures agreed { self.new.agreed ≡ self.old.agreed }
     {
@@ -128,7 +128,7 @@ impl Windows {
         requires hand { HandWithin hand.now }
         ensures ok { IfOk result (λ done.
             windowed_takes cell hand.now (windowed_of wire.old self.old) ≡
-                (windowed_of wire.new self.new, done)) }
+            (windowed_of wire.new self.new, done)) }
         ensures err { OnErr result ((wire.new ≡ wire.old) × (self.new ≡ self.old)) }
         ensures agreed { self.new.agreed ≡ wire.new.credit }
     {

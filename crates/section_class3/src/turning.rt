@@ -6,7 +6,7 @@ ghost use Rattle.section_model.specs.Views.{section_of};
 ghost use Rattle.section_model.specs.Lengths.{ExpeditedWithin, UnitsWithin, WindowsWithin};
 ghost use Rattle.section_model.specs.Windowed.{leaves, acknowledges};
 ghost use Rattle.section_class3.specs.Windows.{windowed_of, windows_turn};
-ghost use Rattle.section_class3.specs.Sending.{all_sent, units_output, ready_expedited, expedited_output};
+ghost use Rattle.section_class3.specs.Inner.Sending.{all_sent, units_output, ready_expedited, expedited_output};
 
 use crate::sending::{acknowledgement, expedited, numbered};
 use crate::windows::Windows;

@@ -3,6 +3,7 @@ ghost use Rattle.std.specs.Prelude.{◌≡◌, ◌≤◌, IfOk, OnErr, length, i
 ghost use Rattle.section_model.specs.Ends.{cleared};
 ghost use Rattle.section_model.specs.Lengths.{ActedWithin, InputWithin, WindowsWithin};
 ghost use Rattle.section_model.specs.Windowed.{windowed_fires};
+ghost use Rattle.section_model.specs.declared.limits.TheConstants.{GREATEST_CREDIT};
 ghost use Rattle.section_flow.specs.Held.{IsWithinWindows};
 ghost use Rattle.section_class3.specs.Windows.{windowed_of, counts_of, TakesItsData, windows_act};
 
@@ -37,7 +38,7 @@ impl Model for Windows {
 impl Windows {
     /// The windows of a section that agreed on a credit (0 to 127): all counts are 0, and nothing waits.
     pub fn new(alloc: Global, credit: u8) -> Windows
-        requires { credit ≤ 127 }
+        requires { credit ≤ GREATEST_CREDIT }
         ensures { result ≡ record { agreed = credit; windows = cleared credit } }
     {
         Windows {
@@ -65,7 +66,7 @@ impl Windows {
         requires input { InputWithin input.now }
         ensures ok { IfOk result (λ done.
             windows_act cell input.now (windowed_of wire.old self.old) ≡
-                (windowed_of wire.new self.new, done)) }
+            (windowed_of wire.new self.new, done)) }
         ensures err { OnErr result ((wire.new ≡ wire.old) × (self.new ≡ self.old)) }
         ensures agreed { self.new.agreed ≡ wire.new.credit }
         ensures waits { WindowsWithin self.new.windows }

@@ -44,7 +44,13 @@ impl Remainders {
     /// What is held of counts of 0.
     pub fn none() -> Remainders
         ensures { result ≡ record {
-            acked = 0; outstanding = 0; expected = 0; untold = 0; unleft = 0; has_accepted = false } }
+          acked = 0;
+          outstanding = 0;
+          expected = 0;
+          untold = 0;
+          unleft = 0;
+          has_accepted = false;
+        } }
     {
         Remainders {
             acked: 0,
@@ -61,10 +67,11 @@ impl Remainders {
         requires { (self.old.expected < SEQUENCE_NUMBERS) × (self.old.untold < SEQUENCE_NUMBERS)
             × (self.old.unleft < SEQUENCE_NUMBERS) }
         ensures { self.new ≡ record self.old {
-            expected = (self.old.expected + 1) % SEQUENCE_NUMBERS;
-            untold = self.old.untold + 1;
-            unleft = self.old.unleft + 1;
-            has_accepted = true } }
+          expected = (self.old.expected + 1) % SEQUENCE_NUMBERS;
+          untold = self.old.untold + 1;
+          unleft = self.old.unleft + 1;
+          has_accepted = true;
+        } }
     {
         self.expected = (self.expected + 1) % SEQUENCE_NUMBERS;
         self.untold += 1;
@@ -77,8 +84,9 @@ impl Remainders {
         requires { (self.old.acked < SEQUENCE_NUMBERS) × (self.old.outstanding < SEQUENCE_NUMBERS)
             × (ahead ≤ self.old.outstanding) }
         ensures { self.new ≡ record self.old {
-            acked = (self.old.acked + ahead) % SEQUENCE_NUMBERS;
-            outstanding = self.old.outstanding - ahead } }
+          acked = (self.old.acked + ahead) % SEQUENCE_NUMBERS;
+          outstanding = self.old.outstanding - ahead;
+        } }
     {
         self.acked = (self.acked + ahead) % SEQUENCE_NUMBERS;
         self.outstanding -= ahead;

@@ -166,7 +166,7 @@ impl Flow {
     fn tested(&self, ps: u8, pr: u8) -> Result<u8, u8>
         ensures ok { IfOk result (λ ahead. (unit_refusal ps pr self.now ≡ None)
             × (count_of pr self.now.counts.acked self.now.counts.sent ≡
-                Some (self.now.counts.acked + ahead))) }
+            Some (self.now.counts.acked + ahead))) }
         ensures window { IfOk result (λ ahead.
             length self.now.counts.got < self.now.counts.told + self.now.agreed) }
         ensures sent { IfOk result (λ ahead.
@@ -186,12 +186,12 @@ impl Flow {
     }
 
     /// Takes a unit with P(S) and P(R) that comes in; of the unit itself only the contract keeps anything. The error is the cause of the
-    /// reset: 05 where the first P(S) isn't 0, 02 where a later one isn't the next, 04 where the window is used up, 03 where P(R) isn't
-    /// valid; the flow is then as before.
+    /// reset: P(S) isn't the next one, the window is used up, or P(R) stands for no count, in this order; the flow is then as before.
     pub fn accept(&mut self, ps: u8, pr: u8, more: bool, body: &[u8]) -> Result<(), u8>
         ensures ok { IfOk result (λ _. (unit_refusal ps pr self.old ≡ None)
             × (self.new ≡ record self.old {
-                counts = counts_after_unit pr more body.now self.old.counts })) }
+              counts = counts_after_unit pr more body.now self.old.counts;
+            })) }
         ensures err { IfErr result (λ cause.
             (unit_refusal ps pr self.old ≡ Some cause) × (self.new ≡ self.old)) }
     {
@@ -211,15 +211,17 @@ impl Flow {
         Ok(())
     }
 
-    /// Takes a P(R) that comes in, and how many units may be sent beyond it (above 127 as 127). The error is the cause of the reset: 03
-    /// where P(R) isn't valid; the flow is then as before.
+    /// Takes a P(R) that comes in, and how many units may be sent beyond it, at most the greatest credit. The error is the cause of the
+    /// reset, where P(R) stands for no count; the flow is then as before.
     pub fn acknowledge(&mut self, pr: u8, credit: u8) -> Result<(), u8>
         ensures ok { IfOk result (λ _. (is_valid pr (windows_of self.old) ≡ true)
             × (self.new ≡ record self.old {
-                credit = min credit GREATEST_CREDIT;
-                counts = counts_after_acknowledgement pr self.old.counts })) }
+              credit = min credit GREATEST_CREDIT;
+              counts = counts_after_acknowledgement pr self.old.counts;
+            })) }
         ensures err { IfErr result (λ cause.
-            (is_valid pr (windows_of self.old) ≡ false) × (cause ≡ RESET_INCORRECT_RECEIVE_NUMBER) × (self.new ≡ self.old)) }
+            (is_valid pr (windows_of self.old) ≡ false)
+            × (cause ≡ RESET_INCORRECT_RECEIVE_NUMBER) × (self.new ≡ self.old)) }
     {
         let Some(ahead) = self.ahead(pr) else {
             return Err(RESET_INCORRECT_RECEIVE_NUMBER);
@@ -262,9 +264,10 @@ impl Flow {
             × (sent.1 ≡ self.old.counts.passed % SEQUENCE_NUMBERS)
             × (self.old.waits ≡ sent.2 ∷ self.new.waits)) }
         ensures left { IfSome result (λ sent. self.new ≡ record self.old {
-            waits = self.new.waits;
-            counts = counts_after_sending self.old.counts;
-            room = self.old.room + 1 }) }
+          waits = self.new.waits;
+          counts = counts_after_sending self.old.counts;
+          room = self.old.room + 1;
+        }) }
         ensures none { IfNone result
             ((may_leave (windows_of self.old) ≡ 0) × (self.new ≡ self.old)) }
     {

@@ -4,7 +4,7 @@ use Rattle.section_model.specs.declared.cell.Cell.TheVariants.{Nothing}
 use Rattle.section_grid.specs.Grids.{user_state_numbered}
 use Rattle.section_model.specs.Views.{state_numbered}
 use Rattle.section_model.specs.Table.{Row, UserRow, in_state, in_user_state}
-use Rattle.section_grid.specs.Rows.{section_cells, user_cells}
+use Rattle.section_grid.specs.Inner.Rows.{section_cells, user_cells}
 
 pub section_cells-at : (row : Row) (n : ℕ) → slice_index_or (section_cells row) n Nothing ≡ in_state (state_numbered n) row
 section_cells-at row zero = refl

@@ -11,7 +11,6 @@ use Rattle.section_model.specs.declared.cell.Occasion.TheVariants as on
 use Rattle.section_model.specs.declared.cell.UserOccasion.{UserOccasion}
 use Rattle.section_model.specs.declared.cell.UserOccasion.TheVariants as by
 use Rattle.section_model.specs.Table.{section_cell, user_cell}
-use Rattle.section_grid.specs.Rows.{user_states}
 
 -- The events of the tables by their numbers from 0, in the order in which the tables name them, and the states of a user's end.
 abbrev pub occasions : List Occasion
@@ -19,6 +18,9 @@ occasions =
     on.Cc ∷ on.Cref ∷ on.Rlsd ∷ on.Rlc ∷ on.Dt1 ∷ on.Dt2 ∷ on.Ak ∷ on.Ed ∷ on.Ea ∷ on.Rsr ∷ on.Rsc ∷ on.Err ∷ on.It
     ∷ on.ConnectFires ∷ on.ResetFires ∷ on.IarFires ∷ on.IasFires ∷ on.RelFires ∷ on.IntFires ∷ on.RepeatFires
     ∷ on.AcceptComes ∷ on.RefuseComes ∷ on.EndComes ∷ on.UnitComes ∷ on.ExpeditedComes ∷ on.ResetComes ∷ on.DoneComes ∷ []
+
+abbrev pub user_states : List UserState
+user_states = end.Offered ∷ end.Calling ∷ end.Ready ∷ end.Renewing ∷ end.Gone ∷ []
 
 abbrev pub user_state_numbered : ℕ → UserState
 user_state_numbered n = slice_index_or user_states n end.Gone

@@ -1,7 +1,7 @@
 //! The table of a connection section.
 ghost use Rattle.std.specs.Prelude.{◌≡◌};
 ghost use Rattle.section_model.specs.Table.{section_row, section_cell};
-ghost use Rattle.section_grid.specs.Rows.{section_cells};
+ghost use Rattle.section_grid.specs.Inner.Rows.{section_cells};
 ghost use Rattle.section_grid.specs.Grids.{IsSectionGrid};
 
 use crate::grid::Grid;

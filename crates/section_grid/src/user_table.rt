@@ -1,7 +1,7 @@
 //! The table of a user's end.
 ghost use Rattle.std.specs.Prelude.{◌≡◌};
 ghost use Rattle.section_model.specs.Table.{user_row, user_cell};
-ghost use Rattle.section_grid.specs.Rows.{user_cells};
+ghost use Rattle.section_grid.specs.Inner.Rows.{user_cells};
 ghost use Rattle.section_grid.specs.Grids.{IsUserGrid};
 
 use crate::grid::Grid;

@@ -1,5 +1,5 @@
 -- An act of one end (Q.714, Annex B): of a section, by its line or its windows and with its timers, or of a user.
-use Rattle.std.specs.Prelude.{ℕ, ◌==◌, ◌||◌, ◌&&◌, not, Bool, true, false, List, if◌then◌else◌, Option, Some, None}
+use Rattle.std.specs.Prelude.{ℕ, ◌==◌, ◌||◌, ◌&&◌, not, Bool, true, false, if◌then◌else◌}
 use Rattle.std.specs.List.{list_any}
 use Rattle.relay_base.specs.declared.words.Output.TheVariants.{Sent}
 use Rattle.section_model.specs.declared.hand.Hand.TheVariants as hand
@@ -15,7 +15,7 @@ use Rattle.section_model.specs.declared.hand.Acted.{Acted}
 use Rattle.section_model.specs.declared.hand.Hand.{Hand}
 use Rattle.plant_core.specs.declared.terms.Ticks.{Ticks}
 use Rattle.relay_base.specs.declared.words.Output.{Output}
-use Rattle.section_model.specs.Ends.{Line, Windows, Section, User, End, wire, owner, cleared, is_up, is_connected}
+use Rattle.section_model.specs.Ends.{Line, Windows, Section, End, wire, owner, cleared, is_up, is_connected}
 use Rattle.section_model.specs.Line.{line_hears, line_fires, line_takes}
 use Rattle.section_model.specs.Windowed.{Windowed, windowed_hears, windowed_fires, windowed_takes}
 use Rattle.section_model.specs.UserEnd.{user_takes}

@@ -1,6 +1,5 @@
 -- What the ends hand to each other: two connection sections that a relay node couples, or a section and a user (Q.714, 3.1).
-use Rattle.std.specs.Prelude.{◌≡◌, ℕ, zero, suc, List, [], ◌∷◌, ◌++◌, fold}
-use Rattle.section_model.specs.declared.hand.Hand.TheVariants as hand
+use Rattle.std.specs.Prelude.{ℕ, zero, suc, List, [], ◌++◌, fold}
 use Rattle.section_model.specs.declared.hand.Acted.{Acted}
 use Rattle.section_model.specs.declared.hand.Hand.{Hand}
 use Rattle.plant_core.specs.declared.terms.Ticks.{Ticks}

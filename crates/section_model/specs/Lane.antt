@@ -1,5 +1,5 @@
 -- A legal connection journal: each entry has the outputs that the entries before it determine.
-use Rattle.std.specs.Prelude.{◌≡◌, ℕ, ◌+◌, ◌*◌, ◌/◌, ◌==◌, ◌&&◌, ◌||◌, nat_lt, not, Bool, true, false, List, [], ◌∷◌, ◌++◌, length, map, take, filter, find, if◌then◌else◌, Option, Some, None, Ok, Err, option_map, is_some, flat_map, count_by}
+use Rattle.std.specs.Prelude.{◌≡◌, ℕ, ◌+◌, ◌*◌, ◌/◌, ◌==◌, ◌&&◌, ◌||◌, nat_lt, not, Bool, true, false, List, [], ◌∷◌, ◌++◌, length, map, take, filter, find, if◌then◌else◌, Option, Some, None, is_some, flat_map, count_by}
 use Rattle.std.specs.List.{list_any, range_with_len}
 use Rattle.relay_base.specs.declared.causes.TheConstants.{ERROR_UNASSIGNED_REFERENCE}
 use Rattle.relay_base.specs.declared.words.Output.{Output}
@@ -22,7 +22,7 @@ use Rattle.section_model.specs.declared.limits.TheConstants.{SLOTS}
 use Rattle.section_model.specs.Parameters.{Parameters, Arrival, arrival_in}
 use Rattle.section_model.specs.Ends.{End, wire, owner, Connection}
 use Rattle.section_model.specs.Step.{connection_step, hears, is_in_range, end_is_gone}
-use Rattle.section_model.specs.Opening.{Wish, by_cr, by_user, no_wish, wish_of, question_of, slots_needed, opened, Opened, not_opened}
+use Rattle.section_model.specs.Opening.{Wish, by_cr, by_user, no_wish, wish_of, question_of, slots_needed, opened, Opened}
 
 pub record Lane : Type 0 where
   pub terms : Terms

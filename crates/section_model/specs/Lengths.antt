@@ -11,7 +11,7 @@ use Rattle.section_model.specs.declared.hand.Acted.{Acted}
 use Rattle.section_model.specs.declared.hand.KeptRelease.{KeptRelease}
 use Rattle.section_model.specs.declared.input.Input.{Input}
 use Rattle.section_model.specs.declared.input.Input.TheVariants as input
-use Rattle.section_model.specs.declared.limits.TheConstants.{LONGEST_DATA, LONGEST_EXPEDITED, LONGEST_UNIT}
+use Rattle.section_model.specs.declared.limits.TheConstants.{LONGEST_ADDRESS, LONGEST_DATA, LONGEST_EXPEDITED, LONGEST_UNIT}
 use Rattle.section_model.specs.Parameters.{Arrival, arrival_in}
 use Rattle.section_model.specs.Ends.{DataUnit, Windows}
 use Rattle.q713_codec.specs.Writing.{InRange}
@@ -23,28 +23,35 @@ IsWithin least most octets = (least ≤ length octets) × (length octets ≤ mos
 -- an optional address, and optional data, where they are there
 abbrev pub IsAddress : Option (List ℕ) → Type 0
 IsAddress None = Unit {0}
-IsAddress (Some octets) = length octets ≤ 255
+IsAddress (Some octets) = length octets ≤ LONGEST_ADDRESS
 
 abbrev pub IsData : Option (List ℕ) → Type 0
 IsData None = Unit {0}
 IsData (Some octets) = IsWithin 1 LONGEST_DATA octets
 
+-- a unit of data, and expedited data
+abbrev pub IsUnitData : List ℕ → Type 0
+IsUnitData octets = IsWithin 1 LONGEST_UNIT octets
+
+abbrev pub IsExpeditedData : List ℕ → Type 0
+IsExpeditedData octets = IsWithin 1 LONGEST_EXPEDITED octets
+
 -- the data of a message that carries a unit, and of one that carries expedited data
 abbrev pub IsDataOf : Occasion → List ℕ → Type 0
-IsDataOf on.Dt1 octets = IsWithin 1 LONGEST_UNIT octets
-IsDataOf on.Dt2 octets = IsWithin 1 LONGEST_UNIT octets
-IsDataOf on.Ed octets = IsWithin 1 LONGEST_EXPEDITED octets
+IsDataOf on.Dt1 octets = IsUnitData octets
+IsDataOf on.Dt2 octets = IsUnitData octets
+IsDataOf on.Ed octets = IsExpeditedData octets
 IsDataOf _ octets = Unit {0}
 
 -- the addresses and the data of a connection's message have lengths that Q.713 allows
 abbrev pub HasLengths : Message → Type 0
-HasLengths (Cr slr class called credit calling body hop importance) = (length called ≤ 255) × IsAddress calling × IsData body
+HasLengths (Cr slr class called credit calling body hop importance) = (length called ≤ LONGEST_ADDRESS) × IsAddress calling × IsData body
 HasLengths (Cc dlr slr class credit called body importance) = IsAddress called × IsData body
 HasLengths (Cref dlr cause called body importance) = IsAddress called × IsData body
 HasLengths (Rlsd dlr slr cause body importance) = IsData body
-HasLengths (Dt1 dlr segmenting body) = IsWithin 1 LONGEST_UNIT body
-HasLengths (Dt2 dlr sequencing body) = IsWithin 1 LONGEST_UNIT body
-HasLengths (Ed dlr body) = IsWithin 1 LONGEST_EXPEDITED body
+HasLengths (Dt1 dlr segmenting body) = IsUnitData body
+HasLengths (Dt2 dlr sequencing body) = IsUnitData body
+HasLengths (Ed dlr body) = IsExpeditedData body
 HasLengths _ = Unit {0}
 
 -- the same of what an end hands to the other, of what is kept for a repeated release, and of what a message brings
@@ -52,8 +59,8 @@ abbrev pub HandWithin : Hand → Type 0
 HandWithin (hand.Accept class credit called body importance) = IsAddress called × IsData body
 HandWithin (hand.Refuse cause called body importance) = IsAddress called × IsData body
 HandWithin (hand.End cause body importance) = IsData body
-HandWithin (hand.Unit more body) = IsWithin 1 LONGEST_UNIT body
-HandWithin (hand.Expedited body) = IsWithin 1 LONGEST_EXPEDITED body
+HandWithin (hand.Unit more body) = IsUnitData body
+HandWithin (hand.Expedited body) = IsExpeditedData body
 HandWithin _ = Unit {0}
 
 abbrev pub HandsWithin : List Hand → Type 0
@@ -69,11 +76,11 @@ KeptWithin kept = IsData kept.body
 -- the same of units that wait, and of expedited data that wait
 abbrev pub UnitsWithin : List DataUnit → Type 0
 UnitsWithin [] = Unit {0}
-UnitsWithin (u ∷ units) = IsWithin 1 LONGEST_UNIT u.body × UnitsWithin units
+UnitsWithin (u ∷ units) = IsUnitData u.body × UnitsWithin units
 
 abbrev pub ExpeditedWithin : Option (List ℕ) → Type 0
 ExpeditedWithin None = Unit {0}
-ExpeditedWithin (Some body) = IsWithin 1 LONGEST_EXPEDITED body
+ExpeditedWithin (Some body) = IsExpeditedData body
 
 abbrev pub WindowsWithin : Windows → Type 0
 WindowsWithin w = UnitsWithin w.waits × ExpeditedWithin w.waiting
@@ -102,10 +109,10 @@ pub record WritesWithin : Type 0 where
   pub cref : (dlr cause : ℕ) (called body : Option (List ℕ)) (importance : Option ℕ) → IsAddress called → IsData body → InRange (Cref dlr cause called body importance)
   pub rlsd : (dlr slr cause : ℕ) (body : Option (List ℕ)) (importance : Option ℕ) → IsData body → InRange (Rlsd dlr slr cause body importance)
   pub rlc : (dlr slr : ℕ) → InRange (Rlc dlr slr)
-  pub dt1 : (dlr segmenting : ℕ) (body : List ℕ) → IsWithin 1 LONGEST_UNIT body → InRange (Dt1 dlr segmenting body)
-  pub dt2 : (dlr : ℕ) (sequencing body : List ℕ) → IsWithin 1 LONGEST_UNIT body → InRange (Dt2 dlr sequencing body)
+  pub dt1 : (dlr segmenting : ℕ) (body : List ℕ) → IsUnitData body → InRange (Dt1 dlr segmenting body)
+  pub dt2 : (dlr : ℕ) (sequencing body : List ℕ) → IsUnitData body → InRange (Dt2 dlr sequencing body)
   pub ak : (dlr receive credit : ℕ) → InRange (Ak dlr receive credit)
-  pub ed : (dlr : ℕ) (body : List ℕ) → IsWithin 1 LONGEST_EXPEDITED body → InRange (Ed dlr body)
+  pub ed : (dlr : ℕ) (body : List ℕ) → IsExpeditedData body → InRange (Ed dlr body)
   pub ea : (dlr : ℕ) → InRange (Ea dlr)
   pub rsr : (dlr slr cause : ℕ) → InRange (Rsr dlr slr cause)
   pub rsc : (dlr slr : ℕ) → InRange (Rsc dlr slr)

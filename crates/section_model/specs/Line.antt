@@ -30,6 +30,10 @@ credit_of class credit = if class == 3 then Some credit else None
 abbrev pub granted : ℕ → ℕ → ℕ
 granted credit most = min (max credit 1) most
 
+-- the credit that is agreed on in a class: none but in class 3
+abbrev pub agreed_credit : ℕ → ℕ → ℕ → ℕ
+agreed_credit class credit most = if class == 3 then granted credit most else 0
+
 abbrev pub in_state : SectionState → Line → Line
 in_state state x = record x { head = record x.head { state = state } }
 
@@ -59,7 +63,7 @@ reached point other x = record x { head = record x.head { point = point; other =
 
 -- The class and the credit that CC agrees on (Q.714, 3.1.3).
 abbrev pub agreed : SectionHead → Parameters → ℕ
-agreed x m = if m.class == 3 then granted (unwrap_or m.credit x.credit) x.credit else 0
+agreed x m = agreed_credit m.class (unwrap_or m.credit x.credit) x.credit
 
 abbrev pub confirms : ℕ → Parameters → Line → Line × Acted
 confirms point m asked =

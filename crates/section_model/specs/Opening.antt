@@ -1,5 +1,5 @@
 -- How a connection is opened (Q.714, 3.1): by CR from the network, or by a user's N-CONNECT request.
-use Rattle.std.specs.Prelude.{ℕ, ◌%◌, ◌==◌, ◌||◌, ◌&&◌, nat_le, Bool, true, false, List, [], ◌∷◌, ◌++◌, length, if◌then◌else◌, Option, Some, None, Ok, Err, unwrap_or, is_ok}
+use Rattle.std.specs.Prelude.{ℕ, ◌%◌, ◌==◌, ◌||◌, ◌&&◌, nat_le, Bool, List, [], ◌∷◌, length, if◌then◌else◌, Option, Some, None, Ok, Err, unwrap_or, is_ok}
 use Rattle.std.specs.declared.result.Result.{Result}
 use Rattle.relay_base.specs.declared.causes.TheConstants.{REFUSAL_NOT_AVAILABLE, REFUSAL_UNQUALIFIED}
 use Rattle.relay_base.specs.declared.words.ReadFault.{ReadFault}
@@ -37,7 +37,7 @@ use Rattle.section_model.specs.declared.cell.UserState.{UserState}
 use Rattle.section_model.specs.declared.cell.UserState.TheVariants as user
 use Rattle.section_model.specs.Parameters.{class_in}
 use Rattle.section_model.specs.Ends.{SectionHead, End, wire, owner, Connection, no_kept, cleared, no_timers}
-use Rattle.section_model.specs.Line.{credit_of, granted}
+use Rattle.section_model.specs.Line.{credit_of, agreed_credit}
 use Rattle.section_model.specs.Timing.{entered}
 use Rattle.section_model.specs.UserEnd.{given}
 
@@ -63,7 +63,7 @@ pub data Wish : Type 0 where
 
 -- the credit that is offered on (Q.714, 3.1.3): in class 3 none and 0 count as 1, and one above the node's greatest as that
 abbrev pub offered : Terms → ℕ → ℕ → ℕ
-offered terms class credit = if class == 3 then granted credit terms.credit else 0
+offered terms class credit = agreed_credit class credit terms.credit
 
 abbrev pub wish_of_message : Terms → ℕ → ℕ → Message → Wish
 wish_of_message terms point sls (Cr slr class called credit calling body hop importance) = by_cr (record {

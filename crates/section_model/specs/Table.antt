@@ -1,5 +1,4 @@
 -- The tables of states and events (Q.714, Annex B, in this node's profile).
-use Rattle.std.specs.Prelude.{ℕ, List, [], ◌∷◌, slice_index_or}
 use Rattle.section_model.specs.declared.cell.SectionState.{SectionState}
 use Rattle.section_model.specs.declared.cell.UserState.{UserState}
 use Rattle.section_model.specs.declared.cell.SectionState.TheVariants as state

@@ -17,7 +17,7 @@ use Rattle.section_model.specs.declared.hand.Acted.{Acted}
 use Rattle.section_model.specs.declared.hand.Hand.{Hand}
 use Rattle.relay_base.specs.declared.words.Output.{Output}
 use Rattle.section_model.specs.Ends.{User, no_effect, gives, gives_then}
-use Rattle.section_model.specs.Line.{granted}
+use Rattle.section_model.specs.Line.{agreed_credit}
 
 abbrev pub output_to : User → Tell → Output
 output_to x t = Told x.ssn t
@@ -31,16 +31,18 @@ given (b ∷ body) = Some (b ∷ body)
 abbrev pub unit_count : List ℕ → ℕ
 unit_count body = (length body + (LONGEST_UNIT - 1)) / LONGEST_UNIT
 
+abbrev pub unit_at : List ℕ → ℕ → DataUnit
+unit_at body k = record { more = nat_lt (k + 1) (unit_count body); body = take LONGEST_UNIT (drop (LONGEST_UNIT * k) body) }
+
 abbrev pub units_of : List ℕ → List DataUnit
-units_of body =
-    map (λ k. record { more = nat_lt (k + 1) (unit_count body); body = take LONGEST_UNIT (drop (LONGEST_UNIT * k) body) }) (range_with_len 0 (unit_count body))
+units_of body = map (λ k. unit_at body k) (range_with_len 0 (unit_count body))
 
 abbrev pub handed : DataUnit → Hand
 handed u = hand.Unit u.more u.body
 
 abbrev pub accepts : Request → User → User × Acted
 accepts (request.Accept mine class credit body) x =
-    let agreed = if class == 3 then granted credit x.credit else 0 in
+    let agreed = agreed_credit class credit x.credit in
     (record x { state = Ready; class = class; credit = agreed }, gives_then [] (hand.Accept class agreed None (given body) None ∷ []))
 accepts _ x = (x, no_effect)
 
@@ -61,13 +63,16 @@ abbrev pub disconnects : Request → User → User × Acted
 disconnects (request.Disc mine cause body) x = (record x { state = Gone }, gives_then [] (hand.End cause (given body) None ∷ []))
 disconnects _ x = (x, no_effect)
 
+abbrev pub user_resets : User → User × Acted
+user_resets x = (record x { state = Renewing; text = []; got = []; passed = 0 }, gives_then [] (hand.Reset RESET_END_USER ∷ []))
+
 -- A request. It was not refused, and the cell is the table's for it.
 unfoldable pub user_asks : Cell → Request → User → User × Acted
 user_asks cell.UserAccepts r x = accepts r x
 user_asks cell.UserRefuses r x = refuses r x
 user_asks cell.UserSends r x = sends r x
 user_asks cell.UserExpedites r x = expedites r x
-user_asks cell.UserResets r x = (record x { state = Renewing; text = []; got = []; passed = 0 }, gives_then [] (hand.Reset RESET_END_USER ∷ []))
+user_asks cell.UserResets r x = user_resets x
 user_asks cell.UserDisconnects r x = disconnects r x
 user_asks _ r x = (x, no_effect)
 
@@ -85,14 +90,22 @@ tells_disconnect _ x = (x, no_effect)
 abbrev pub taken : User → ℕ → Bool → List Hand
 taken x units is_expedited = if x.class == 3 then hand.Left units is_expedited ∷ [] else []
 
--- A unit joins the text; a text that is too long ends the connection, and a whole one is told.
+-- A unit joins the text: a text that is too long ends the connection, one of which more follows waits, and a whole one is told.
+abbrev pub overruns : User → User × Acted
+overruns x = (
+  record x { state = Gone },
+  record { first = hand.End RELEASE_ACCESS_CONGESTION None None ∷ []; outs = output_to x (tell.Disc x.mine RELEASE_ACCESS_CONGESTION None) ∷ []; then = [] },
+)
+
+abbrev pub continues : List ℕ → User → User × Acted
+continues body x = (record x { text = x.text ++ body }, gives_then [] (taken x 1 false))
+
+abbrev pub completes : List ℕ → User → User × Acted
+completes body x = (record x { text = [] }, gives_then (output_to x (tell.Text x.mine (x.text ++ body)) ∷ []) (taken x 1 false))
+
 abbrev pub collects : Hand → User → User × Acted
 collects (hand.Unit more body) x =
-    let text = x.text ++ body in
-    if nat_lt LONGEST_TEXT (length text)
-    then (record x { state = Gone }, record { first = hand.End RELEASE_ACCESS_CONGESTION None None ∷ []; outs = output_to x (tell.Disc x.mine RELEASE_ACCESS_CONGESTION None) ∷ []; then = [] })
-    else if more then (record x { text = text }, gives_then [] (taken x 1 false))
-    else (record x { text = [] }, gives_then (output_to x (tell.Text x.mine text) ∷ []) (taken x 1 false))
+    if nat_lt LONGEST_TEXT (length (x.text ++ body)) then overruns x else if more then continues body x else completes body x
 collects _ x = (x, no_effect)
 
 abbrev pub tells_expedited : Hand → User → User × Acted
@@ -102,6 +115,9 @@ tells_expedited _ x = (x, no_effect)
 abbrev pub tells_reset : Hand → User → User × Acted
 tells_reset (hand.Reset cause) x = (record x { text = []; got = []; passed = 0 }, gives (output_to x (tell.Renewed x.mine cause) ∷ []))
 tells_reset _ x = (x, no_effect)
+
+abbrev pub tells_reset_done : User → User × Acted
+tells_reset_done x = (record x { state = Ready }, gives (output_to x (tell.ResetDone x.mine) ∷ []))
 
 abbrev pub user_counts_left : Hand → User → User × Acted
 user_counts_left (hand.Left units is_expedited) x = (record x { passed = x.passed + units }, no_effect)
@@ -114,6 +130,6 @@ user_takes cell.TellDisconnect h x = tells_disconnect h x
 user_takes cell.TellUnit h x = collects h x
 user_takes cell.TellExpedited h x = tells_expedited h x
 user_takes cell.TellReset h x = tells_reset h x
-user_takes cell.TellResetDone h x = (record x { state = Ready }, gives (output_to x (tell.ResetDone x.mine) ∷ []))
+user_takes cell.TellResetDone h x = tells_reset_done x
 user_takes cell.Left h x = user_counts_left h x
 user_takes _ h x = (x, no_effect)

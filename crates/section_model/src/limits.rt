@@ -9,6 +9,9 @@ pub const SEQUENCE_NUMBERS: u8 = 128;
 /// The most units of a text that wait in class 3, with those that are to wait.
 pub const MOST_WAITING: usize = 127;
 
+/// The most octets of an address (Q.713, 3.4 and 3.5).
+pub const LONGEST_ADDRESS: usize = 255;
+
 /// The most octets of data in DT1 and DT2 (Q.713, 4.7 and 4.8).
 pub const LONGEST_UNIT: usize = 255;
 

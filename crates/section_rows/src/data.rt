@@ -20,5 +20,6 @@ pub fn long_text()
 pub fn too_long_text()
     ensures { drop 2 (played first_lane
         (local ++ replicate 32 (data_of 1 255) ++ data_of 0 33 ∷ []))
-        ≡ replicate 32 [] ++ (sent 200 3 "040100001000000700" ∷ told 8 (tell.Disc 16 7 None) ∷ []) ∷ [] }
+        ≡ replicate 32 []
+        ++ (sent 200 3 "040100001000000700" ∷ told 8 (tell.Disc 16 7 None) ∷ []) ∷ [] }
 {}

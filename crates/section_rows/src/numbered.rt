@@ -18,7 +18,8 @@ pub fn windows()
         ∷ arrives 200 7 "081000000400"
         ∷ arrives 200 7 "081000000402"
         ∷ arrives 200 7 "081000000802" ∷ [])
-        ≡ (told 8 (tell.Named 7 16) ∷ sent 200 7 "011000000302060443c8000a0901020402420811010f00" ∷ [])
+        ≡ (told 8 (tell.Named 7 16)
+        ∷ sent 200 7 "011000000302060443c8000a0901020402420811010f00" ∷ [])
         ∷ (told 8 (tell.Confirm 16 3 2 None None) ∷ [])
         ∷ (sent 200 7 "075500000000010101" ∷ [])
         ∷ (sent 200 7 "075500000200010102" ∷ [])
@@ -42,7 +43,8 @@ pub fn invalid_receive_number()
 pub fn unanswered_reset()
     ensures { drop 3 (played first_lane
         (relayed_numbered ++ arrives 200 4 "0d10000007000006" ∷ replicate 15 tick))
-        ≡ [] ∷ replicate 14 [] ++ (sent 300 4 "040900002000000c00" ∷ sent 200 4 "040700001000000c00" ∷ []) ∷ [] }
+        ≡ [] ∷ replicate 14 []
+        ++ (sent 300 4 "040900002000000c00" ∷ sent 200 4 "040700001000000c00" ∷ []) ∷ [] }
 {}
 
 /// Numbers go on after 127 with 0.
@@ -51,7 +53,9 @@ pub fn numbers_after_127()
     ensures { along (lane_with 127 ticks) (asks (request.Conn 7 3 127 (hex "43c8000a") []))
         (arrives 200 7 "02100000550000030109017f00" ∷ flat_map send_and_ack (range_with_len 0 130))
         ≡ Some ((told 8 (tell.Confirm 16 3 127 None None) ∷ [])
-        ∷ flat_map (λ k. (sent_octets 200 7 (hex "07550000" ++ 2 * (k % 128) ∷ 0 ∷ 1 ∷ 1 ∷ 7 ∷ []) ∷ []) ∷ [] ∷ []) (range_with_len 0 130)) }
+        ∷ flat_map (λ k.
+        (sent_octets 200 7 (hex "07550000" ++ 2 * (k % 128) ∷ 0 ∷ 1 ∷ 1 ∷ 7 ∷ []) ∷ []) ∷ [] ∷ [])
+        (range_with_len 0 130)) }
 {}
 
 /// Expedited data goes one at a time.

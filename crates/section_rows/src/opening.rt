@@ -51,7 +51,8 @@ pub fn hop_counter_runs_out()
 #[tactic(auto, unfolding(crate::specs::Played::played))]
 pub fn lowest_references()
     ensures { played first_lane
-        (cr ∷ arrives 200 4 "01070000020200081208001204947121" ∷ arrives 200 3 "01020000020200024208" ∷ [])
+        (cr ∷ arrives 200 4 "01070000020200081208001204947121"
+        ∷ arrives 200 3 "01020000020200024208" ∷ [])
         ≡ offers 16 ∷ (sent 300 4 "01300000020200085208001204947121" ∷ []) ∷ offers 64 ∷ [] }
 {}
 

@@ -46,14 +46,16 @@ pub fn silence()
         ≡ Some ((sent 200 3 "020100001000000200" ∷ [])
         ∷ replicate 419 [] ++ (sent 200 3 "1001000010000002000000" ∷ [])
         ∷ replicate 419 [] ++ (sent 200 3 "1001000010000002000000" ∷ [])
-        ∷ replicate 59 [] ++ (sent 200 3 "040100001000000d00" ∷ told 8 (tell.Disc 16 13 None) ∷ []) ∷ []) }
+        ∷ replicate 59 []
+        ++ (sent 200 3 "040100001000000d00" ∷ told 8 (tell.Disc 16 13 None) ∷ []) ∷ []) }
 {}
 
 /// A reference is free again as soon as it was frozen for its ticks.
 #[tactic(auto, unfolding(crate::specs::Played::played))]
 pub fn frozen_references()
     ensures { played quick_lane (refused_at 16 ++ refused_at 16)
-        ≡ offers 16 ∷ (sent 200 3 "030100000300" ∷ []) ∷ [] ∷ offers 16 ∷ (sent 200 3 "030100000300" ∷ []) ∷ [] ∷ [] }
+        ≡ offers 16 ∷ (sent 200 3 "030100000300" ∷ []) ∷ []
+        ∷ offers 16 ∷ (sent 200 3 "030100000300" ∷ []) ∷ [] ∷ [] }
 {}
 
 /// A late message for the former owner of a reference is lost by the state of the next one.

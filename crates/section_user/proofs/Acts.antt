@@ -2,9 +2,9 @@
 use Rattle.std.proofs.Common.{◌≡◌, ℕ, List, ◌++◌, length, Bool, true, false, nat_lt}
 use Rattle.section_model.specs.declared.hand.Hand.TheVariants as hand
 use Rattle.section_model.specs.declared.hand.Acted.{Acted}
-use Rattle.section_model.specs.UserEnd.{collects}
+use Rattle.section_model.specs.UserEnd.{collects, overruns, continues, completes}
 use Rattle.section_user.specs.declared.side.UserSide.{UserSide}
-use Rattle.section_user.specs.Side.{ActsAs, overruns, continues, completes}
+use Rattle.section_user.specs.Side.{ActsAs}
 
 pub too_long : (body : List ℕ) (more : Bool) (old new : UserSide) (done : Acted) → nat_lt 8192 (length (old.text ++ body)) ≡ true → ActsAs overruns old new done → ActsAs (collects (hand.Unit more body)) old new done
 too_long body more old new done e acts = λ got passed. rw e (acts got passed)

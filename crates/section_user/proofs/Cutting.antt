@@ -3,8 +3,7 @@ use Rattle.std.proofs.Common.{◌≡◌, ℕ, ◌+◌, ◌*◌, ◌/◌, ◌<◌
 use Rattle.std.specs.List.{range_with_len}
 use Rattle.std.proofs.lemmas.List.{map-append}
 use Rattle.std.proofs.lemmas.List.FromFn.{map-range_with_len_more}
-use Rattle.section_model.specs.UserEnd.{handed}
-use Rattle.section_user.specs.Side.{unit_at}
+use Rattle.section_model.specs.UserEnd.{handed, unit_at}
 
 -- one unit more
 pub one_more : (body : List ℕ) (k : ℕ) → map handed (map (unit_at body) (range_with_len 0 (k + 1))) ≡ map handed (map (unit_at body) (range_with_len 0 k)) ++ handed (unit_at body k) ∷ []

@@ -18,9 +18,9 @@ use Rattle.section_model.specs.declared.input.Input.{Input}
 use Rattle.section_model.specs.declared.input.Input.TheVariants as input
 use Rattle.section_model.specs.Ends.{User}
 use Rattle.section_model.specs.Step.{is_in_range}
-use Rattle.section_model.specs.UserEnd.{given, handed, unit_count, units_of, user_asks, accepts, refuses, sends, expedites, disconnects, user_takes, tells_confirm, tells_disconnect, collects, tells_expedited, tells_reset, user_counts_left, taken}
+use Rattle.section_model.specs.UserEnd.{given, handed, unit_count, units_of, user_asks, accepts, refuses, sends, expedites, disconnects, user_takes, tells_confirm, tells_disconnect, collects, tells_expedited, tells_reset, user_counts_left, taken, unit_at, overruns, continues, completes}
 use Rattle.section_user.specs.declared.side.UserSide.{UserSide}
-use Rattle.section_user.specs.Side.{ActsAs, user_of, unit_at, overruns, continues, completes, user_acts, user_hears_event}
+use Rattle.section_user.specs.Side.{ActsAs, user_of, user_acts, user_hears_event}
 use Rattle.section_model.specs.Lengths.{IsData, HandWithin, HandsWithin, ActedWithin}
 use Rattle.section_user.specs.Lengths.{IsRequestInRange, IsInputInRange}
 use Rattle.section_user.proofs.Cutting.{starts_within}

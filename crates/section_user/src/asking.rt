@@ -1,8 +1,10 @@
 //! The requests of a user.
 ghost use Rattle.std.specs.Prelude.{◌≡◌, [], IfOk, OnErr};
 ghost use Rattle.section_model.specs.Ends.{gives_then};
-ghost use Rattle.section_model.specs.UserEnd.{accepts, refuses, sends, expedites, disconnects, user_asks};
-ghost use Rattle.section_user.specs.Side.{ActsAs, KeepsEnd, agreed_credit, resets};
+ghost use Rattle.section_model.specs.UserEnd.{accepts, refuses, sends, expedites, disconnects, user_asks, user_resets};
+ghost use Rattle.section_user.specs.Side.{ActsAs};
+ghost use Rattle.section_user.specs.Inner.Acts.{KeepsEnd};
+ghost use Rattle.section_model.specs.Line.{agreed_credit};
 
 use crate::side::UserSide;
 use crate::units::{copied, given, units_of};
@@ -100,10 +102,15 @@ impl UserSide {
 
     /// The user resets: what was put together of a text is lost.
     fn resets(&mut self, alloc: Global) -> Result<Acted, Memory>
-        ensures ok { IfOk result (λ done. ActsAs resets self.old self.new done) }
+        ensures ok { IfOk result (λ done. ActsAs user_resets self.old self.new done) }
         ensures err { OnErr result (self.new ≡ self.old) }
     {
-        let done = Acted::handing(alloc, Hand::Reset { cause: RESET_END_USER })?;
+        let done = Acted::handing(
+            alloc,
+            Hand::Reset {
+                cause: RESET_END_USER,
+            },
+        )?;
         self.state = UserState::Renewing;
         self.text = Octets::new(alloc);
         Ok(done)

@@ -1,7 +1,7 @@
 //! What a user's end puts together: a text from its units.
 ghost use Rattle.std.specs.Prelude.{◌≡◌, ◌++◌, length, nat_lt, IfOk, OnErr};
-ghost use Rattle.section_model.specs.UserEnd.{collects};
-ghost use Rattle.section_user.specs.Side.{ActsAs, overruns, continues, completes};
+ghost use Rattle.section_model.specs.UserEnd.{collects, overruns, continues, completes};
+ghost use Rattle.section_user.specs.Side.{ActsAs};
 
 use crate::side::UserSide;
 use crate::units::copied;

@@ -1,7 +1,7 @@
 //! What a user's end does upon the effects of the section.
 ghost use Rattle.std.specs.Prelude.{◌≡◌, IfOk, OnErr};
-ghost use Rattle.section_model.specs.UserEnd.{tells_confirm, tells_disconnect, tells_expedited, tells_reset, user_takes};
-ghost use Rattle.section_user.specs.Side.{ActsAs, reset_done};
+ghost use Rattle.section_model.specs.UserEnd.{tells_confirm, tells_disconnect, tells_expedited, tells_reset, user_takes, tells_reset_done};
+ghost use Rattle.section_user.specs.Side.{ActsAs};
 
 use crate::side::UserSide;
 use crate::units::{boxed_if_any, copied};
@@ -95,7 +95,7 @@ impl UserSide {
 
     /// The user's reset is done.
     fn reset_done(&mut self, alloc: Global) -> Result<Acted, Memory>
-        ensures ok { IfOk result (λ done. ActsAs reset_done self.old self.new done) }
+        ensures ok { IfOk result (λ done. ActsAs tells_reset_done self.old self.new done) }
         ensures err { OnErr result (self.new ≡ self.old) }
     {
         let tell = Tell::ResetDone { mine: self.mine };

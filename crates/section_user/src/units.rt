@@ -1,7 +1,6 @@
 //! Data between a user and its end: copies, and the cutting of a text into units.
 ghost use Rattle.std.specs.Prelude.{◌≡◌, ◌<◌, ◌≤◌, length, take, drop, map, IfOk};
-ghost use Rattle.section_model.specs.UserEnd.{given, handed, unit_count, units_of};
-ghost use Rattle.section_user.specs.Side.{unit_at};
+ghost use Rattle.section_model.specs.UserEnd.{given, handed, unit_count, units_of, unit_at};
 
 use relay_base::{BoxedOctets, Memory, Octets};
 use section_model::limits::LONGEST_UNIT;

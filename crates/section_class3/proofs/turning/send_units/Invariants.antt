@@ -1,7 +1,7 @@
 use Rattle.std.proofs.Common.{◌≡◌, ◌++◌, length}
 use Rattle.section_model.specs.Views.{section_of}
 use Rattle.section_model.specs.Lengths.{UnitsWithin}
-use Rattle.section_class3.specs.Sending.{all_sent, units_output}
+use Rattle.section_class3.specs.Inner.Sending.{all_sent, units_output}
 use Rattle.section_class3.proofs.turning.send_units.Given as goal
 
 abbrev pub invariant-loop-ps : goal.invariant-loop-ps

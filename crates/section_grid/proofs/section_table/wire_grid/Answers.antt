@@ -2,7 +2,7 @@ use Rattle.std.proofs.Common.{rules, ◌≡◌, [], slice_index_or}
 use Rattle.section_model.specs.declared.cell.Occasion.TheVariants.{DoneComes}
 use Rattle.section_grid.specs.Grids.{occasions}
 use Rattle.section_model.specs.Table.{section_row}
-use Rattle.section_grid.specs.Rows.{section_cells}
+use Rattle.section_grid.specs.Inner.Rows.{section_cells}
 use Rattle.section_grid.proofs.RowLemmas.{section_cells-at}
 use Rattle.section_grid.proofs.section_table.wire_grid.Goals as goal
 

@@ -2,7 +2,7 @@ use Rattle.std.proofs.Common.{rules, ◌≡◌, [], slice_index_or}
 use Rattle.section_model.specs.declared.cell.UserOccasion.TheVariants.{DoneTold}
 use Rattle.section_grid.specs.Grids.{user_occasions}
 use Rattle.section_model.specs.Table.{user_row}
-use Rattle.section_grid.specs.Rows.{user_cells}
+use Rattle.section_grid.specs.Inner.Rows.{user_cells}
 use Rattle.section_grid.proofs.RowLemmas.{user_cells-at}
 use Rattle.section_grid.proofs.user_table.user_grid.Goals as goal
 

@@ -1,7 +1,6 @@
 use Rattle.std.proofs.Common.{◌≡◌, map}
 use Rattle.std.specs.List.{range_with_len}
-use Rattle.section_model.specs.UserEnd.{handed}
-use Rattle.section_user.specs.Side.{unit_at}
+use Rattle.section_model.specs.UserEnd.{handed, unit_at}
 use Rattle.section_user.proofs.units.units_of.Given as goal
 
 abbrev pub invariant-loop-place : goal.invariant-loop-place

@@ -11,9 +11,9 @@ pub returns-then-ahead-self-clause-count : goal.returns-then-ahead-self-clause-c
 returns-then-ahead-self-clause-count c =
     let ahead : ℕ = (c.args.pr % 128 + 128 - c.self.inside.held.acked) % 128 in
     let acked : c.self.inside.held.acked ≡ c.args.self.now.counts.acked % 128 =
-        subst (λ (f : FlowState). c.self.inside.held.acked ≡ f.counts.acked % 128) c.self.view_is c.self.invariant.acked in
+    subst (λ (f : FlowState). c.self.inside.held.acked ≡ f.counts.acked % 128) c.self.view_is c.self.invariant.acked in
     let sent : c.args.self.now.counts.sent ≡ c.args.self.now.counts.acked + c.self.inside.held.outstanding =
-        subst (λ (f : FlowState). f.counts.sent ≡ f.counts.acked + c.self.inside.held.outstanding) c.self.view_is c.self.invariant.outstanding in
+    subst (λ (f : FlowState). f.counts.sent ≡ f.counts.acked + c.self.inside.held.outstanding) c.self.view_is c.self.invariant.outstanding in
     sym (count-ahead c.args.pr c.args.self.now.counts.acked c.args.self.now.counts.sent ahead
     (is_alike c.args.pr c.args.self.now.counts.acked c.self.inside.held.acked acked)
     (omega arith) (omega (arith, sent, c.if-ahead-self.true)))
@@ -22,9 +22,9 @@ pub returns-else-ahead-self-clause-count : goal.returns-else-ahead-self-clause-c
 returns-else-ahead-self-clause-count c =
     let ahead : ℕ = (c.args.pr % 128 + 128 - c.self.inside.held.acked) % 128 in
     let acked : c.self.inside.held.acked ≡ c.args.self.now.counts.acked % 128 =
-        subst (λ (f : FlowState). c.self.inside.held.acked ≡ f.counts.acked % 128) c.self.view_is c.self.invariant.acked in
+    subst (λ (f : FlowState). c.self.inside.held.acked ≡ f.counts.acked % 128) c.self.view_is c.self.invariant.acked in
     let sent : c.args.self.now.counts.sent ≡ c.args.self.now.counts.acked + c.self.inside.held.outstanding =
-        subst (λ (f : FlowState). f.counts.sent ≡ f.counts.acked + c.self.inside.held.outstanding) c.self.view_is c.self.invariant.outstanding in
+    subst (λ (f : FlowState). f.counts.sent ≡ f.counts.acked + c.self.inside.held.outstanding) c.self.view_is c.self.invariant.outstanding in
     sym (count-beyond c.args.pr c.args.self.now.counts.acked c.args.self.now.counts.sent ahead
     (is_alike c.args.pr c.args.self.now.counts.acked c.self.inside.held.acked acked)
     (omega arith) (omega (arith, sent, c.if-ahead-self.false)))
