@@ -1,4 +1,4 @@
--- SCCP management (Q.714): what each event of the control lane does, and a legal control journal.
+-- SCCP management (Q.714, 5.2 and 5.3): what each event of the control lane does, and a legal control journal.
 use Rattle.std.specs.Prelude.{◌≡◌, ℕ, pred, ◌+◌, ◌*◌, ◌==◌, ◌&&◌, ◌||◌, nat_lt, nat_le, not, Bool, true, false, List, [], ◌∷◌, ◌++◌, map, filter, find, fold, min, if◌then◌else◌, Option, Some, None, option_map, option_to_list}
 use Rattle.std.specs.List.{list_any, insert, position_or_len, range_with_len}
 use Rattle.relay_base.specs.declared.words.Output.{Output}
@@ -125,7 +125,7 @@ changes head c change =
     else if is_alters (verdict_on c.routing change) then publishes head c.routing change
     else only (refusal (verdict_on c.routing change))
 
--- A message of management (Q.714, subsystem management).
+-- A message of management (Q.714, 5.3).
 
 -- a change by a message is published where it alters the routing data, and else nothing comes of it
 abbrev pub announced : ControlHead → Control → Change → Effect
@@ -170,7 +170,7 @@ abbrev pub hears : ControlHead → Control → ℕ → Option (List ℕ) → Eff
 hears head c opc None = quiet
 hears head c opc (Some b) = hears_data head c opc (notice_in b)
 
--- A user's request (Q.714, coordinated state change).
+-- A user's request (Q.714, 5.3.5).
 
 abbrev pub replicate_of : ControlHead → ℕ → Option Replicate
 replicate_of head ssn = find (λ r. r.ssn == ssn) head.replicates
@@ -196,7 +196,7 @@ asks head c ssn request.Coord = coordinates_with c ssn (replicate_of head ssn)
 asks head c ssn (request.Grant point) = grants c ssn point
 asks head c ssn _ = quiet
 
--- A tick: a status test that is due is sent to its point, and a coordinated change that is due is denied.
+-- A tick: a status test that is due is sent to its point (Q.714, 5.3.4), and a coordinated change that is due is denied.
 
 abbrev pub is_due_test : StatusTest → Bool
 is_due_test t = nat_le t.left 1
@@ -242,9 +242,12 @@ effect_of head c (Plain TickEvent) = ticks c
 abbrev pub is_test_of : ℕ → ℕ → StatusTest → Bool
 is_test_of point ssn t = t.point == point && t.ssn == ssn
 
+abbrev pub test_begun : ℕ → ℕ → ℕ → StatusTest
+test_begun ticks point ssn = record { point = point; ssn = ssn; left = ticks; interval = ticks }
+
 -- a test begins with its subsystem's going out of service, and ends with its coming back
 abbrev pub tests_after : Ticks → Change → List StatusTest → List StatusTest
-tests_after ticks (BarSub point ssn) tests = tests ++ record { point = point; ssn = ssn; left = ticks.status; interval = ticks.status } ∷ []
+tests_after ticks (BarSub point ssn) tests = tests ++ test_begun ticks.status point ssn ∷ []
 tests_after ticks (FreeSub point ssn) tests = filter (λ t. not (is_test_of point ssn t)) tests
 tests_after ticks _ tests = tests
 
@@ -262,8 +265,8 @@ is_coordination_before x other = nat_lt x.ssn other.ssn
 abbrev pub with_coordination : Coordination → List Coordination → List Coordination
 with_coordination x list = insert list (position_or_len (is_coordination_before x) list) x
 
-abbrev pub begun : Ticks → Replicate → Coordination
-begun ticks r = record { ssn = r.ssn; point = r.point; left = ticks.coord }
+abbrev pub coordination_begun : Ticks → Replicate → Coordination
+coordination_begun ticks r = record { ssn = r.ssn; point = r.point; left = ticks.coord }
 
 abbrev pub without_coordination : ℕ → List Coordination → List Coordination
 without_coordination ssn list = filter (λ x. not (x.ssn == ssn)) list
@@ -286,7 +289,7 @@ control_after ticks c Nothing = c
 control_after ticks c (Publish change) = record c { routing = plant_after c.routing change; tests = tests_after ticks change c.tests }
 control_after ticks c (Remember g) = record c { grants = with_grant g c.grants }
 control_after ticks c (Forget g) = record c { grants = without_grant g c.grants }
-control_after ticks c (Begin r) = record c { coordinations = with_coordination (begun ticks r) c.coordinations }
+control_after ticks c (Begin r) = record c { coordinations = with_coordination (coordination_begun ticks r) c.coordinations }
 control_after ticks c (End ssn) = record c { coordinations = without_coordination ssn c.coordinations }
 control_after ticks c Tick = record c { tests = map (test_after_tick ticks) c.tests; coordinations = coordinations_after_tick c.coordinations }
 

@@ -30,7 +30,7 @@ abbrev pub changes_of : ControlState → List Change
 changes_of lane = changes_in lane.head lane.start lane.journal
 
 -- an event was taken: the journal has one entry more
-pub record Takes (stamp : Stamp) (event : ControlEvent) (old new : ControlState) : Type 0 where
+pub record AddsEntry (stamp : Stamp) (event : ControlEvent) (old new : ControlState) : Type 0 where
   pub entry : ControlEntry
   pub journal : new.journal ≡ old.journal ++ entry ∷ []
   pub stamped : entry.stamp ≡ stamp

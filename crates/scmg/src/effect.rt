@@ -200,7 +200,9 @@ pub struct Context<'a> {
 impl Context<'_> {
     /// A change that is published, and what it makes known.
     fn publishes(&self, change: Change) -> Result<Effect, Memory>
-        ensures { IfOk result (λ effect. effect ≡ publishes self.now.head.now self.now.kept.now.control.routing change) }
+        ensures { let head = self.now.head.now in
+            let kept = self.now.kept.now.control
+            in IfOk result (λ effect. effect ≡ publishes head kept.routing change) }
     {
         Ok(Effect {
             outs: made_known(self.alloc, self.head, self.kept.plant(), change)?,
@@ -210,7 +212,9 @@ impl Context<'_> {
 
     /// What comes of an operator's change.
     fn changes(&self, change: Change) -> Result<Effect, Memory>
-        ensures { IfOk result (λ effect. effect ≡ changes self.now.head.now self.now.kept.now.control change) }
+        ensures { let head = self.now.head.now in
+            let kept = self.now.kept.now.control
+            in IfOk result (λ effect. effect ≡ changes head kept change) }
     {
         if !is_by_operator(change) {
             return Ok(Effect::quiet(self.alloc));
@@ -223,7 +227,9 @@ impl Context<'_> {
 
     /// What comes of a change by a message.
     fn announced(&self, change: Change) -> Result<Effect, Memory>
-        ensures { IfOk result (λ effect. effect ≡ announced self.now.head.now self.now.kept.now.control change) }
+        ensures { let head = self.now.head.now in
+            let kept = self.now.kept.now.control
+            in IfOk result (λ effect. effect ≡ announced head kept change) }
     {
         match self.kept.plant().verdict(&change) {
             Verdict::Alters => self.publishes(change),
@@ -245,7 +251,9 @@ impl Context<'_> {
 
     /// What comes of a replicate's request to go out of service.
     fn asked_out(&self, point: Pc, ssn: Ssn) -> Result<Effect, Memory>
-        ensures { IfOk result (λ effect. effect ≡ asked_out self.now.head.now self.now.kept.now.control point ssn) }
+        ensures { let head = self.now.head.now in
+            let kept = self.now.kept.now.control
+            in IfOk result (λ effect. effect ≡ asked_out head kept point ssn) }
     {
         if !is_replicate(self.head, point, ssn) || !self.kept.plant().is_in_service(ssn) {
             return Effect::dropped(self.alloc);
@@ -268,7 +276,9 @@ impl Context<'_> {
 
     /// What comes of a message of management.
     fn hears_notice(&self, opc: Pc, notice: Notice) -> Result<Effect, Memory>
-        ensures { IfOk result (λ effect. effect ≡ hears_notice self.now.head.now self.now.kept.now.control opc notice) }
+        ensures { let head = self.now.head.now in
+            let kept = self.now.kept.now.control
+            in IfOk result (λ effect. effect ≡ hears_notice head kept opc notice) }
     {
         let Notice { format, ssn, point } = notice;
         let is_own = point == self.kept.plant().own();
@@ -284,7 +294,9 @@ impl Context<'_> {
 
     /// What comes of octets from the network.
     fn hears(&self, opc: Pc, bytes: &[u8]) -> Result<Effect, Memory>
-        ensures { IfOk result (λ effect. effect ≡ hears self.now.head.now self.now.kept.now.control opc (data_in bytes.now)) }
+        ensures { let head = self.now.head.now in
+            let kept = self.now.kept.now.control
+            in IfOk result (λ effect. effect ≡ hears head kept opc (data_in bytes.now)) }
     {
         let Some(body) = data_in(bytes) else {
             return Ok(Effect::quiet(self.alloc));
@@ -297,7 +309,9 @@ impl Context<'_> {
 
     /// What comes of a user's request for a coordinated change.
     fn coordinates(&self, ssn: Ssn) -> Result<Effect, Memory>
-        ensures { IfOk result (λ effect. effect ≡ coordinates_with self.now.kept.now.control ssn (replicate_of self.now.head.now ssn)) }
+        ensures { let head = self.now.head.now in
+            let kept = self.now.kept.now.control
+            in IfOk result (λ effect. effect ≡ coordinates_with kept ssn (replicate_of head ssn)) }
     {
         let Some(replicate) = replicate_of(self.head, ssn) else {
             return Effect::refused(self.alloc, ssn, Reason::Replicate);
@@ -326,7 +340,9 @@ impl Context<'_> {
 
     /// What comes of a user's request.
     fn asks(&self, ssn: Ssn, request: &Request) -> Result<Effect, Memory>
-        ensures { IfOk result (λ effect. effect ≡ asks self.now.head.now self.now.kept.now.control ssn request.now) }
+        ensures { let head = self.now.head.now in
+            let kept = self.now.kept.now.control
+            in IfOk result (λ effect. effect ≡ asks head kept ssn request.now) }
     {
         match request {
             Request::Coord => self.coordinates(ssn),
@@ -350,7 +366,9 @@ impl Context<'_> {
     /// What comes of an event.
     #[tactic(auto, unfolding(crate::specs::Control::effect_of))]
     pub fn effect_of(&self, event: &ControlEvent) -> Result<Effect, Memory>
-        ensures { IfOk result (λ effect. effect ≡ effect_of self.now.head.now self.now.kept.now.control event.now) }
+        ensures { let head = self.now.head.now in
+            let kept = self.now.kept.now.control
+            in IfOk result (λ effect. effect ≡ effect_of head kept event.now) }
     {
         match event {
             ControlEvent::Change(change) => self.changes(*change),

@@ -145,7 +145,8 @@ impl Kept {
     fn publish(&mut self, ticks: &Ticks, change: Change) -> Result<(), Memory>
         requires room { IsTrue self.old.has_room }
         requires few { self.old.edition + 1 < 2 ^ 64 }
-        ensures control { OnOk result (self.new.control ≡ control_after ticks.now self.old.control (Publish change)) }
+        ensures control { let after = control_after ticks.now self.old.control (Publish change)
+            in OnOk result (self.new.control ≡ after) }
         ensures edition { OnOk result (self.new.edition ≡ self.old.edition + 1) }
         ensures memory { IsOk result }
     {
@@ -163,7 +164,8 @@ impl Kept {
     #[tactic(auto, unfolding(crate::specs::Control::control_after))]
     fn begin(&mut self, ticks: &Ticks, replicate: Replicate) -> Result<(), Memory>
         requires room { IsTrue self.old.has_room }
-        ensures control { OnOk result (self.new.control ≡ control_after ticks.now self.old.control (Begin replicate)) }
+        ensures control { let after = control_after ticks.now self.old.control (Begin replicate)
+            in OnOk result (self.new.control ≡ after) }
         ensures edition { OnOk result (self.new.edition ≡ self.old.edition) }
         ensures memory { IsOk result }
     {
@@ -182,8 +184,10 @@ impl Kept {
     pub fn act(&mut self, ticks: &Ticks, act: Act) -> Result<(), Memory>
         requires room { IsTrue self.old.has_room }
         requires few { self.old.edition + 1 < 2 ^ 64 }
-        ensures control { OnOk result (self.new.control ≡ control_after ticks.now self.old.control act) }
-        ensures edition { OnOk result (self.new.edition ≡ count_after self.old.edition (change_of act)) }
+        ensures control { let after = control_after ticks.now self.old.control act
+            in OnOk result (self.new.control ≡ after) }
+        ensures edition { let count = count_after self.old.edition (change_of act)
+            in OnOk result (self.new.edition ≡ count) }
         ensures memory { IsOk result }
     {
         match act {

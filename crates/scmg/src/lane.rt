@@ -55,7 +55,9 @@ fn prepare(
     stamp: Stamp,
     event: &ControlEvent,
 ) -> Result<(ControlEntry, Act), Memory>
-    ensures entry { IfOk result (λ x. x.0 ≡ record { stamp = stamp; event = event.now; published = None; outs = (effect_of head.now kept.now.control event.now).outs }) }
+    ensures entry { let outs = (effect_of head.now kept.now.control event.now).outs in
+        let entry : ControlEntry = record { stamp = stamp; event = event.now; published = None; outs = outs }
+        in IfOk result (λ x. x.0 ≡ entry) }
     ensures act { IfOk result (λ x. x.1 ≡ (effect_of head.now kept.now.control event.now).act) }
 {
     let context = Context { alloc, head, kept };
@@ -76,9 +78,11 @@ fn publish_change<P: Publish>(
 ) -> Result<Option<u64>, Memory>
     requires { P.first publish.old + length (P.published publish.old) < 2 ^ 64 - 1 }
     ensures first { P.first publish.new ≡ P.first publish.old }
-    ensures ok { OnOk result (P.published publish.new ≡ P.published publish.old ++ option_to_list change) }
+    ensures ok { let published = P.published publish.old ++ option_to_list change
+        in OnOk result (P.published publish.new ≡ published) }
     ensures err { OnErr result (P.published publish.new ≡ P.published publish.old) }
-    ensures edition { IfOk result (λ edition. edition ≡ edition_after (P.first publish.old + length (P.published publish.old)) change) }
+    ensures edition { let count = P.first publish.old + length (P.published publish.old)
+        in IfOk result (λ edition. edition ≡ edition_after count change) }
 {
     let Some(change) = change else {
         return Ok(None);
@@ -97,14 +101,18 @@ fn perform<P: Publish>(
 ) -> Result<Option<u64>, Memory>
     requires in_step { P.first publish.old + length (P.published publish.old) ≡ kept.old.edition }
     requires few { kept.old.edition < 4294967295 }
-    ensures control { OnOk result (kept.new.control ≡ control_after ticks.now kept.old.control act) }
-    ensures edition { OnOk result (kept.new.edition ≡ count_after kept.old.edition (change_of act)) }
-    ensures number { IfOk result (λ number. number ≡ edition_after kept.old.edition (change_of act)) }
+    ensures control { let control = control_after ticks.now kept.old.control act
+        in OnOk result (kept.new.control ≡ control) }
+    ensures edition { let count = count_after kept.old.edition (change_of act)
+        in OnOk result (kept.new.edition ≡ count) }
+    ensures number { IfOk result (λ x. x ≡ edition_after kept.old.edition (change_of act)) }
     ensures room { OnOk result (vec_len journal.new < vec_capacity journal.new) }
     ensures journal { journal.new.items ≡ journal.old.items }
-    ensures published { OnOk result (P.published publish.new ≡ P.published publish.old ++ option_to_list (change_of act)) }
+    ensures published { let published = P.published publish.old ++ option_to_list (change_of act)
+        in OnOk result (P.published publish.new ≡ published) }
     ensures first { P.first publish.new ≡ P.first publish.old }
-    ensures kept { OnErr result ((kept.new.control ≡ kept.old.control) × (kept.new.edition ≡ kept.old.edition)) }
+    ensures kept { let control = kept.new.control ≡ kept.old.control
+        in OnErr result (control × (kept.new.edition ≡ kept.old.edition)) }
     ensures unpublished { OnErr result (P.published publish.new ≡ P.published publish.old) }
 {
     kept.make_room()?;
@@ -125,12 +133,18 @@ fn write<P: Publish>(
 ) -> Result<(), Memory>
     requires in_step { P.first publish.old + length (P.published publish.old) ≡ kept.old.edition }
     requires few { kept.old.edition < 4294967295 }
-    ensures control { OnOk result (kept.new.control ≡ control_after ticks.now kept.old.control act) }
-    ensures edition { OnOk result (kept.new.edition ≡ count_after kept.old.edition (change_of act)) }
-    ensures entry { OnOk result (journal.new.items ≡ journal.old.items ++ record entry { published = edition_after kept.old.edition (change_of act) } ∷ []) }
-    ensures published { OnOk result (P.published publish.new ≡ P.published publish.old ++ option_to_list (change_of act)) }
+    ensures control { let control = control_after ticks.now kept.old.control act
+        in OnOk result (kept.new.control ≡ control) }
+    ensures edition { let count = count_after kept.old.edition (change_of act)
+        in OnOk result (kept.new.edition ≡ count) }
+    ensures entry { let edition = edition_after kept.old.edition (change_of act) in
+        let written = record entry { published = edition }
+        in OnOk result (journal.new.items ≡ journal.old.items ++ written ∷ []) }
+    ensures published { let published = P.published publish.old ++ option_to_list (change_of act)
+        in OnOk result (P.published publish.new ≡ published) }
     ensures first { P.first publish.new ≡ P.first publish.old }
-    ensures kept { OnErr result ((kept.new.control ≡ kept.old.control) × (kept.new.edition ≡ kept.old.edition)) }
+    ensures kept { let control = kept.new.control ≡ kept.old.control
+        in OnErr result (control × (kept.new.edition ≡ kept.old.edition)) }
     ensures journal { OnErr result (journal.new.items ≡ journal.old.items) }
     ensures unpublished { OnErr result (P.published publish.new ≡ P.published publish.old) }
 {
@@ -141,13 +155,14 @@ fn write<P: Publish>(
 
 impl ControlLane {
     ghost use Rattle.scmg.specs.Control.{IsControlJournal, changes_in, routing_after};
-    ghost use Rattle.scmg.specs.Lane.{changes_of, Takes, GrowAlike};
+    ghost use Rattle.scmg.specs.Lane.{changes_of, AddsEntry, GrowAlike};
 
     /// The control lane before its first event, with these routing data.
     pub fn new(alloc: Global, head: &ControlHead, plant: Plant) -> Result<ControlLane, Memory>
         requires edition { plant.edition ≡ 0 }
         requires users { plant.routing.users ≡ head.now.users }
-        ensures { IfOk result (λ lane. lane ≡ record { head = head.now; start = plant.routing; journal = [] }) }
+        ensures { let start = plant.routing
+            in IfOk result (λ lane. lane ≡ record { head = head.now; start = start; journal = [] }) }
     {
         let head = copy_of(head)?;
         let start = Snapshot::of(&plant);
@@ -193,12 +208,14 @@ impl ControlLane {
         stamp: Stamp,
         event: &ControlEvent,
     ) -> Result<(), Memory>
-        requires in_step { P.first publish.old + length (P.published publish.old) ≡ length (changes_of self.old) }
+        requires in_step { let count = P.first publish.old + length (P.published publish.old)
+            in count ≡ length (changes_of self.old) }
         requires few { length self.old.journal < 4294967295 }
-        ensures ok { OnOk result (Takes stamp event.now self.old self.new) }
+        ensures ok { OnOk result (AddsEntry stamp event.now self.old self.new) }
         ensures err { OnErr result (self.new ≡ self.old) }
         ensures first { P.first publish.new ≡ P.first publish.old }
-        ensures published { OnOk result (GrowAlike (P.published publish.old) (P.published publish.new) (changes_of self.old) (changes_of self.new)) }
+        ensures published { let old = P.published publish.old in let new = P.published publish.new
+            in OnOk result (GrowAlike old new (changes_of self.old) (changes_of self.new)) }
         ensures unpublished { OnErr result (P.published publish.new ≡ P.published publish.old) }
     {
         let (entry, act) = prepare(self.alloc, &self.head, &self.kept, stamp, event)?;

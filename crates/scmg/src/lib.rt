@@ -1,4 +1,4 @@
-//! SCCP management (Q.714): what the control lane does with edits, status, messages of management and coordinated changes, and its journal.
+//! SCCP management (Q.714, 5): what the control lane does with edits, status, messages of management and coordinated changes, and its journal.
 #![tactic(auto)]
 
 mod effect;

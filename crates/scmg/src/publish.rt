@@ -19,5 +19,5 @@ pub trait Publish {
         ensures first { first self.new ≡ first self.old }
         ensures ok { OnOk result (published self.new ≡ published self.old ++ change.now ∷ []) }
         ensures err { OnErr result (published self.new ≡ published self.old) }
-        ensures edition { IfOk result (λ edition. edition ≡ first self.new + length (published self.new)) };
+        ensures edition { IfOk result (λ x. x ≡ first self.new + length (published self.new)) };
 }

@@ -2,7 +2,7 @@
 ghost use Rattle.std.specs.Prelude.{◌≡◌, ◌≤◌, ◌++◌, ◌∷◌, [], map, filter, not, vec_len, IsTrue, IsOk, IfOk, OnOk, OnErr};
 ghost use Rattle.std.specs.List.{All};
 ghost use Rattle.std.specs.Vec.{vec_capacity};
-ghost use Rattle.scmg.specs.Control.{is_due_test, is_test_of, test_after_tick};
+ghost use Rattle.scmg.specs.Control.{is_due_test, is_test_of, test_begun, test_after_tick};
 ghost use Rattle.scmg.specs.Tests.{after_quiet, armed};
 
 use crate::timed::StatusTest;
@@ -37,7 +37,8 @@ impl Model for StatusTests {
 
 /// Those that the next tick sends, after these ticks.
 fn due_among(alloc: Global, tests: &[StatusTest], passed: u32) -> Result<Vec<StatusTest>, Memory>
-    ensures { IfOk result (λ due. due.items ≡ filter is_due_test (map (after_quiet passed) tests.now)) }
+    ensures { let later = map (after_quiet passed) tests.now
+        in IfOk result (λ due. due.items ≡ filter is_due_test later) }
 {
     let mut due = Vec::new(alloc);
     for test in tests {
@@ -92,7 +93,8 @@ impl StatusTests {
 
     /// Begins a test that is sent after these ticks.
     pub fn begin(&mut self, point: Pc, ssn: Ssn, interval: u32) -> Result<(), Memory>
-        ensures ok { OnOk result (self.new.tests ≡ self.old.tests ++ record { point = point; ssn = ssn; left = interval; interval = interval } ∷ []) }
+        ensures ok { let tests = self.old.tests ++ test_begun interval point ssn ∷ []
+            in OnOk result (self.new.tests ≡ tests) }
         ensures err { OnErr result (self.new.tests ≡ self.old.tests) }
         ensures memory { IsTrue self.old.has_room → IsOk result }
     {
