@@ -1,9 +1,9 @@
 //! The print of the entries of a journal.
-ghost use Rattle.std.specs.Prelude.{◌≡◌, ◌++◌, OnOk, string_bytes};
-ghost use Rattle.journal_text.specs.Inner.Texts.{Gives};
-ghost use Rattle.journal_text.specs.Print.{cause_text, asked_text, published_text, outs_text};
+ghost use Rattle.std.specs.Prelude.{◌≡◌};
+ghost use Rattle.journal_text.specs.Inner.Texts.{Gives, Puts};
+ghost use Rattle.journal_text.specs.Print.{cause_text, answer_text, asked_text, published_text, outs_text};
 
-use crate::tell::push_output;
+use crate::tell::{number_text, push_output, words_text};
 use plant_core::{Answer, Asked, ControlEntry, Entry, RouteCause};
 use relay_base::{Output, Stamp};
 use std::alloc::{AllocError, Global};
@@ -33,6 +33,16 @@ fn cause_text(cause: RouteCause) -> &'static str
     }
 }
 
+fn answer_text(alloc: Global, answer: Answer) -> Result<String, AllocError>
+    ensures { Gives result (answer_text answer) }
+{
+    match answer {
+        Answer::Local(ssn) => number_text(alloc, "local", ssn.number()),
+        Answer::Forward { dpc, .. } => number_text(alloc, "to", dpc.number()),
+        Answer::Refused { cause, .. } => words_text(alloc, "no", cause_text(cause)),
+    }
+}
+
 fn asked_text(alloc: Global, asked: &Option<Asked>) -> Result<String, AllocError>
     ensures { Gives result (asked_text asked.now) }
 {
@@ -40,20 +50,8 @@ fn asked_text(alloc: Global, asked: &Option<Asked>) -> Result<String, AllocError
         return Ok(String::new(alloc));
     };
     let edition = asked.edition;
-    match asked.answer {
-        Answer::Local(ssn) => {
-            let ssn = ssn.number();
-            format!(in alloc; " e{edition} local {ssn}")
-        }
-        Answer::Forward { dpc, .. } => {
-            let dpc = dpc.number();
-            format!(in alloc; " e{edition} to {dpc}")
-        }
-        Answer::Refused { cause, .. } => {
-            let cause = cause_text(cause);
-            format!(in alloc; " e{edition} no {cause}")
-        }
-    }
+    let answer = answer_text(alloc, asked.answer)?;
+    format!(in alloc; " e{edition} {answer}")
 }
 
 fn published_text(alloc: Global, published: Option<u64>) -> Result<String, AllocError>
@@ -66,7 +64,7 @@ fn published_text(alloc: Global, published: Option<u64>) -> Result<String, Alloc
 }
 
 fn push_outs(alloc: Global, text: &mut String, outs: &[Output]) -> Result<(), AllocError>
-    ensures { OnOk result (string_bytes text.new ≡ string_bytes text.old ++ outs_text outs.now) }
+    ensures { Puts result text.old text.new (outs_text outs.now) }
 {
     for output in outs {
         push_output(alloc, text, output)?;

@@ -1,10 +1,10 @@
 //! The text of what a user is told, of what is lost, and of outputs.
-ghost use Rattle.std.specs.Prelude.{◌≡◌, [], ◌∷◌, ◌++◌, OnOk, string_bytes};
+ghost use Rattle.std.specs.Prelude.{◌≡◌, [], ◌∷◌};
 ghost use Rattle.std.specs.Fmt.{decimal};
-ghost use Rattle.journal_text.specs.Inner.Texts.{Gives};
+ghost use Rattle.journal_text.specs.Inner.Texts.{Gives, Puts};
 ghost use Rattle.journal_text.specs.Print.{spaced, octets_text, optional_text, up_text, reason_text, unit_text, data_text, tell_text, read_fault_text, lost_text, output_line};
 
-use relay_base::{BoxedOctets, Lost, Octets, Output, Pc, ReadFault, Reason, Ref24, Ssn, Tell};
+use relay_base::{BoxedOctets, Lost, Octets, Output, Pc, ReadFault, Reason, Ref24, Sls, Ssn, Tell};
 use std::alloc::{AllocError, Global};
 
 /// Octets in hex, or a dash for none.
@@ -138,10 +138,29 @@ fn point_text(alloc: Global, point: Pc, up: bool) -> Result<String, AllocError>
 }
 
 /// A word and a number.
-fn number_text(alloc: Global, word: &str, number: u32) -> Result<String, AllocError>
+pub fn number_text(alloc: Global, word: &str, number: u32) -> Result<String, AllocError>
     ensures { Gives result (spaced (word.now ∷ decimal number ∷ [])) }
 {
     format!(in alloc; "{word} {number}")
+}
+
+/// A word and two numbers.
+fn pair_text(
+    alloc: Global,
+    word: &str,
+    first: u32,
+    second: u32,
+) -> Result<String, AllocError>
+    ensures { Gives result (spaced (word.now ∷ decimal first ∷ decimal second ∷ [])) }
+{
+    format!(in alloc; "{word} {first} {second}")
+}
+
+/// Two words.
+pub fn words_text(alloc: Global, first: &str, second: &str) -> Result<String, AllocError>
+    ensures { Gives result (spaced (first.now ∷ second.now ∷ [])) }
+{
+    format!(in alloc; "{first} {second}")
 }
 
 /// The text of what a user is told.
@@ -169,8 +188,10 @@ pub fn tell_text(alloc: Global, tell: &Tell) -> Result<String, AllocError>
             calling,
             body,
         } => conn_text(alloc, *mine, *class, *credit, called, calling, body),
-        Tell::Named { tag, mine } => format!(in alloc; "ref {tag} {}", mine.number()),
-        Tell::NotMade { tag, cause } => format!(in alloc; "not-made {tag} {cause}"),
+        Tell::Named { tag, mine } => pair_text(alloc, "ref", u32::from(*tag), mine.number()),
+        Tell::NotMade { tag, cause } => {
+            pair_text(alloc, "not-made", u32::from(*tag), u32::from(*cause))
+        }
         Tell::Confirm {
             mine,
             class,
@@ -180,7 +201,9 @@ pub fn tell_text(alloc: Global, tell: &Tell) -> Result<String, AllocError>
         } => confirm_text(alloc, *mine, *class, *credit, called, body),
         Tell::Text { mine, body } => data_text(alloc, "text", *mine, body),
         Tell::Expedited { mine, body } => data_text(alloc, "ed", *mine, body),
-        Tell::Renewed { mine, cause } => format!(in alloc; "reset {} {cause}", mine.number()),
+        Tell::Renewed { mine, cause } => {
+            pair_text(alloc, "reset", mine.number(), u32::from(*cause))
+        }
         Tell::ResetDone { mine } => number_text(alloc, "reset-done", mine.number()),
         Tell::Disc { mine, cause, body } => disc_text(alloc, *mine, *cause, body),
         Tell::State { ssn, point, up } => state_text(alloc, *ssn, *point, *up),
@@ -188,7 +211,7 @@ pub fn tell_text(alloc: Global, tell: &Tell) -> Result<String, AllocError>
         Tell::Coord { point } => number_text(alloc, "coord", point.number()),
         Tell::Granted { point } => number_text(alloc, "granted", point.number()),
         Tell::Denied { point } => number_text(alloc, "denied", point.number()),
-        Tell::No(reason) => format!(in alloc; "no {}", reason_text(*reason)),
+        Tell::No(reason) => words_text(alloc, "no", reason_text(*reason)),
     }
 }
 
@@ -225,27 +248,48 @@ fn lost_text(alloc: Global, lost: Lost) -> Result<String, AllocError>
     }
 }
 
+fn push_sent(
+    alloc: Global,
+    text: &mut String,
+    point: Pc,
+    sls: Sls,
+    bytes: &Octets,
+) -> Result<(), AllocError>
+    ensures { Puts result text.old text.new (output_line (Output.Sent point sls bytes.now)) }
+{
+    let point = point.number();
+    let sls = sls.number();
+    let bytes = octets_text(alloc, bytes.as_slice())?;
+    writeln!(text, " > {point} {sls} {bytes}")
+}
+
+fn push_told(
+    alloc: Global,
+    text: &mut String,
+    ssn: Ssn,
+    tell: &Tell,
+) -> Result<(), AllocError>
+    ensures { Puts result text.old text.new (output_line (Output.Told ssn tell.now)) }
+{
+    let ssn = ssn.number();
+    let tell = tell_text(alloc, tell)?;
+    writeln!(text, " < {ssn} {tell}")
+}
+
+fn push_lost(alloc: Global, text: &mut String, lost: Lost) -> Result<(), AllocError>
+    ensures { Puts result text.old text.new (output_line (Output.Lost lost)) }
+{
+    let lost = lost_text(alloc, lost)?;
+    writeln!(text, " . {lost}")
+}
+
 /// Appends the line of an output.
 pub fn push_output(alloc: Global, text: &mut String, output: &Output) -> Result<(), AllocError>
-    ensures { OnOk result (string_bytes text.new ≡ string_bytes text.old ++ output_line output.now) }
+    ensures { Puts result text.old text.new (output_line output.now) }
 {
     match output {
-        Output::Sent { point, sls, bytes } => {
-            let point = point.number();
-            let sls = sls.number();
-            write!(text, " > {point} {sls} ")?;
-            let bytes = octets_text(alloc, bytes.as_slice())?;
-            text.push_str(&bytes)?;
-            text.push('\n')
-        }
-        Output::Told { ssn, tell } => {
-            let ssn = ssn.number();
-            let tell = tell_text(alloc, tell)?;
-            writeln!(text, " < {ssn} {tell}")
-        }
-        Output::Lost(lost) => {
-            let lost = lost_text(alloc, *lost)?;
-            writeln!(text, " . {lost}")
-        }
+        Output::Sent { point, sls, bytes } => push_sent(alloc, text, *point, *sls, bytes),
+        Output::Told { ssn, tell } => push_told(alloc, text, *ssn, tell),
+        Output::Lost(lost) => push_lost(alloc, text, *lost),
     }
 }
