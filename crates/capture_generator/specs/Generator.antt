@@ -121,10 +121,14 @@ block_phase x b count = lines_phase (number_after x (400 * b)) (400 * b) count
 abbrev pub tick_phase : ℕ → List Stamped
 tick_phase b = ((record { phase = 2 + 2 * b; link = 0; line = 407 + 403 * b }, Plain Tick) ∷ []) ∷ [] ∷ []
 
+-- block b, of which x is the number before the first line, and its tick
+abbrev pub block_phases : ℕ → ℕ → Phases
+block_phases x b = lines_phase x (400 * b) 400 ∷ tick_phase b ∷ []
+
 -- the first b blocks of 400 lines, each with its tick
 unfoldable pub whole_blocks : ℕ → ℕ → Phases
 whole_blocks x zero = []
-whole_blocks x (suc b) = whole_blocks x b ++ block_phase x b 400 ∷ tick_phase b ∷ []
+whole_blocks x (suc b) = whole_blocks x b ++ block_phases (number_after x (400 * b)) b
 
 -- all whole blocks, and the lines that are left; without lines there is no phase
 abbrev pub phases_after : ℕ → ℕ → Phases

@@ -1,6 +1,6 @@
 //! The phases of generated lines.
 ghost use Rattle.std.specs.Prelude.{◌≡◌, ◌<◌, ◌≤◌, ◌+◌, ◌*◌, ◌++◌, [], ◌∷◌, IfOk, OnOk};
-ghost use Rattle.capture_generator.specs.Generator.{number_after, events_after, lines_phase, block_phase, tick_phase, whole_blocks, phases_after};
+ghost use Rattle.capture_generator.specs.Generator.{number_after, events_after, lines_phase, block_phases, tick_phase, whole_blocks, phases_after};
 
 use crate::events::{BLOCK, next_number, stamped_at};
 use capture_form::{Phase, PhaseList, StampedControlList};
@@ -70,7 +70,7 @@ fn tick_phase(alloc: Global, block: u32) -> Result<Phase, Memory>
 /// Puts the phases of a block of 400 lines, of which `x` is the number before the first, and of its tick at the end.
 fn push_block(alloc: Global, x: &mut u32, block: u32, phases: &mut PhaseList) -> Result<(), Memory>
     requires { block < 499 }
-    ensures phases { OnOk result (phases.new ≡ phases.old ++ lines_phase x.old (400 * block) 400 ∷ tick_phase block ∷ []) }
+    ensures phases { OnOk result (phases.new ≡ phases.old ++ block_phases x.old block) }
     ensures number { OnOk result (x.new ≡ number_after x.old 400) }
 {
     phases.push(block_phase(alloc, x, BLOCK * block, BLOCK)?)?;

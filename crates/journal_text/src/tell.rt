@@ -145,12 +145,7 @@ pub fn number_text(alloc: Global, word: &str, number: u32) -> Result<String, All
 }
 
 /// A word and two numbers.
-fn pair_text(
-    alloc: Global,
-    word: &str,
-    first: u32,
-    second: u32,
-) -> Result<String, AllocError>
+fn pair_text(alloc: Global, word: &str, first: u32, second: u32) -> Result<String, AllocError>
     ensures { Gives result (spaced (word.now ∷ decimal first ∷ decimal second ∷ [])) }
 {
     format!(in alloc; "{word} {first} {second}")
@@ -263,12 +258,7 @@ fn push_sent(
     writeln!(text, " > {point} {sls} {bytes}")
 }
 
-fn push_told(
-    alloc: Global,
-    text: &mut String,
-    ssn: Ssn,
-    tell: &Tell,
-) -> Result<(), AllocError>
+fn push_told(alloc: Global, text: &mut String, ssn: Ssn, tell: &Tell) -> Result<(), AllocError>
     ensures { Puts result text.old text.new (output_line (Output.Told ssn tell.now)) }
 {
     let ssn = ssn.number();
