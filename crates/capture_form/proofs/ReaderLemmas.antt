@@ -125,7 +125,7 @@ unfolding lines_taken
 agrees-none head above events b n t number c =
     let phases = phases-more head.links b events in
     let same : capture_with head above events ≡ record { head = head; phases = cond (n == 0) [] (map (phase_lists head.links events) (range_with_len 1 (b + 1))) } =
-        (λ i. record { head = head; phases = cond (c.length i == 0) [] (map (phase_lists head.links events) (range_with_len 1 (c.barriers i + 1))) }) in
+    (λ i. record { head = head; phases = cond (c.length i == 0) [] (map (phase_lists head.links events) (range_with_len 1 (c.barriers i + 1))) }) in
     (λ i. Ok (record { head = head; phases = cond (n == 0) [] (phases i) })) ∙ ap Ok (sym same)
     ∙ (λ i. Ok (capture_with head (sym (append-nil above) i) (sym (append-nil events) i)))
 
