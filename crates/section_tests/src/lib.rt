@@ -1,12 +1,8 @@
-//! Connections and their lane: worked rows, and each public function once.
+//! Connections and their lane: worked rows, and each public function that takes memory once.
 #![tactic(auto)]
 
 #[cfg(test)]
 mod counts;
-#[cfg(test)]
-mod coupling;
-#[cfg(test)]
-mod grids;
 #[cfg(test)]
 mod lane;
 #[cfg(test)]
