@@ -1,8 +1,8 @@
 -- The rule of the gate's table, and what each step tells.
 use Rattle.std.specs.Prelude.{◌≡◌, ◌≢◌, ◌⊎◌, ℕ, ◌+◌, ◌<◌, ◌≤◌, List, [], ◌∷◌, Contains, length, slice_index, Option, Some, None}
-use mathlib.Core.Option.{some}
+use mathlib.Core.Option.{some, none}
 use lib.ListN.{get_elem?}
-use Rattle.atomic_table.specs.Table.{State, Me, Step}
+use Rattle.atomic_table.specs.Table.{State, Me, Step, step}
 use Rattle.lane_gate.specs.Views.{fresh_counts, new_view, tried_view, resting_view, caller_in, done_in}
 use Rattle.lane_gate.specs.declared.table.View.{View}
 use Rattle.lane_gate.specs.declared.table.Opening.{Opening}
@@ -68,6 +68,13 @@ module _ {L : Type 0} where
   -- the lane went home with one event more
   abbrev pub Finishes : Step (Option L) → Me (Option L) View → ℕ → Me (Option L) View → Type 0
   Finishes st m found m' = m' ≡ (resting_view m.0 (caller_in m.0) (done_in m.0 + 1), [])
+
+  -- a seat with this lane in hand, and the step by which the turn is given back: word 0 becomes 0
+  abbrev pub holding : Me (Option L) View → L → Me (Option L) View
+  holding m lane = (m.0, (0, Some lane) ∷ [])
+
+  abbrev pub turn_given_back : Step (Option L)
+  turn_given_back = step 1 0 0 0 none
 
   -- the lane went home as it was
   abbrev pub Abandons : Step (Option L) → Me (Option L) View → ℕ → Me (Option L) View → Type 0

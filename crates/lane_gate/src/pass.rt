@@ -25,7 +25,8 @@ impl Pass {
 
     pub(crate) fn new<S>(number: u8, seat: Seat<S, View>) -> Pass
         requires { IsIdle seat.me number }
-        ensures { (result.number ≡ number) × (result.badge.table_id ≡ seat.table_id) × (result.badge.views ≡ seat.me.0 ∷ []) }
+        ensures { (result.number ≡ number) × (result.badge.table_id ≡ seat.table_id)
+            × (result.badge.views ≡ seat.me.0 ∷ []) }
     {
         Pass {
             number,

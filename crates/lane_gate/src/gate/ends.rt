@@ -18,8 +18,10 @@ impl<L: LaneState> Gate<L> {
     pub fn make(alloc: Global, lane: L, callers: u8) -> Result<(Gate<L>, PassList), Memory>
         requires callers { (0 < callers) × (callers ≤ 9) }
         requires fresh { (link : ℕ) → L.taken lane link ≡ 0 }
-        ensures gate { IfOk result (λ made. (origin_of made.0 ≡ lane) × (callers_of made.0 ≡ callers)) }
-        ensures passes { IfOk result (λ made. AreAllPasses made.0 made.1 × AreNumbered callers made.1) }
+        ensures gate { IfOk result (λ made.
+            (origin_of made.0 ≡ lane) × (callers_of made.0 ≡ callers)) }
+        ensures passes { IfOk result (λ made.
+            AreAllPasses made.0 made.1 × AreNumbered callers made.1) }
         ensures unused { IfOk result (λ made. All (λ p. done_of p ≡ 0) made.1) }
     {
         let opening = Opening {
@@ -39,7 +41,8 @@ impl<L: LaneState> Gate<L> {
 
     // Gives each caller its pass.
     fn hand_out(&self, seat: Place<L>, callers: u8, passes: &mut Vec<Pass>)
-        requires seat { (seat.table_id ≡ self.now.table.shared.table_id) × (seat.me ≡ (whole_view self.now.table.shared.key, [])) }
+        requires seat { let shared = self.now.table.shared in
+            (seat.table_id ≡ shared.table_id) × (seat.me ≡ (whole_view shared.key, [])) }
         requires callers { callers ≡ callers_of self.now }
         requires room { (passes.old.items ≡ []) × (callers ≤ vec_capacity passes.old) }
         ensures all { AreAllPasses self.now passes.new.items }
@@ -76,7 +79,8 @@ impl<L: LaneState> Gate<L> {
         requires { AreAllPasses self passes }
         ensures plan { L.plan result ≡ L.plan (origin_of self) }
         ensures taken { All (λ p. L.taken result p.number ≡ done_of p) passes }
-        ensures others { (link : ℕ) → All (λ p. p.number ≢ link) passes → L.taken result link ≡ 0 }
+        ensures others { (link : ℕ) →
+            All (λ p. p.number ≢ link) passes → L.taken result link ≡ 0 }
     {
         let seat = self.gather(passes.into_vec());
         let Gate { table } = self;

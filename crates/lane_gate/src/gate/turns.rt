@@ -1,11 +1,10 @@
 //! Taking turns.
 ghost use Rattle.std.specs.Prelude.{◌≡◌, ◌≢◌, ◌+◌, [], ◌∷◌, Some, None, IfOk, IfErr, OnOk, OnErr};
-ghost use mathlib.Core.Option.{none};
-ghost use Rattle.atomic_table.specs.Table.{Allows, step};
+ghost use Rattle.atomic_table.specs.Table.{Allows};
 ghost use Rattle.lane_gate.specs.Gates.{origin_of, IsPassOf};
 ghost use Rattle.lane_gate.specs.Passes.{view_of, done_of, IsSamePass, TellsWhy};
 ghost use Rattle.lane_gate.specs.Plan.{IsNext};
-ghost use Rattle.lane_gate.specs.Rule.{IsKept, HasEntered};
+ghost use Rattle.lane_gate.specs.Rule.{IsKept, HasEntered, holding, turn_given_back};
 ghost use Rattle.lane_gate.specs.Views.{IsIdle, tried_view, done_in};
 
 use super::{Gate, Place};
@@ -23,10 +22,13 @@ impl<L: LaneState> Gate<L> {
     fn enter<K: Known<L>>(&self, seat: &mut Place<L>, number: u8) -> Result<L, u8>
         requires own { seat.old.table_id ≡ self.now.table.shared.table_id }
         requires idle { IsIdle seat.old.me number }
-        requires known { (lane : L) → L.plan lane ≡ L.plan (origin_of self.now) → K.known lane }
+        requires known { (lane : L) →
+            L.plan lane ≡ L.plan (origin_of self.now) → K.known lane }
         ensures own { seat.new.table_id ≡ seat.old.table_id }
-        ensures ok { IfOk result (λ lane. HasEntered L.taken seat.old.me seat.new.me lane × K.known lane) }
-        ensures busy { IfErr result (λ holder. (seat.new.me ≡ (tried_view seat.old.me.0 (holder + 1) None, [])) × (holder ≢ number)) }
+        ensures ok { IfOk result (λ lane.
+            HasEntered L.taken seat.old.me seat.new.me lane × K.known lane) }
+        ensures busy { IfErr result (λ holder.
+            (seat.new.me ≡ (tried_view seat.old.me.0 (holder + 1) None, [])) × (holder ≢ number)) }
     {
         let shared = &self.table.shared;
         let found = shared.compare_exchange::<Enter<L, K>>(seat, 0, 0, u64::from(number) + 1);
@@ -43,9 +45,11 @@ impl<L: LaneState> Gate<L> {
     fn leave<M: Play<Option<L>, View>>(&self, seat: &mut Place<L>, lane: L)
         requires own { seat.old.table_id ≡ self.now.table.shared.table_id }
         requires empty { seat.old.me.1 ≡ (0, None) ∷ [] }
-        requires kept { Allows (IsKept L.plan L.taken self.now.table.shared.key) 1 seat.old.id (seat.old.me.0, (0, Some lane) ∷ []) 0 (λ _. 0) (λ _. M.then (step 1 0 0 0 none) (seat.old.me.0, (0, Some lane) ∷ []) 0) }
+        requires kept { let held = holding seat.old.me lane in
+            Allows (IsKept L.plan L.taken self.now.table.shared.key) 1 seat.old.id held 0 (λ _. 0)
+            (λ _. M.then turn_given_back held 0) }
         ensures own { seat.new.table_id ≡ seat.old.table_id }
-        ensures then { M.then (step 1 0 0 0 none) (seat.old.me.0, (0, Some lane) ∷ []) 0 seat.new.me }
+        ensures then { M.then turn_given_back (holding seat.old.me lane) 0 seat.new.me }
     {
         let shared = &self.table.shared;
         let left = shared.exchange(seat, 0, Some(lane));
@@ -65,7 +69,8 @@ impl<L: LaneState> Gate<L> {
         requires own { seat.old.table_id ≡ self.now.table.shared.table_id }
         requires idle { IsIdle seat.old.me number }
         requires link { stamp.link ≡ number }
-        requires next { IsNext (L.plan (origin_of self.now)) (λ _. done_in seat.old.me.0) stamp event }
+        requires next { let done = done_in seat.old.me.0 in
+            IsNext (L.plan (origin_of self.now)) (λ _. done) stamp event }
         ensures own { seat.new.table_id ≡ seat.old.table_id }
         ensures idle { IsIdle seat.new.me number }
         ensures ok { OnOk result (done_in seat.new.me.0 ≡ done_in seat.old.me.0 + 1) }
@@ -100,7 +105,8 @@ impl<L: LaneState> Gate<L> {
         ensures same { IsSamePass pass.old pass.new }
         ensures ok { OnOk result (done_of pass.new ≡ done_of pass.old + 1) }
         ensures err { OnErr result (done_of pass.new ≡ done_of pass.old) }
-        ensures why { IfErr result (TellsWhy pass.old.number (view_of pass.old) (view_of pass.new) event) }
+        ensures why { let number = pass.old.number in
+            IfErr result (TellsWhy number (view_of pass.old) (view_of pass.new) event) }
     {
         let number = pass.number();
         let mut seat = mem::replace(&mut pass.badge, Badge::blank()).into_seat();
