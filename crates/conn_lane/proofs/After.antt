@@ -7,8 +7,8 @@ use Rattle.section_model.specs.Ends.{End, Connection}
 use Rattle.section_model.specs.Step.{hears, end_is_gone, is_over}
 use Rattle.section_model.specs.Lane.{Opening, with_event, connection_of, next, fed, gone_for, reference_of}
 use Rattle.section_model.proofs.Following.{one_more}
-use Rattle.conn_lane.specs.Keeping.{Keeping, Live, live_of, seat_by, seat_of, seat_after, keeping_of, keeping_after, ticks_in}
-use Rattle.conn_lane.specs.Keeping.{Seat}
+use Rattle.conn_lane.specs.Remnants.{Remnant, Live, live_of, seat_by, seat_of, seat_after, remnant_of, remnant_after, ticks_in}
+use Rattle.conn_lane.specs.Remnants.{Seat}
 use Rattle.conn_lane.proofs.Gone.{gone_after, gone_next, gone_is_some}
 use Rattle.conn_lane.proofs.Over.{over_is_deaf, over_this, over_that}
 
@@ -50,7 +50,7 @@ seat_over ticks end o event gone =
     seat_later ticks end o event
     ∙ seat_gone ticks.freeze event (end_is_gone (end (fed ticks (connection_of ticks o) event))) (gone_for ticks end o.first o.since) (reference_of (end o.first)) (gone_not_none ticks end o gone)
 
-abbrev kept_of : Option Live → Option Seat → Option Seat → Keeping
+abbrev kept_of : Option Live → Option Seat → Option Seat → Remnant
 kept_of live this that = record { live = live; this = this; that = that }
 
 kept_alike : {a b : Option Live} {c d e f : Option Seat} → a ≡ b → c ≡ d → e ≡ f
@@ -66,7 +66,7 @@ unfed ticks c event deaf = subst (λ b. elim b [ true ↦ next ticks c event | f
 live_over : (ticks : Ticks) (c : Connection) (event : Event) → is_over c ≡ true → live_of ticks (fed ticks c event) ≡ None
 live_over ticks c event over = rw (unfed ticks c event (over_is_deaf c event over), over) refl
 
-pub keeps_after : (ticks : Ticks) (o : Opening) (event : Event) → keeping_of ticks (with_event event o) ≡ keeping_after event (keeping_of ticks o)
+pub keeps_after : (ticks : Ticks) (o : Opening) (event : Event) → remnant_of ticks (with_event event o) ≡ remnant_after event (remnant_of ticks o)
 keeps_after ticks o event =
     ⊎_elim
     (λ (over : is_over (connection_of ticks o) ≡ true). rw over

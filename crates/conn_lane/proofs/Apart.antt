@@ -6,7 +6,7 @@ use Rattle.std.proofs.lemmas.List.Folds.{list_any-append}
 use Rattle.relay_base.specs.declared.words.Event.{Event}
 use Rattle.section_model.specs.Step.{end_is_gone}
 use Rattle.section_model.specs.Lane.{fed, slot_of}
-use Rattle.conn_lane.specs.Keeping.{Live, Seat, Keeping, ticks_in, left_after, seat_after, keeping_after, is_frozen_out, sits, takes_slot, is_needed, needed}
+use Rattle.conn_lane.specs.Remnants.{Live, Seat, Remnant, ticks_in, left_after, seat_after, remnant_after, is_frozen_out, sits, takes_slot, is_needed, needed}
 use Rattle.conn_lane.specs.Seated.{AreApart}
 
 -- One opening.
@@ -34,7 +34,7 @@ either_before a b a' b' first second later =
     ⊎_elim (λ (e : a' ≡ true). or_left a b (first e)) (λ (e : b' ≡ true). or_right a b (second e)) (or_cases a' b' later)
 
 takes_parts : (slot : ℕ) (event : Event) (live : Option Live) (this that : Option Seat)
-    → takes_slot slot (keeping_after event (record { live = live; this = this; that = that })) ≡ true → (sits slot this || sits slot that) ≡ true
+    → takes_slot slot (remnant_after event (record { live = live; this = this; that = that })) ≡ true → (sits slot this || sits slot that) ≡ true
 takes_parts slot event None this that later =
     either_before (sits slot this) (sits slot that) (sits slot (seat_after 0 event false this)) (sits slot (seat_after 0 event false that))
     (sits_before slot 0 event false this) (sits_before slot 0 event false that) later
@@ -45,32 +45,32 @@ takes_parts slot event (Some l) this that later =
     (sits_before slot l.ticks.freeze event (end_is_gone c.this) this) (sits_before slot l.ticks.freeze event (end_is_gone c.that) that) later
 
 -- a slot that an opening takes after one more event it takes already
-pub takes_later : (slot : ℕ) (event : Event) (k : Keeping) → takes_slot slot (keeping_after event k) ≡ true → takes_slot slot k ≡ true
+pub takes_later : (slot : ℕ) (event : Event) (k : Remnant) → takes_slot slot (remnant_after event k) ≡ true → takes_slot slot k ≡ true
 takes_later slot event k later = takes_parts slot event k.live k.this k.that later
 
-takes_never : (slot : ℕ) (event : Event) (k : Keeping) → takes_slot slot k ≡ false → takes_slot slot (keeping_after event k) ≡ false
+takes_never : (slot : ℕ) (event : Event) (k : Remnant) → takes_slot slot k ≡ false → takes_slot slot (remnant_after event k) ≡ false
 takes_never slot event k free =
-    false_from_ne_true (takes_slot slot (keeping_after event k)) (λ later. both_ways (takes_slot slot k) free (takes_later slot event k later))
+    false_from_ne_true (takes_slot slot (remnant_after event k)) (λ later. both_ways (takes_slot slot k) free (takes_later slot event k later))
 
 -- All openings.
 
 -- a slot that nobody takes stays free
-pub free_after : (slot : ℕ) (event : Event) (keeps : List Keeping)
-    → list_any (takes_slot slot) keeps ≡ false → list_any (takes_slot slot) (map (keeping_after event) keeps) ≡ false
+pub free_after : (slot : ℕ) (event : Event) (keeps : List Remnant)
+    → list_any (takes_slot slot) keeps ≡ false → list_any (takes_slot slot) (map (remnant_after event) keeps) ≡ false
 free_after slot event [] free = refl
 free_after slot event (k ∷ keeps) free =
     let parts = or_parts (takes_slot slot k) (list_any (takes_slot slot) keeps) free in
-    or_from (takes_slot slot (keeping_after event k)) (list_any (takes_slot slot) (map (keeping_after event) keeps))
+    or_from (takes_slot slot (remnant_after event k)) (list_any (takes_slot slot) (map (remnant_after event) keeps))
     (takes_never slot event k parts.0) (free_after slot event keeps parts.1)
 
-pub apart_after : (event : Event) (keeps : List Keeping) → AreApart keeps → AreApart (map (keeping_after event) keeps)
+pub apart_after : (event : Event) (keeps : List Remnant) → AreApart keeps → AreApart (map (remnant_after event) keeps)
 apart_after event [] apart = tt
 apart_after event (k ∷ keeps) apart =
     (λ slot takes. free_after slot event keeps (apart.0 slot (takes_later slot event k takes)), apart_after event keeps apart.1)
 
 -- What is dropped takes nothing.
 
-free_needed : (slot : ℕ) (keeps : List Keeping) → list_any (takes_slot slot) keeps ≡ false → list_any (takes_slot slot) (needed keeps) ≡ false
+free_needed : (slot : ℕ) (keeps : List Remnant) → list_any (takes_slot slot) keeps ≡ false → list_any (takes_slot slot) (needed keeps) ≡ false
 free_needed slot [] free = refl
 free_needed slot (k ∷ keeps) free =
     let parts = or_parts (takes_slot slot k) (list_any (takes_slot slot) keeps) free in
@@ -81,7 +81,7 @@ free_needed slot (k ∷ keeps) free =
     by_test true first later = or_from (takes_slot slot k) (list_any (takes_slot slot) (needed keeps)) first later
     by_test false first later = later
 
-pub apart_needed : (keeps : List Keeping) → AreApart keeps → AreApart (needed keeps)
+pub apart_needed : (keeps : List Remnant) → AreApart keeps → AreApart (needed keeps)
 apart_needed [] apart = tt
 apart_needed (k ∷ keeps) apart = by_test (is_needed k) (apart_needed keeps apart.1)
   where
@@ -92,12 +92,12 @@ apart_needed (k ∷ keeps) apart = by_test (is_needed k) (apart_needed keeps apa
 -- One opening more, which takes no slot that another takes.
 
 -- a slot of one that stands already isn't taken by the new one
-not_by_new : (slot : ℕ) (k x : Keeping) (keeps : List Keeping) → (takes_slot slot k ≡ true → list_any (takes_slot slot) (x ∷ keeps) ≡ false)
+not_by_new : (slot : ℕ) (k x : Remnant) (keeps : List Remnant) → (takes_slot slot k ≡ true → list_any (takes_slot slot) (x ∷ keeps) ≡ false)
     → takes_slot slot x ≡ true → takes_slot slot k ≡ false
 not_by_new slot k x keeps new takes =
     false_from_ne_true (takes_slot slot k) (λ too. both_ways (takes_slot slot x) (or_parts (takes_slot slot x) (list_any (takes_slot slot) keeps) (new too)).0 takes)
 
-pub apart_with : (keeps : List Keeping) (k : Keeping) → AreApart keeps → ((slot : ℕ) → takes_slot slot k ≡ true → list_any (takes_slot slot) keeps ≡ false)
+pub apart_with : (keeps : List Remnant) (k : Remnant) → AreApart keeps → ((slot : ℕ) → takes_slot slot k ≡ true → list_any (takes_slot slot) keeps ≡ false)
     → AreApart (keeps ++ k ∷ [])
 apart_with [] k apart new = (λ slot takes. refl, tt)
 apart_with (x ∷ keeps) k apart new = (

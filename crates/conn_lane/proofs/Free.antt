@@ -4,7 +4,7 @@ use Rattle.std.specs.List.{list_any, range_with_len}
 use Rattle.std.proofs.lemmas.Bool.{cases_Bool, ltb-true, ltb-false, eq-eqb, ne_eqb}
 use Rattle.plant_core.specs.declared.terms.Ticks.{Ticks}
 use Rattle.section_model.specs.Lane.{Lane, Opening, gone_for, reference_of, slot_of, is_at, is_kept_by, holds, is_held, lowest_free, enough}
-use Rattle.conn_lane.specs.Keeping.{keeping_of, takes_slot, sits, seat_by, is_frozen_out, frozen_by, lowest_in}
+use Rattle.conn_lane.specs.Remnants.{remnant_of, takes_slot, sits, seat_by, is_frozen_out, frozen_by, lowest_in}
 
 left_over : (freeze count : ℕ) → nat_lt count freeze ≡ not (freeze - count == 0)
 left_over freeze count =
@@ -21,13 +21,13 @@ holds_is_sits : (slot freeze : ℕ) (count mine : Option ℕ) → (is_at slot mi
 holds_is_sits slot freeze count None = refl
 holds_is_sits slot freeze count (Some m) = ap (λ b. slot_of m == slot && b) (kept_is_left freeze count)
 
-pub holds_is_takes : (ticks : Ticks) (slot : ℕ) (o : Opening) → holds ticks slot o ≡ takes_slot slot (keeping_of ticks o)
+pub holds_is_takes : (ticks : Ticks) (slot : ℕ) (o : Opening) → holds ticks slot o ≡ takes_slot slot (remnant_of ticks o)
 holds_is_takes ticks slot o =
     ap₂ (λ a b. a || b)
     (holds_is_sits slot ticks.freeze (gone_for ticks (λ c. c.this) o.first o.since) (reference_of o.first.this))
     (holds_is_sits slot ticks.freeze (gone_for ticks (λ c. c.that) o.first o.since) (reference_of o.first.that))
 
-held_is_taken : (ticks : Ticks) (slot : ℕ) (openings : List Opening) → is_held ticks openings slot ≡ list_any (takes_slot slot) (map (keeping_of ticks) openings)
+held_is_taken : (ticks : Ticks) (slot : ℕ) (openings : List Opening) → is_held ticks openings slot ≡ list_any (takes_slot slot) (map (remnant_of ticks) openings)
 held_is_taken ticks slot [] = refl
 held_is_taken ticks slot (o ∷ openings) = ap₂ (λ a b. a || b) (holds_is_takes ticks slot o) (held_is_taken ticks slot openings)
 
@@ -35,9 +35,9 @@ pub filter_alike : {X : Type 0} (p q : X → Bool) → ((x : X) → p x ≡ q x)
 filter_alike p q alike [] = refl
 filter_alike p q alike (x ∷ xs) = ap₂ (λ b ys. cond b (x ∷ ys) ys) (alike x) (filter_alike p q alike xs)
 
-pub keeps_free : (lane : Lane) (openings : List Opening) (count : ℕ) → lowest_free lane openings count ≡ lowest_in lane (map (keeping_of lane.terms.ticks) openings) count
+pub keeps_free : (lane : Lane) (openings : List Opening) (count : ℕ) → lowest_free lane openings count ≡ lowest_in lane (map (remnant_of lane.terms.ticks) openings) count
 unfolding lowest_free
 keeps_free lane openings count =
     ap (λ slots. enough lane count (take count slots))
-    (filter_alike (λ slot. not (is_held lane.terms.ticks openings slot)) (λ slot. not (list_any (takes_slot slot) (map (keeping_of lane.terms.ticks) openings)))
+    (filter_alike (λ slot. not (is_held lane.terms.ticks openings slot)) (λ slot. not (list_any (takes_slot slot) (map (remnant_of lane.terms.ticks) openings)))
     (λ slot. ap not (held_is_taken lane.terms.ticks slot openings)) (range_with_len 1 4095))

@@ -7,7 +7,7 @@ use Rattle.plant_core.specs.declared.terms.Ticks.{Ticks}
 use Rattle.section_model.specs.Ends.{Connection}
 use Rattle.section_model.specs.Step.{hears, is_over, connection_step}
 use Rattle.section_model.specs.Lane.{Opening, connection_of, part_by, part_of, outputs_of_hearing, hearing, stray_answer}
-use Rattle.conn_lane.specs.Keeping.{keeping_of, live_of, part_at, first_of, first_part, or_none, all_parts}
+use Rattle.conn_lane.specs.Remnants.{remnant_of, live_of, part_at, first_of, first_part, or_none, all_parts}
 use Rattle.conn_lane.specs.Laws.{unheard}
 use Rattle.conn_lane.proofs.Over.{over_is_deaf}
 
@@ -42,12 +42,12 @@ first_hears ticks event o later parts rest =
     by_test false is = rest
 
 pub keeps_heard : (ticks : Ticks) (openings : List Opening) (event : Event)
-    → outputs_of_hearing ticks event (hearing ticks openings event) ≡ unheard (first_part event (map (keeping_of ticks) openings)) (stray_answer event)
+    → outputs_of_hearing ticks event (hearing ticks openings event) ≡ unheard (first_part event (map (remnant_of ticks) openings)) (stray_answer event)
 keeps_heard ticks [] event = refl
 keeps_heard ticks (o ∷ openings) event =
-    first_hears ticks event o (hearing ticks openings event) (first_part event (map (keeping_of ticks) openings)) (keeps_heard ticks openings event)
+    first_hears ticks event o (hearing ticks openings event) (first_part event (map (remnant_of ticks) openings)) (keeps_heard ticks openings event)
 
-pub keeps_ticked : (ticks : Ticks) (openings : List Opening) (event : Event) → flat_map (part_of ticks event) openings ≡ all_parts event (map (keeping_of ticks) openings)
+pub keeps_ticked : (ticks : Ticks) (openings : List Opening) (event : Event) → flat_map (part_of ticks event) openings ≡ all_parts event (map (remnant_of ticks) openings)
 keeps_ticked ticks [] event = refl
 keeps_ticked ticks (o ∷ openings) event =
     ap₂ (λ a b. a ++ b)

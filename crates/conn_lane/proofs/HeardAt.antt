@@ -13,14 +13,14 @@ use Rattle.relay_base.specs.declared.words.Output.{Output}
 use Rattle.section_model.specs.Ends.{End, wire, owner, Connection, is_gone}
 use Rattle.section_model.specs.Step.{connection_step, hears, names, named, is_named, is_in_range, end_is_gone}
 use Rattle.section_model.specs.Lane.{fed, next, slot_of, is_tick}
-use Rattle.conn_lane.specs.Keeping.{Live, Seat, Keeping, live_of, ticks_in, left_after, seat_after, keeping_after, part_at, first_of, first_part, is_frozen_out, sits, takes_slot}
+use Rattle.conn_lane.specs.Remnants.{Live, Seat, Remnant, live_of, ticks_in, left_after, seat_after, remnant_after, part_at, first_of, first_part, is_frozen_out, sits, takes_slot}
 use Rattle.conn_lane.specs.Seated.{SeatIs, AreSeated, IsOn, IsInLane, IsSeated, AreApart, AreOrderly, reference_in}
 use Rattle.conn_lane.proofs.Seated.{kept_as}
 
 -- Who hears an event takes the slot of the reference that it names.
 
 -- the reference that an event names, with a slot that this opening takes
-pub record NamesSlot (event : Event) (k : Keeping) : Type 0 where
+pub record NamesSlot (event : Event) (k : Remnant) : Type 0 where
   pub reference : ℕ
   pub named : reference_in event ≡ Some reference
   pub taken : takes_slot (slot_of reference) k ≡ true
@@ -49,7 +49,7 @@ named_sits reference (wire x) (Some s) is within names =
     )
 named_sits reference (owner u) seat is within names = absurd (cc)
 
-names_slot : (event : Event) (k : Keeping) (l : Live) (reference : Option ℕ) → IsSeated k → AreSeated (Some l) k.this k.that → reference_in event ≡ reference
+names_slot : (event : Event) (k : Remnant) (l : Live) (reference : Option ℕ) → IsSeated k → AreSeated (Some l) k.this k.that → reference_in event ≡ reference
     → names reference l.connection ≡ true → NamesSlot event k
 names_slot event k l None seated are is names = absurd (cc)
 names_slot event k l (Some reference) seated are is names =
@@ -62,7 +62,7 @@ names_slot event k l (Some reference) seated are is names =
     record { reference = reference; named = is; taken = or_right (sits (slot_of reference) k.this) (sits (slot_of reference) k.that) found.0; in_lane = found.1 })
     (or_cases (is_named reference l.connection.this) (is_named reference l.connection.that) names)
 
-pub hears_takes : (event : Event) (k : Keeping) (l : Live) → is_tick event ≡ false → IsSeated k → k.live ≡ Some l → hears l.connection event ≡ true → NamesSlot event k
+pub hears_takes : (event : Event) (k : Remnant) (l : Live) → is_tick event ≡ false → IsSeated k → k.live ≡ Some l → hears l.connection event ≡ true → NamesSlot event k
 hears_takes event k l untimed seated live heard =
     names_slot event k l (reference_in event) seated (subst (λ x. AreSeated x k.this k.that) live seated.live) refl (names_end l.connection event untimed heard)
 
@@ -111,23 +111,23 @@ live_same event l this that untimed on are =
     ∙ ap (kept_as (Some l) this) (seat_same l.ticks.freeze event l.connection.that that untimed are.1)
 
 stays_by : (event : Event) (live : Option Live) (this that : Option Seat) → is_tick event ≡ false → IsOn live → AreSeated live this that → part_at event live ≡ None
-    → keeping_after event (kept_as live this that) ≡ kept_as live this that
+    → remnant_after event (kept_as live this that) ≡ kept_as live this that
 stays_by event None this that untimed on are none = ap₂ (kept_as None) (seat_waits event this untimed) (seat_waits event that untimed)
 stays_by event (Some l) this that untimed on are none =
     ap (λ c. kept_as (live_of l.ticks c) (seat_after l.ticks.freeze event (end_is_gone c.this) this) (seat_after l.ticks.freeze event (end_is_gone c.that) that))
     (unfed event l (no_part event l (hears l.connection event) none))
     ∙ live_same event l this that untimed on are
 
-pub deaf_stays : (event : Event) (k : Keeping) → is_tick event ≡ false → IsSeated k → part_at event k.live ≡ None → keeping_after event k ≡ k
+pub deaf_stays : (event : Event) (k : Remnant) → is_tick event ≡ false → IsSeated k → part_at event k.live ≡ None → remnant_after event k ≡ k
 deaf_stays event k untimed seated none = stays_by event k.live k.this k.that untimed seated.on seated.live none
 
 -- Nobody takes the slot.
 
-abbrev OthersStay : Event → List Keeping → Type 0
-OthersStay event keeps = (first_part event keeps ≡ None) × (map (keeping_after event) keeps ≡ keeps)
+abbrev OthersStay : Event → List Remnant → Type 0
+OthersStay event keeps = (first_part event keeps ≡ None) × (map (remnant_after event) keeps ≡ keeps)
 
 -- what names no slot that this opening takes has no part of it
-no_part_at : (event : Event) (k : Keeping) (live : Option Live) → is_tick event ≡ false → IsSeated k → k.live ≡ live → (NamesSlot event k → ⊥) → part_at event live ≡ None
+no_part_at : (event : Event) (k : Remnant) (live : Option Live) → is_tick event ≡ false → IsSeated k → k.live ≡ live → (NamesSlot event k → ⊥) → part_at event live ≡ None
 no_part_at event k None untimed seated is unnamed = refl
 no_part_at event k (Some l) untimed seated is unnamed = by_test (hears l.connection event) refl
   where
@@ -135,21 +135,21 @@ no_part_at event k (Some l) untimed seated is unnamed = by_test (hears l.connect
     by_test true heard = absurd (unnamed (hears_takes event k l untimed seated is heard))
     by_test false deaf = refl
 
-others_more : (event : Event) (k : Keeping) (keeps : List Keeping) → is_tick event ≡ false → IsSeated k → part_at event k.live ≡ None → OthersStay event keeps → OthersStay event (k ∷ keeps)
+others_more : (event : Event) (k : Remnant) (keeps : List Remnant) → is_tick event ≡ false → IsSeated k → part_at event k.live ≡ None → OthersStay event keeps → OthersStay event (k ∷ keeps)
 others_more event k keeps untimed seated none later =
     (ap₂ first_of none later.0, ap₂ (λ x xs. x ∷ xs) (deaf_stays event k untimed seated none) later.1)
 
 -- each slot that the event names is free
-abbrev IsFreeAt : Event → List Keeping → Type 0
+abbrev IsFreeAt : Event → List Remnant → Type 0
 IsFreeAt event keeps = (r : ℕ) → reference_in event ≡ Some r → slot_of r < 4096 → list_any (takes_slot (slot_of r)) keeps ≡ false
 
-free_first : (event : Event) (k : Keeping) (keeps : List Keeping) → IsFreeAt event (k ∷ keeps) → NamesSlot event k → ⊥
+free_first : (event : Event) (k : Remnant) (keeps : List Remnant) → IsFreeAt event (k ∷ keeps) → NamesSlot event k → ⊥
 free_first event k keeps free names =
     both_ways (takes_slot (slot_of names.reference) k)
     (or_parts (takes_slot (slot_of names.reference) k) (list_any (takes_slot (slot_of names.reference)) keeps) (free names.reference names.named names.in_lane)).0
     names.taken
 
-none_hear : (event : Event) (keeps : List Keeping) → is_tick event ≡ false → All IsSeated keeps → IsFreeAt event keeps → OthersStay event keeps
+none_hear : (event : Event) (keeps : List Remnant) → is_tick event ≡ false → All IsSeated keeps → IsFreeAt event keeps → OthersStay event keeps
 none_hear event [] untimed seated free = (refl, refl)
 none_hear event (k ∷ keeps) untimed seated free =
     let this : IsSeated k = All-head IsSeated k keeps seated in
@@ -169,26 +169,26 @@ none_passes p xs none =
     past false e = refl
 
 -- a reference whose slot nobody takes
-pub nobody : (event : Event) (keeps : List Keeping) → is_tick event ≡ false → All IsSeated keeps
+pub nobody : (event : Event) (keeps : List Remnant) → is_tick event ≡ false → All IsSeated keeps
     → ((r : ℕ) → reference_in event ≡ Some r → slot_of r < 4096 → position (takes_slot (slot_of r)) keeps ≡ None)
-    → (first_part event keeps ≡ None) × (map (keeping_after event) keeps ≡ keeps)
+    → (first_part event keeps ≡ None) × (map (remnant_after event) keeps ≡ keeps)
 nobody event keeps untimed seated nowhere =
     none_hear event keeps untimed seated (λ r named within. none_passes (takes_slot (slot_of r)) keeps (nowhere r named within))
 
 -- no reference
-pub nobody_named : (event : Event) (keeps : List Keeping) → is_tick event ≡ false → All IsSeated keeps → reference_in event ≡ None
-    → (first_part event keeps ≡ None) × (map (keeping_after event) keeps ≡ keeps)
+pub nobody_named : (event : Event) (keeps : List Remnant) → is_tick event ≡ false → All IsSeated keeps → reference_in event ≡ None
+    → (first_part event keeps ≡ None) × (map (remnant_after event) keeps ≡ keeps)
 nobody_named event keeps untimed seated unnamed = nobody event keeps untimed seated (λ r named within. absurd (cc))
 
 -- a reference of no slot of the lane
-pub nobody_past : (event : Event) (keeps : List Keeping) (r : ℕ) → is_tick event ≡ false → All IsSeated keeps → reference_in event ≡ Some r → 4096 ≤ slot_of r
-    → (first_part event keeps ≡ None) × (map (keeping_after event) keeps ≡ keeps)
+pub nobody_past : (event : Event) (keeps : List Remnant) (r : ℕ) → is_tick event ≡ false → All IsSeated keeps → reference_in event ≡ Some r → 4096 ≤ slot_of r
+    → (first_part event keeps ≡ None) × (map (remnant_after event) keeps ≡ keeps)
 nobody_past event keeps r untimed seated is past =
     nobody event keeps untimed seated (λ q named within. absurd (omega (arith, past, within, ap slot_of (same_Some r q (sym is ∙ named)))))
 
 -- a reference whose slot is free
-pub nobody_there : (event : Event) (keeps : List Keeping) (r : ℕ) → is_tick event ≡ false → All IsSeated keeps → reference_in event ≡ Some r → position (takes_slot (slot_of r)) keeps ≡ None
-    → (first_part event keeps ≡ None) × (map (keeping_after event) keeps ≡ keeps)
+pub nobody_there : (event : Event) (keeps : List Remnant) (r : ℕ) → is_tick event ≡ false → All IsSeated keeps → reference_in event ≡ Some r → position (takes_slot (slot_of r)) keeps ≡ None
+    → (first_part event keeps ≡ None) × (map (remnant_after event) keeps ≡ keeps)
 nobody_there event keeps r untimed seated is none =
     nobody event keeps untimed seated (λ q named within. ap (λ x. position (takes_slot (slot_of x)) keeps) (sym (same_Some r q (sym is ∙ named))) ∙ none)
 
@@ -201,11 +201,11 @@ named_untimed (Requested ssn q) r is = refl
 named_untimed Tick r is = absurd (cc)
 
 -- an opening that doesn't take the slot hears nothing
-other_names : (event : Event) (k : Keeping) (r : ℕ) → reference_in event ≡ Some r → takes_slot (slot_of r) k ≡ false → NamesSlot event k → ⊥
+other_names : (event : Event) (k : Remnant) (r : ℕ) → reference_in event ≡ Some r → takes_slot (slot_of r) k ≡ false → NamesSlot event k → ⊥
 other_names event k r is free names =
     both_ways (takes_slot (slot_of r) k) free (ap (λ x. takes_slot (slot_of x) k) (same_Some r names.reference (sym is ∙ names.named)) ∙ names.taken)
 
-others_stay : (event : Event) (keeps : List Keeping) (r : ℕ) → reference_in event ≡ Some r → All IsSeated keeps → list_any (takes_slot (slot_of r)) keeps ≡ false → OthersStay event keeps
+others_stay : (event : Event) (keeps : List Remnant) (r : ℕ) → reference_in event ≡ Some r → All IsSeated keeps → list_any (takes_slot (slot_of r)) keeps ≡ false → OthersStay event keeps
 others_stay event keeps r is seated free =
     none_hear event keeps (named_untimed event r is) seated (λ q named within. ap (λ x. list_any (takes_slot (slot_of x)) keeps) (sym (same_Some r q (sym is ∙ named))) ∙ free)
 
@@ -213,17 +213,17 @@ first_or_none : (part later : Option (List Output)) → later ≡ None → first
 first_or_none None later none = none
 first_or_none (Some outs) later none = refl
 
-abbrev HeardAt : Event → List Keeping → ℕ → Keeping → Type 0
+abbrev HeardAt : Event → List Remnant → ℕ → Remnant → Type 0
 HeardAt event keeps place d =
-    (first_part event keeps ≡ part_at event (get_or keeps place d).live) × (map (keeping_after event) keeps ≡ set keeps place (keeping_after event (get_or keeps place d)))
+    (first_part event keeps ≡ part_at event (get_or keeps place d).live) × (map (remnant_after event) keeps ≡ set keeps place (remnant_after event (get_or keeps place d)))
 
-heard_at : (event : Event) (keeps : List Keeping) (r place : ℕ) (d : Keeping) → reference_in event ≡ Some r → All IsSeated keeps → AreApart keeps
+heard_at : (event : Event) (keeps : List Remnant) (r place : ℕ) (d : Remnant) → reference_in event ≡ Some r → All IsSeated keeps → AreApart keeps
     → place < length keeps → takes_slot (slot_of r) (get_or keeps place d) ≡ true → ((n : ℕ) → n < place → takes_slot (slot_of r) (get_or keeps n d) ≡ false)
     → HeardAt event keeps place d
 heard_at event [] r place d is seated apart within takes first = absurd (omega arith)
 heard_at event (k ∷ keeps) r zero d is seated apart within takes first =
     let later : OthersStay event keeps = others_stay event keeps r is (All-tail IsSeated k keeps seated) (apart.0 (slot_of r) takes) in
-    (first_or_none (part_at event k.live) (first_part event keeps) later.0, ap (λ xs. keeping_after event k ∷ xs) later.1)
+    (first_or_none (part_at event k.live) (first_part event keeps) later.0, ap (λ xs. remnant_after event k ∷ xs) later.1)
 heard_at event (k ∷ keeps) r (suc place) d is seated apart within takes first =
     let this : IsSeated k = All-head IsSeated k keeps seated in
     let untimed : is_tick event ≡ false = named_untimed event r is in
@@ -233,9 +233,9 @@ heard_at event (k ∷ keeps) r (suc place) d is seated apart within takes first 
     (ap (λ part. first_of part (first_part event keeps)) none ∙ later.0, ap₂ (λ x xs. x ∷ xs) (deaf_stays event k untimed this none) later.1)
 
 -- the opening that takes the slot of the reference has its part, if it hears the event, and the others are as before
-pub somebody : (event : Event) (keeps : List Keeping) (r place : ℕ) → AreOrderly keeps → reference_in event ≡ Some r → position (takes_slot (slot_of r)) keeps ≡ Some place → (d : Keeping)
+pub somebody : (event : Event) (keeps : List Remnant) (r place : ℕ) → AreOrderly keeps → reference_in event ≡ Some r → position (takes_slot (slot_of r)) keeps ≡ Some place → (d : Remnant)
     → (first_part event keeps ≡ part_at event (slice_index_or keeps place d).live)
-    × (map (keeping_after event) keeps ≡ slice_set keeps place (keeping_after event (slice_index_or keeps place d)))
+    × (map (remnant_after event) keeps ≡ slice_set keeps place (remnant_after event (slice_index_or keeps place d)))
 somebody event keeps r place orderly is found d =
     let there = position-Some (takes_slot (slot_of r)) keeps place d found in
     heard_at event keeps r place d is orderly.seated orderly.apart there.0 there.1 there.2
@@ -254,7 +254,7 @@ sits_stays slot freeze event gone None untimed some = refl
 sits_stays slot freeze event gone (Some s) untimed some = ap (λ b. slot_of s.mine == slot && not b) (left_stays freeze event gone s.left untimed some)
 
 slots_by : (slot : ℕ) (event : Event) (live : Option Live) (this that : Option Seat) → is_tick event ≡ false → ((l : Live) → live ≡ Some l → (l.ticks.freeze == 0) ≡ false)
-    → takes_slot slot (keeping_after event (kept_as live this that)) ≡ (sits slot this || sits slot that)
+    → takes_slot slot (remnant_after event (kept_as live this that)) ≡ (sits slot this || sits slot that)
 slots_by slot event None this that untimed some =
     ap₂ (λ a b. a || b) (sits_stays slot 0 event false this untimed (λ gone. absurd (cc))) (sits_stays slot 0 event false that untimed (λ gone. absurd (cc)))
 slots_by slot event (Some l) this that untimed some =
@@ -263,6 +263,6 @@ slots_by slot event (Some l) this that untimed some =
     (sits_stays slot l.ticks.freeze event (end_is_gone c.this) this untimed (λ gone. some l refl))
     (sits_stays slot l.ticks.freeze event (end_is_gone c.that) that untimed (λ gone. some l refl))
 
-pub slots_stay : (slot : ℕ) (event : Event) (k : Keeping) → is_tick event ≡ false → ((l : Live) → k.live ≡ Some l → (l.ticks.freeze == 0) ≡ false)
-    → takes_slot slot (keeping_after event k) ≡ takes_slot slot k
+pub slots_stay : (slot : ℕ) (event : Event) (k : Remnant) → is_tick event ≡ false → ((l : Live) → k.live ≡ Some l → (l.ticks.freeze == 0) ≡ false)
+    → takes_slot slot (remnant_after event k) ≡ takes_slot slot k
 slots_stay slot event k untimed some = slots_by slot event k.live k.this k.that untimed some

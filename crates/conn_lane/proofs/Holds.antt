@@ -12,9 +12,9 @@ use Rattle.section_coupling.specs.declared.side.Side.TheVariants as side
 use Rattle.section_coupling.specs.Views.{end_at}
 use Rattle.section_coupling.specs.Duos.{DuoState, duo_at, taken_after}
 use Rattle.conn_lane.specs.declared.kept.Hold.{Hold}
-use Rattle.conn_lane.specs.Keeping.{Live, Seat, Keeping, ticks_in, left_after, seat_after, frozen_by, keeping_after, live_of, part_at, or_none}
+use Rattle.conn_lane.specs.Remnants.{Live, Seat, Remnant, ticks_in, left_after, seat_after, frozen_by, remnant_after, live_of, part_at, or_none}
 use Rattle.conn_lane.specs.Seated.{SeatIs, IsSeated}
-use Rattle.conn_lane.specs.Views.{KeptState, IsAlive, IsIdle, IsAsleep, HearsAt, live_at, seat_at, until_after, keeping_at}
+use Rattle.conn_lane.specs.Views.{KeptOpeningState, IsAlive, IsIdle, IsAsleep, HearsAt, live_at, seat_at, until_after, remnant_at}
 
 begins : (now freeze : ℕ) → now + freeze - now ≡ freeze
 begins now freeze = omega arith
@@ -83,17 +83,17 @@ live_by : (ticks : Ticks) (now : ℕ) (d : DuoState) (c : Connection) → is_ove
 live_by ticks now d c on same = rw same (rw on refl)
 
 -- what is kept of a connection after a tick by which nothing happens to it, and its part
-pub record SleepsOn (now : ℕ) (k : KeptState) : Type 0 where
-  pub keeping : keeping_at (now + 1) k ≡ keeping_after Tick (keeping_at now k)
+pub record SleepsOn (now : ℕ) (k : KeptOpeningState) : Type 0 where
+  pub keeping : remnant_at (now + 1) k ≡ remnant_after Tick (remnant_at now k)
   pub outs : [] ≡ or_none (part_at Tick (option_map (live_at now) k.duo))
 
-abbrev kept_as : Option Live → Option Seat → Option Seat → Keeping
+abbrev kept_as : Option Live → Option Seat → Option Seat → Remnant
 kept_as live this that = record { live = live; this = this; that = that }
 
 kept_alike : {a b : Option Live} {c d e f : Option Seat} → a ≡ b → c ≡ d → e ≡ f → kept_as a c e ≡ kept_as b d f
 kept_alike one two three = rw (one, two, three) refl
 
-idle : (now : ℕ) (d : DuoState) (this that : Option Hold) → IsAlive (Some d) → IsIdle now d → IsSeated (keeping_at now (record { duo = Some d; this = this; that = that }))
+idle : (now : ℕ) (d : DuoState) (this that : Option Hold) → IsAlive (Some d) → IsIdle now d → IsSeated (remnant_at now (record { duo = Some d; this = this; that = that }))
     → SleepsOn now (record { duo = Some d; this = this; that = that })
 idle now d this that alive still seated =
     let on : is_over (duo_at now d) ≡ false = over_alike now 0 d ∙ alive in
@@ -115,12 +115,12 @@ abbrev pub IsIdleAt : ℕ → Option DuoState → Type 0
 IsIdleAt now None = Unit {0}
 IsIdleAt now (Some d) = IsIdle now d
 
-by_duo : (now : ℕ) (duo : Option DuoState) (this that : Option Hold) → IsAlive duo → IsIdleAt now duo → IsSeated (keeping_at now (record { duo = duo; this = this; that = that }))
+by_duo : (now : ℕ) (duo : Option DuoState) (this that : Option Hold) → IsAlive duo → IsIdleAt now duo → IsSeated (remnant_at now (record { duo = duo; this = this; that = that }))
     → SleepsOn now (record { duo = duo; this = this; that = that })
 by_duo now None this that alive idle seated = record { keeping = kept_alike refl (over_seat now this) (over_seat now that); outs = refl }
 by_duo now (Some d) this that alive is seated = idle now d this that alive is seated
 
-pub sleeps_on : (now : ℕ) (k : KeptState) → IsAlive k.duo → IsIdleAt now k.duo → IsSeated (keeping_at now k) → SleepsOn now k
+pub sleeps_on : (now : ℕ) (k : KeptOpeningState) → IsAlive k.duo → IsIdleAt now k.duo → IsSeated (remnant_at now k) → SleepsOn now k
 sleeps_on now k alive is seated = by_duo now k.duo k.this k.that alive is seated
 
 pub asleep : (now wakes : ℕ) (duo : Option DuoState) → IsAsleep wakes duo → now + 1 < wakes → IsIdleAt now duo

@@ -9,10 +9,10 @@ use Rattle.std.specs.List.{range_with_len, position, position_from}
 use Rattle.std.proofs.lemmas.Iterator.Adapters.{position_from-zero}
 use Rattle.relay_base.specs.declared.words.Event.{Event}
 use Rattle.conn_lane.specs.declared.kept.Hold.{Hold}
-use Rattle.conn_lane.specs.Keeping.{Seat, Live, Keeping, ticks_in, sits, takes_slot, is_frozen_out, holds_out, left_after, seat_after, keeping_after, is_freed, has_freed}
+use Rattle.conn_lane.specs.Remnants.{Seat, Live, Remnant, ticks_in, sits, takes_slot, is_frozen_out, holds_out, left_after, seat_after, remnant_after, is_freed, has_freed}
 use Rattle.section_model.specs.Step.{end_is_gone}
 use Rattle.section_model.specs.Lane.{fed, slot_of}
-use Rattle.conn_lane.specs.Views.{KeptState, seat_at, keeping_at, keeping_all}
+use Rattle.conn_lane.specs.Views.{KeptOpeningState, seat_at, remnant_at, remnants_at}
 use Rattle.conn_lane.specs.Index.{place_at, slot_held, marked, IsIndexOf, is_marked, unmarked}
 
 -- A reference is noted.
@@ -104,7 +104,7 @@ position_push p xs x =
     position_from-zero p (xs ++ x ∷ [])
     ∙ (from_push p 0 xs x ∙ (ap (λ n. marked n (p x) (position_from p 0 xs)) e ∙ ap (marked (length xs) (p x)) (sym (position_from-zero p xs))))
 
-pub indexed_more : (keeps : List Keeping) (k : Keeping) (before after : List (Option ℕ)) (place : ℕ) → place ≡ length keeps → IsIndexOf keeps before
+pub indexed_more : (keeps : List Remnant) (k : Remnant) (before after : List (Option ℕ)) (place : ℕ) → place ≡ length keeps → IsIndexOf keeps before
     → ((slot : ℕ) → slot < 4096 → place_at after slot ≡ marked place (takes_slot slot k) (place_at before slot)) → IsIndexOf (keeps ++ k ∷ []) after
 indexed_more keeps k before after place is index noted slot within =
     noted slot within
@@ -112,15 +112,15 @@ indexed_more keeps k before after place is index noted slot within =
     ∙ sym (position_push (takes_slot slot) keeps k)
 
 -- the next of the openings that the code keeps
-pub indexed_next : (now : ℕ) (kept : List KeptState) (before after : List (Option ℕ)) (place : ℕ) (one : KeptState) → place < length kept → one ≡ get_or kept place one
-    → IsIndexOf (keeping_all now (take place kept)) before → ((slot : ℕ) → slot < 4096 → place_at after slot ≡ marked place (takes_slot slot (keeping_at now one)) (place_at before slot))
-    → IsIndexOf (keeping_all now (take (place + 1) kept)) after
+pub indexed_next : (now : ℕ) (kept : List KeptOpeningState) (before after : List (Option ℕ)) (place : ℕ) (one : KeptOpeningState) → place < length kept → one ≡ get_or kept place one
+    → IsIndexOf (remnants_at now (take place kept)) before → ((slot : ℕ) → slot < 4096 → place_at after slot ≡ marked place (takes_slot slot (remnant_at now one)) (place_at before slot))
+    → IsIndexOf (remnants_at now (take (place + 1) kept)) after
 indexed_next now kept before after place one within is index noted =
     subst (λ keeps. IsIndexOf keeps after)
-    (sym (ap (keeping_all now) (take_next place kept one within ∙ ap (λ k. take place kept ++ k ∷ []) (sym is)) ∙ map-append (keeping_at now) (take place kept) (one ∷ [])))
-    (indexed_more (keeping_all now (take place kept)) (keeping_at now one) before after place (omega (arith, within, length-map (take place kept) (keeping_at now), length-take place kept)) index noted)
+    (sym (ap (remnants_at now) (take_next place kept one within ∙ ap (λ k. take place kept ++ k ∷ []) (sym is)) ∙ map-append (remnant_at now) (take place kept) (one ∷ [])))
+    (indexed_more (remnants_at now (take place kept)) (remnant_at now one) before after place (omega (arith, within, length-map (take place kept) (remnant_at now), length-take place kept)) index noted)
   where
-    take_next : (n : ℕ) (xs : List KeptState) (d : KeptState) → n < length xs → take (n + 1) xs ≡ take n xs ++ get_or xs n d ∷ []
+    take_next : (n : ℕ) (xs : List KeptOpeningState) (d : KeptOpeningState) → n < length xs → take (n + 1) xs ≡ take n xs ++ get_or xs n d ∷ []
     take_next n xs d within = let e : n + 1 ≡ suc n = omega arith in rw e (take-suc xs n d within)
 
 pub indexed_none : IsIndexOf [] (replicate 4096 None)
@@ -128,7 +128,7 @@ indexed_none slot within = get_or-replicate 4096 slot None None within
 
 -- An opening that takes the same slots after an event.
 
-pub indexed_set : (keeps : List Keeping) (places : List (Option ℕ)) (at : ℕ) (k d : Keeping) → IsIndexOf keeps places → ((slot : ℕ) → takes_slot slot k ≡ takes_slot slot (get_or keeps at d))
+pub indexed_set : (keeps : List Remnant) (places : List (Option ℕ)) (at : ℕ) (k d : Remnant) → IsIndexOf keeps places → ((slot : ℕ) → takes_slot slot k ≡ takes_slot slot (get_or keeps at d))
     → IsIndexOf (set keeps at k) places
 indexed_set keeps places at k d index same slot within =
     index slot within ∙ ap₂ (λ n m. cond (nat_lt n m) (Some n) None) (sym (position_or_len-set (takes_slot slot) keeps at k d (same slot))) (sym (length-set keeps at k))
@@ -153,8 +153,8 @@ or_false false false e = (refl, refl)
 or_false true b e = absurd (cc)
 or_false false true e = absurd (cc)
 
-same_takes : (slot : ℕ) (event : Event) (live : Option Live) (this that : Option Seat) → has_freed (keeping_after event (record { live = live; this = this; that = that })) ≡ false
-    → takes_slot slot (keeping_after event (record { live = live; this = this; that = that })) ≡ takes_slot slot (record { live = live; this = this; that = that })
+same_takes : (slot : ℕ) (event : Event) (live : Option Live) (this that : Option Seat) → has_freed (remnant_after event (record { live = live; this = this; that = that })) ≡ false
+    → takes_slot slot (remnant_after event (record { live = live; this = this; that = that })) ≡ takes_slot slot (record { live = live; this = this; that = that })
 same_takes slot event None this that none =
     let parts = or_false (is_freed (seat_after 0 event false this)) (is_freed (seat_after 0 event false that)) none in
     ap₂ (λ a b. a || b) (same_sits slot 0 event false this parts.0) (same_sits slot 0 event false that parts.1)
@@ -164,7 +164,7 @@ same_takes slot event (Some l) this that none =
     ap₂ (λ a b. a || b) (same_sits slot l.ticks.freeze event (end_is_gone c.this) this parts.0) (same_sits slot l.ticks.freeze event (end_is_gone c.that) that parts.1)
 
 -- an opening of which no reference is free takes the slots that it took
-pub takes_on : (slot : ℕ) (event : Event) (k : Keeping) → has_freed (keeping_after event k) ≡ false → takes_slot slot (keeping_after event k) ≡ takes_slot slot k
+pub takes_on : (slot : ℕ) (event : Event) (k : Remnant) → has_freed (remnant_after event k) ≡ false → takes_slot slot (remnant_after event k) ≡ takes_slot slot k
 takes_on slot event k none = same_takes slot event k.live k.this k.that none
 
 -- The slots below which none is free.

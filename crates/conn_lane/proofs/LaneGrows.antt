@@ -21,19 +21,21 @@ use Rattle.section_model.proofs.Growing.{grows}
 use Rattle.plant_core.specs.declared.terms.Ticks.{Ticks}
 use Rattle.section_coupling.specs.Duos.{DuoState, duo_at, taken_after}
 use Rattle.section_coupling.specs.Openings.{is_wish, IsAnswered}
-use Rattle.conn_lane.specs.Keeping.{Keeping, keeping_of, keeping_after, first_part, all_parts, lowest_in, is_needed, needed}
+use Rattle.conn_lane.specs.Remnants.{Remnant, remnant_of, remnant_after, first_part, all_parts, lowest_in, is_needed, needed}
 use Rattle.conn_lane.specs.Laws.{unheard}
 use Rattle.conn_lane.specs.Seated.{AreOrderly}
 use Rattle.conn_lane.specs.Views.{news}
-use Rattle.conn_lane.specs.Lanes.{OpeningsState, lane_of, conn_asked_of}
-use Rattle.conn_lane.specs.Turns.{opened_in, other_outs_in, outs_in, new_keeping, keeps_in, IsConnLane}
+use Rattle.conn_lane.specs.Journals.{lane_of}
+use Rattle.conn_lane.specs.Lanes.{conn_asked_of}
+use Rattle.conn_lane.specs.Views.{OpeningsState}
+use Rattle.conn_lane.specs.Turns.{opened_in, other_outs_in, outs_in, new_remnant, keeps_in, IsConnLane}
 use Rattle.conn_lane.specs.Grown.{Comes, Grows}
 use Rattle.conn_lane.proofs.Keeps.{keeps_all}
 use Rattle.conn_lane.proofs.Needless.{outs_needed, keeps_needed}
 use Rattle.conn_lane.proofs.NewSeats.{orderly_keeps}
 
-abbrev kept_of : Lane → List Opening → List Keeping
-kept_of lane openings = map (keeping_of lane.terms.ticks) openings
+abbrev kept_of : Lane → List Opening → List Remnant
+kept_of lane openings = map (remnant_of lane.terms.ticks) openings
 
 -- the opening by what is kept
 opens-alike : (lane : Lane) (openings : List Opening) (wish : Wish) (answer : Option Answer) → opening_of lane openings wish answer ≡ opened_in lane (kept_of lane openings) wish answer
@@ -53,11 +55,11 @@ outs-alike : (lane : Lane) (openings : List Opening) (event : Event) (answer : O
 unfolding legal_outputs
 outs-alike lane openings event answer = outs-by lane openings event (wish_of lane.terms event) answer
 
-events-alike : (lane : Lane) (event : Event) (openings : List Opening) → map (keeping_of lane.terms.ticks) (map (with_event event) openings) ≡ map (keeping_after event) (kept_of lane openings)
+events-alike : (lane : Lane) (event : Event) (openings : List Opening) → map (remnant_of lane.terms.ticks) (map (with_event event) openings) ≡ map (remnant_after event) (kept_of lane openings)
 events-alike lane event [] = refl
-events-alike lane event (o ∷ openings) = rw (keeps_all.after lane.terms.ticks o event) (ap (λ more. keeping_after event (keeping_of lane.terms.ticks o) ∷ more) (events-alike lane event openings))
+events-alike lane event (o ∷ openings) = rw (keeps_all.after lane.terms.ticks o event) (ap (λ more. remnant_after event (remnant_of lane.terms.ticks o) ∷ more) (events-alike lane event openings))
 
-new-alike : (lane : Lane) (c : Option Connection) → map (keeping_of lane.terms.ticks) (opening_list c) ≡ new_keeping lane.terms.ticks c
+new-alike : (lane : Lane) (c : Option Connection) → map (remnant_of lane.terms.ticks) (opening_list c) ≡ new_remnant lane.terms.ticks c
 new-alike lane None = refl
 new-alike lane (Some c) = refl
 
@@ -65,10 +67,10 @@ keeps-alike : (lane : Lane) (openings : List Opening) (event : Event) (answer : 
 unfolding openings_after
 keeps-alike lane openings event answer =
     let c = (opening_of lane openings (wish_of lane.terms event) answer).connection in
-    map-append (keeping_of lane.terms.ticks) (map (with_event event) openings) (opening_list c)
-    ∙ (ap (λ more. more ++ map (keeping_of lane.terms.ticks) (opening_list c)) (events-alike lane event openings)
-    ∙ (ap (λ more. map (keeping_after event) (kept_of lane openings) ++ more) (new-alike lane c)
-    ∙ ap (λ o. map (keeping_after event) (kept_of lane openings) ++ new_keeping lane.terms.ticks o.connection) (opens-alike lane openings (wish_of lane.terms event) answer)))
+    map-append (remnant_of lane.terms.ticks) (map (with_event event) openings) (opening_list c)
+    ∙ (ap (λ more. more ++ map (remnant_of lane.terms.ticks) (opening_list c)) (events-alike lane event openings)
+    ∙ (ap (λ more. map (remnant_after event) (kept_of lane openings) ++ more) (new-alike lane c)
+    ∙ ap (λ o. map (remnant_after event) (kept_of lane openings) ++ new_remnant lane.terms.ticks o.connection) (opens-alike lane openings (wish_of lane.terms event) answer)))
 
 openings-more : (lane : Lane) (openings : List Opening) (journal : List Entry) (entry : Entry) → openings_from lane openings (journal ++ entry ∷ []) ≡ openings_after lane (openings_from lane openings journal) entry.event (answer_of entry)
 openings-more lane openings [] entry = refl
@@ -88,7 +90,7 @@ later taken (Arrived point sls bytes) n few = omega (arith, few)
 later taken (Requested ssn r) n few = omega (arith, few)
 later taken Tick n few = omega (arith, few)
 
-pub needed_again : (keeps : List Keeping) → needed (needed keeps) ≡ needed keeps
+pub needed_again : (keeps : List Remnant) → needed (needed keeps) ≡ needed keeps
 needed_again [] = refl
 needed_again (k ∷ keeps) = by_test (is_needed k) refl (needed_again keeps)
   where
@@ -139,13 +141,13 @@ none_asked (by_cr w) e = absurd (cc)
 none_asked (by_user ssn tag w) e = absurd (cc)
 none_asked no_wish e = refl
 
-pub other_keeps : (lane : Lane) (keeps : List Keeping) (event : Event) (wish : Wish) (answer : Option Answer) → is_wish wish ≡ false → map (keeping_after event) keeps ≡ keeps_in lane keeps event wish answer
+pub other_keeps : (lane : Lane) (keeps : List Remnant) (event : Event) (wish : Wish) (answer : Option Answer) → is_wish wish ≡ false → map (remnant_after event) keeps ≡ keeps_in lane keeps event wish answer
 unfolding opened
 other_keeps lane keeps event (by_cr w) answer e = absurd (cc)
 other_keeps lane keeps event (by_user ssn tag w) answer e = absurd (cc)
-other_keeps lane keeps event no_wish answer e = sym (append-nil (map (keeping_after event) keeps))
+other_keeps lane keeps event no_wish answer e = sym (append-nil (map (remnant_after event) keeps))
 
-pub open_outs : (lane : Lane) (keeps : List Keeping) (event : Event) (wish : Wish) (answer : Option Answer) → is_wish wish ≡ true → outs_in lane keeps event wish answer ≡ (opened_in lane keeps wish answer).outs
+pub open_outs : (lane : Lane) (keeps : List Remnant) (event : Event) (wish : Wish) (answer : Option Answer) → is_wish wish ≡ true → outs_in lane keeps event wish answer ≡ (opened_in lane keeps wish answer).outs
 open_outs lane keeps event (by_cr w) answer e = refl
 open_outs lane keeps event (by_user ssn tag w) answer e = refl
 open_outs lane keeps event no_wish answer e = absurd (cc)
@@ -169,19 +171,19 @@ pub opens_answered : (head : LaneHead) (plant : PlantState) (event : Event) (ask
 opens_answered head plant event asked answer e f = ap is_some (f ∙ ap answer_in e) ∙ answered plant.edition plant.routing (question_of (wish_of head.terms event))
 
 -- what is opened, from the code's references and answer
-pub opens_so : (lane : Lane) (keeps : List Keeping) (wish : Wish) (answer given : Option Answer) (count : ℕ) (refs : List ℕ) (o : Opened) → given ≡ answer → count ≡ slots_needed wish given → refs ≡ lowest_in lane keeps count → opened lane.terms wish given refs ≡ o
+pub opens_so : (lane : Lane) (keeps : List Remnant) (wish : Wish) (answer given : Option Answer) (count : ℕ) (refs : List ℕ) (o : Opened) → given ≡ answer → count ≡ slots_needed wish given → refs ≡ lowest_in lane keeps count → opened lane.terms wish given refs ≡ o
     → opened_in lane keeps wish answer ≡ o
 opens_so lane keeps wish answer given count refs o e f g h =
     subst (λ a. opened_in lane keeps wish a ≡ o) e
     (ap (λ n. opened lane.terms wish given (lowest_in lane keeps n)) (sym f) ∙ (ap (opened lane.terms wish given) (sym g) ∙ h))
 
-pub opened_outs : (lane : Lane) (keeps : List Keeping) (event : Event) (wish : Wish) (answer : Option Answer) (o : Opened) → is_wish wish ≡ true → opened_in lane keeps wish answer ≡ o → o.outs ≡ outs_in lane keeps event wish answer
+pub opened_outs : (lane : Lane) (keeps : List Remnant) (event : Event) (wish : Wish) (answer : Option Answer) (o : Opened) → is_wish wish ≡ true → opened_in lane keeps wish answer ≡ o → o.outs ≡ outs_in lane keeps event wish answer
 opened_outs lane keeps event wish answer o e f = sym (open_outs lane keeps event wish answer e ∙ ap (λ x. x.outs) f)
 
-pub opened_keeps : (lane : Lane) (keeps : List Keeping) (event : Event) (wish : Wish) (answer : Option Answer) (o : Opened) (later : List Keeping) → opened_in lane keeps wish answer ≡ o → later ≡ map (keeping_after event) keeps ++ new_keeping lane.terms.ticks o.connection → later ≡ keeps_in lane keeps event wish answer
-opened_keeps lane keeps event wish answer o later f e = e ∙ ap (λ x. map (keeping_after event) keeps ++ new_keeping lane.terms.ticks x.connection) (sym f)
+pub opened_keeps : (lane : Lane) (keeps : List Remnant) (event : Event) (wish : Wish) (answer : Option Answer) (o : Opened) (later : List Remnant) → opened_in lane keeps wish answer ≡ o → later ≡ map (remnant_after event) keeps ++ new_remnant lane.terms.ticks o.connection → later ≡ keeps_in lane keeps event wish answer
+opened_keeps lane keeps event wish answer o later f e = e ∙ ap (λ x. map (remnant_after event) keeps ++ new_remnant lane.terms.ticks x.connection) (sym f)
 
-pub other_outs : (lane : Lane) (keeps : List Keeping) (event : Event) (wish : Wish) (answer : Option Answer) → is_wish wish ≡ false → other_outs_in keeps event ≡ outs_in lane keeps event wish answer
+pub other_outs : (lane : Lane) (keeps : List Remnant) (event : Event) (wish : Wish) (answer : Option Answer) → is_wish wish ≡ false → other_outs_in keeps event ≡ outs_in lane keeps event wish answer
 other_outs lane keeps event (by_cr w) answer e = absurd (cc)
 other_outs lane keeps event (by_user ssn tag w) answer e = absurd (cc)
 other_outs lane keeps event no_wish answer e = refl
@@ -198,9 +200,9 @@ on_err (Err e) P p = p
 
 -- What comes of an event.
 
-news_are : (ticks : Ticks) (taken : ℕ) (duo : Option DuoState) → IfSome duo (λ d. d.ticks ≡ ticks) → news taken duo ≡ new_keeping ticks (option_map (duo_at taken) duo)
+news_are : (ticks : Ticks) (taken : ℕ) (duo : Option DuoState) → IfSome duo (λ d. d.ticks ≡ ticks) → news taken duo ≡ new_remnant ticks (option_map (duo_at taken) duo)
 news_are ticks taken None is = refl
-news_are ticks taken (Some d) is = ap (λ t. keeping_of t (record { first = duo_at taken d; since = [] }) ∷ []) is
+news_are ticks taken (Some d) is = ap (λ t. remnant_of t (record { first = duo_at taken d; since = [] }) ∷ []) is
 
 pub open_untimed : (terms : Terms) (event : Event) → is_wish (wish_of terms event) ≡ true → is_tick event ≡ false
 unfolding wish_of
@@ -212,7 +214,7 @@ open_untimed terms Tick e = absurd (cc)
 pub open_comes : (plant : PlantState) (head : LaneHead) (number : ℕ) (event : Event) (before after : OpeningsState) (routing : Option Asked) (duo : Option DuoState) (outputs : List Output)
     → is_wish (wish_of head.terms event) ≡ true → routing ≡ conn_asked_of head plant event
     → opened_in (lane_of head number) before.keeps (wish_of head.terms event) (answer_in routing) ≡ record { connection = option_map (duo_at before.taken) duo; outs = outputs }
-    → IfSome duo (λ d. d.ticks ≡ head.terms.ticks) → after ≡ record { taken = before.taken; keeps = map (keeping_after event) before.keeps ++ news before.taken duo }
+    → IfSome duo (λ d. d.ticks ≡ head.terms.ticks) → after ≡ record { taken = before.taken; keeps = map (remnant_after event) before.keeps ++ news before.taken duo }
     → Comes plant head number event before after routing outputs
 open_comes plant head number event before after routing duo outputs wish asked opens ticks is =
     let lane : Lane = lane_of head number in
@@ -222,21 +224,20 @@ open_comes plant head number event before after routing duo outputs wish asked o
       taken = ap (λ o. o.taken) is ∙ sym (open_taken head.terms before.taken event wish);
       keeps = ap needed
           (opened_keeps lane before.keeps event (wish_of head.terms event) (answer_in routing) (record { connection = option_map (duo_at before.taken) duo; outs = outputs }) after.keeps opens
-          (ap (λ o. o.keeps) is ∙ ap (λ ks. map (keeping_after event) before.keeps ++ ks) (news_are head.terms.ticks before.taken duo ticks)));
+          (ap (λ o. o.keeps) is ∙ ap (λ ks. map (remnant_after event) before.keeps ++ ks) (news_are head.terms.ticks before.taken duo ticks)));
     }
 
 -- what is kept with the new connection is orderly
-pub open_orderly : (head : LaneHead) (number : ℕ) (event : Event) (before : OpeningsState) (answer : Option Answer) (duo : Option DuoState) (outputs : List Output) (after : OpeningsState) → number < 16 → AreOrderly before.keeps
+pub open_orderly : (head : LaneHead) (number : ℕ) (event : Event) (before : OpeningsState) (answer : Option Answer) (duo : Option DuoState) (outputs : List Output) → number < 16 → AreOrderly before.keeps
     → opened_in (lane_of head number) before.keeps (wish_of head.terms event) answer ≡ record { connection = option_map (duo_at before.taken) duo; outs = outputs }
-    → IfSome duo (λ d. d.ticks ≡ head.terms.ticks) → after ≡ record { taken = before.taken; keeps = map (keeping_after event) before.keeps } → AreOrderly (after.keeps ++ news after.taken duo)
-open_orderly head number event before answer duo outputs after within orderly opens ticks is =
+    → IfSome duo (λ d. d.ticks ≡ head.terms.ticks) → AreOrderly (map (remnant_after event) before.keeps ++ news before.taken duo)
+open_orderly head number event before answer duo outputs within orderly opens ticks =
     let lane : Lane = lane_of head number in
-    subst (λ o. AreOrderly (o.keeps ++ news o.taken duo)) (sym is)
-    (subst (λ ks. AreOrderly (map (keeping_after event) before.keeps ++ ks))
-    (ap (λ o. new_keeping head.terms.ticks o.connection) opens ∙ sym (news_are head.terms.ticks before.taken duo ticks))
-    (orderly_keeps lane before.keeps event (wish_of head.terms event) answer within orderly))
+    subst (λ ks. AreOrderly (map (remnant_after event) before.keeps ++ ks))
+    (ap (λ o. new_remnant head.terms.ticks o.connection) opens ∙ sym (news_are head.terms.ticks before.taken duo ticks))
+    (orderly_keeps lane before.keeps event (wish_of head.terms event) answer within orderly)
 
-others_untimed : (keeps : List Keeping) (event : Event) → is_tick event ≡ false → other_outs_in keeps event ≡ unheard (first_part event keeps) (stray_answer event)
+others_untimed : (keeps : List Remnant) (event : Event) → is_tick event ≡ false → other_outs_in keeps event ≡ unheard (first_part event keeps) (stray_answer event)
 others_untimed keeps (Arrived point sls bytes) e = refl
 others_untimed keeps (Requested ssn r) e = refl
 others_untimed keeps Tick e = absurd (cc)
@@ -249,7 +250,7 @@ untimed taken Tick e = absurd (cc)
 -- an event that a connection may hear
 pub hear_comes : (plant : PlantState) (head : LaneHead) (number : ℕ) (event : Event) (before after : OpeningsState) (part : Option (List Output)) (outputs : List Output)
     → is_tick event ≡ false → is_wish (wish_of head.terms event) ≡ false → part ≡ first_part event before.keeps → outputs ≡ unheard part (stray_answer event)
-    → after ≡ record { taken = before.taken; keeps = map (keeping_after event) before.keeps } → Comes plant head number event before after None outputs
+    → after ≡ record { taken = before.taken; keeps = map (remnant_after event) before.keeps } → Comes plant head number event before after None outputs
 hear_comes plant head number event before after part outputs no_tick wish parts outs is =
     let lane : Lane = lane_of head number in
     record {
@@ -268,7 +269,7 @@ no_wish_of_tick terms = refl
 
 -- a tick
 pub tick_comes : (plant : PlantState) (head : LaneHead) (number : ℕ) (before after : OpeningsState) (outputs : List Output) → outputs ≡ all_parts Tick before.keeps
-    → after ≡ record { taken = before.taken + 1; keeps = needed (map (keeping_after Tick) before.keeps) } → Comes plant head number Tick before after None outputs
+    → after ≡ record { taken = before.taken + 1; keeps = needed (map (remnant_after Tick) before.keeps) } → Comes plant head number Tick before after None outputs
 tick_comes plant head number before after outputs outs is =
     let lane : Lane = lane_of head number in
     let wish = no_wish_of_tick head.terms in
@@ -278,5 +279,5 @@ tick_comes plant head number before after outputs outs is =
       taken = ap (λ o. o.taken) is;
       keeps =
           ap (λ o. needed o.keeps) is
-          ∙ (needed_again (map (keeping_after Tick) before.keeps) ∙ ap needed (other_keeps lane before.keeps Tick (wish_of head.terms Tick) None wish));
+          ∙ (needed_again (map (remnant_after Tick) before.keeps) ∙ ap needed (other_keeps lane before.keeps Tick (wish_of head.terms Tick) None wish));
     }

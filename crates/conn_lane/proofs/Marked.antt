@@ -7,7 +7,7 @@ use Rattle.std.specs.List.{list_any, range_with_len, position_from}
 use Rattle.std.proofs.lemmas.List.{take-append-le, map-append, length-map, get_or_default}
 use Rattle.std.proofs.lemmas.List.Elements.{filter-append}
 use Rattle.section_model.specs.Lane.{Lane, reference_at, enough}
-use Rattle.conn_lane.specs.Keeping.{Keeping, takes_slot}
+use Rattle.conn_lane.specs.Remnants.{Remnant, takes_slot}
 use Rattle.conn_lane.specs.Index.{marked, IsIndexOf, is_marked, unmarked, lowest_unmarked}
 
 -- a range in two parts
@@ -122,24 +122,24 @@ found_or_not : {X : Type 0} (p : X → Bool) (n : ℕ) (xs : List X) → is_some
 found_or_not p n [] = refl
 found_or_not p n (x ∷ xs) = found_more n (p x) (position_from p (n + 1) xs) (list_any p xs) (found_or_not p (n + 1) xs)
 
-marks : (keeps : List Keeping) (places : List (Option ℕ)) (slot : ℕ) → IsIndexOf keeps places → slot < 4096 → is_marked places slot ≡ list_any (takes_slot slot) keeps
+marks : (keeps : List Remnant) (places : List (Option ℕ)) (slot : ℕ) → IsIndexOf keeps places → slot < 4096 → is_marked places slot ≡ list_any (takes_slot slot) keeps
 marks keeps places slot index below = ap is_some (index slot below ∙ position_from-zero (takes_slot slot) keeps) ∙ found_or_not (takes_slot slot) 0 keeps
 
-free_alike : (n : ℕ) (keeps : List Keeping) (places : List (Option ℕ)) → IsIndexOf keeps places → n < 4096
+free_alike : (n : ℕ) (keeps : List Remnant) (places : List (Option ℕ)) → IsIndexOf keeps places → n < 4096
     → unmarked places n ≡ filter (λ slot. not (list_any (takes_slot slot) keeps)) (range_with_len 1 n)
 free_alike n keeps places index small =
     filter_alike (λ slot. not (is_marked places slot)) (λ slot. not (list_any (takes_slot slot) keeps)) 1 n
     (λ slot below. ap not (marks keeps places slot index (omega (arith, below, small))))
 
 -- the references that are found are those of the lowest free slots
-lowest_alike : (n count : ℕ) (lane : Lane) (keeps : List Keeping) (places : List (Option ℕ)) → IsIndexOf keeps places → n < 4096
+lowest_alike : (n count : ℕ) (lane : Lane) (keeps : List Remnant) (places : List (Option ℕ)) → IsIndexOf keeps places → n < 4096
     → (if length (lowest_unmarked places lane.number count n) == count then lowest_unmarked places lane.number count n else [])
     ≡ enough lane count (take count (filter (λ slot. not (list_any (takes_slot slot) keeps)) (range_with_len 1 n)))
 lowest_alike n count lane keeps places index small =
     ap (λ k. if k == count then lowest_unmarked places lane.number count n else []) (length-map (take count (unmarked places n)) (reference_at lane))
     ∙ ap (λ xs. enough lane count (take count xs)) (free_alike n keeps places index small)
 
-lowest_tested : (n count number : ℕ) (lane : Lane) (keeps : List Keeping) (places : List (Option ℕ)) (lowest : List ℕ) (b : Bool) → IsIndexOf keeps places → n < 4096
+lowest_tested : (n count number : ℕ) (lane : Lane) (keeps : List Remnant) (places : List (Option ℕ)) (lowest : List ℕ) (b : Bool) → IsIndexOf keeps places → n < 4096
     → lane.number ≡ number → lowest ≡ lowest_unmarked places number count n → (length lowest == count) ≡ b
     → (if b then lowest else []) ≡ enough lane count (take count (filter (λ slot. not (list_any (takes_slot slot) keeps)) (range_with_len 1 n)))
 lowest_tested n count number lane keeps places lowest b index small same is tested =
@@ -148,7 +148,7 @@ lowest_tested n count number lane keeps places lowest b index small same is test
     ∙ lowest_alike n count lane keeps places index small
 
 -- enough were found
-pub lowest_enough : (n count number : ℕ) (lane : Lane) (keeps : List Keeping) (places : List (Option ℕ)) (lowest : List ℕ) → IsIndexOf keeps places → n < 4096
+pub lowest_enough : (n count number : ℕ) (lane : Lane) (keeps : List Remnant) (places : List (Option ℕ)) (lowest : List ℕ) → IsIndexOf keeps places → n < 4096
     → lane.number ≡ number → lowest ≡ lowest_unmarked places number count n → length lowest ≡ count
     → lowest ≡ enough lane count (take count (filter (λ slot. not (list_any (takes_slot slot) keeps)) (range_with_len 1 n)))
 lowest_enough n count number lane keeps places lowest index small same is found =
@@ -158,7 +158,7 @@ lowest_enough n count number lane keeps places lowest index small same is found 
     equal a b e = grind (arith, nat_tests)
 
 -- too few were found
-pub lowest_too_few : (n count number : ℕ) (lane : Lane) (keeps : List Keeping) (places : List (Option ℕ)) (lowest : List ℕ) → IsIndexOf keeps places → n < 4096
+pub lowest_too_few : (n count number : ℕ) (lane : Lane) (keeps : List Remnant) (places : List (Option ℕ)) (lowest : List ℕ) → IsIndexOf keeps places → n < 4096
     → lane.number ≡ number → lowest ≡ lowest_unmarked places number count n → (length lowest ≡ count → ⊥)
     → [] ≡ enough lane count (take count (filter (λ slot. not (list_any (takes_slot slot) keeps)) (range_with_len 1 n)))
 lowest_too_few n count number lane keeps places lowest index small same is few =

@@ -8,7 +8,7 @@ use Rattle.section_model.specs.Step.{end_is_gone, is_over}
 use Rattle.section_model.specs.Lane.{fed}
 use Rattle.reference_law.specs.ReferenceLaw.{Stays, BothStay}
 use Rattle.reference_law.proofs.Following.{fed_stays}
-use Rattle.conn_lane.specs.Keeping.{Live, Seat, Keeping, live_of, left_after, seat_after, keeping_after, is_needed, needed}
+use Rattle.conn_lane.specs.Remnants.{Live, Seat, Remnant, live_of, left_after, seat_after, remnant_after, is_needed, needed}
 use Rattle.conn_lane.specs.Seated.{SeatIs, AreSeated, IsInLane, IsSeated}
 
 -- A seat.
@@ -33,7 +33,7 @@ lane_later freeze event is_gone (Some s) within = within
 
 -- An opening.
 
-abbrev pub kept_as : Option Live → Option Seat → Option Seat → Keeping
+abbrev pub kept_as : Option Live → Option Seat → Option Seat → Remnant
 kept_as live this that = record { live = live; this = this; that = that }
 
 -- a connection with its seats, whether it is over or not
@@ -46,7 +46,7 @@ seated_live ticks c this that is_this is_that in_this in_that = by_test (is_over
     by_test false on = record { on = on; live = (is_this, is_that); this = in_this; that = in_that }
 
 seated_parts : (event : Event) (live : Option Live) (this that : Option Seat)
-    → AreSeated live this that → IsInLane this → IsInLane that → IsSeated (keeping_after event (kept_as live this that))
+    → AreSeated live this that → IsInLane this → IsInLane that → IsSeated (remnant_after event (kept_as live this that))
 seated_parts event None this that are in_this in_that =
     record { on = tt; live = tt; this = lane_later 0 event false this in_this; that = lane_later 0 event false that in_that }
 seated_parts event (Some l) this that are in_this in_that =
@@ -61,14 +61,14 @@ seated_parts event (Some l) this that are in_this in_that =
     (lane_later l.ticks.freeze event (end_is_gone c.that) that in_that)
 
 -- one more event
-pub seated_after : (event : Event) (k : Keeping) → IsSeated k → IsSeated (keeping_after event k)
+pub seated_after : (event : Event) (k : Remnant) → IsSeated k → IsSeated (remnant_after event k)
 seated_after event k seated = seated_parts event k.live k.this k.that seated.live seated.this seated.that
 
 -- All openings.
 
-pub all_seated_after : (event : Event) (keeps : List Keeping) → All IsSeated keeps → All IsSeated (map (keeping_after event) keeps)
+pub all_seated_after : (event : Event) (keeps : List Remnant) → All IsSeated keeps → All IsSeated (map (remnant_after event) keeps)
 all_seated_after event keeps seated =
-    All-map IsSeated (keeping_after event) keeps (All-weaker IsSeated (λ k. IsSeated (keeping_after event k)) (seated_after event) keeps seated)
+    All-map IsSeated (remnant_after event) keeps (All-weaker IsSeated (λ k. IsSeated (remnant_after event k)) (seated_after event) keeps seated)
 
-pub all_seated_needed : (keeps : List Keeping) → All IsSeated keeps → All IsSeated (needed keeps)
+pub all_seated_needed : (keeps : List Remnant) → All IsSeated keeps → All IsSeated (needed keeps)
 all_seated_needed keeps seated = All-filter is_needed IsSeated keeps seated

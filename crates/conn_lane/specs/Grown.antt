@@ -9,8 +9,12 @@ use Rattle.plant_core.specs.declared.terms.LaneHead.{LaneHead}
 use Rattle.plant_core.specs.Asking.{answer_in}
 use Rattle.section_model.specs.Opening.{wish_of}
 use Rattle.section_coupling.specs.Duos.{taken_after}
-use Rattle.conn_lane.specs.Keeping.{needed}
-use Rattle.conn_lane.specs.Lanes.{OpeningsState, lane_of, conn_asked_of}
+use Rattle.conn_lane.specs.declared.lane.Context.{Context}
+use Rattle.conn_lane.specs.declared.lane.Turn.{Turn}
+use Rattle.conn_lane.specs.Remnants.{needed}
+use Rattle.conn_lane.specs.Journals.{lane_of}
+use Rattle.conn_lane.specs.Lanes.{conn_asked_of}
+use Rattle.conn_lane.specs.Views.{OpeningsState}
 use Rattle.conn_lane.specs.Turns.{outs_in, keeps_in}
 
 -- what comes of an event: the routing that it asks, the outputs, and what is kept
@@ -23,3 +27,7 @@ pub record Comes (plant : PlantState) (head : LaneHead) (number : ℕ) (event : 
 -- one more entry, with what comes of its event
 abbrev pub Grows : PlantState → LaneHead → ℕ → OpeningsState → OpeningsState → Entry → Type 0
 Grows plant head number before after entry = Comes plant head number entry.event before after entry.asked entry.outs
+
+-- what comes of an event in a lane, as the code has it
+abbrev pub TurnsInto : PlantState → Context → Event → OpeningsState → Turn → Type 0
+TurnsInto plant lane event before turn = Comes plant lane.head lane.number event before turn.openings turn.asked turn.outs

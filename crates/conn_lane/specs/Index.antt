@@ -1,15 +1,15 @@
--- The index of a lane: for each slot, the place of the opening that takes it.
+-- The index of a lane: for each slot of a local reference (Q.714, 3.3.2), the place of the opening that takes it.
 use Rattle.std.specs.Prelude.{◌≡◌, ℕ, ◌+◌, ◌*◌, ◌<◌, not, Bool, if◌then◌else◌, List, map, take, filter, position, get_or, Option, Some, None, is_some}
 use Rattle.std.specs.List.{range_with_len}
 use Rattle.section_model.specs.Lane.{slot_of}
 use Rattle.conn_lane.specs.declared.kept.Hold.{Hold}
-use Rattle.conn_lane.specs.Keeping.{Keeping, takes_slot, holds_out}
+use Rattle.conn_lane.specs.Remnants.{Remnant, takes_slot, holds_out}
 use Rattle.conn_lane.specs.Views.{seat_at}
 
 abbrev pub place_at : List (Option ℕ) → ℕ → Option ℕ
 place_at places slot = get_or places slot None
 
-abbrev pub IsIndexOf : List Keeping → List (Option ℕ) → Type 0
+abbrev pub IsIndexOf : List Remnant → List (Option ℕ) → Type 0
 IsIndexOf keeps places = (slot : ℕ) → slot < 4096 → place_at places slot ≡ position (takes_slot slot) keeps
 
 -- the slot of a reference that is held or frozen yet after so many ticks

@@ -8,32 +8,18 @@ use Rattle.plant_core.specs.declared.entry.Entry.{Entry}
 use Rattle.plant_core.specs.declared.terms.LaneHead.{LaneHead}
 use Rattle.plant_core.specs.Asking.{asked_at}
 use Rattle.section_model.specs.Opening.{wish_of, question_of}
-use Rattle.section_model.specs.Lane.{Lane, IsConnectionJournal}
-use Rattle.conn_lane.specs.Keeping.{Keeping}
 
 pub record ConnLaneState : Type 0 where
   pub head : LaneHead
   pub number : ℕ
   pub journal : List Entry
 
--- how many ticks a lane has taken, and what it keeps of its openings
-pub record OpeningsState : Type 0 where
-  pub taken : ℕ
-  pub keeps : List Keeping
-
-abbrev pub lane_of : LaneHead → ℕ → Lane
-lane_of head number = record { terms = head.terms; number = number }
-
--- the journal of the connection lane of this number
-abbrev pub IsConnJournal : LaneHead → ℕ → List Entry → Type 0
-IsConnJournal head number journal = IsConnectionJournal (lane_of head number) journal
-
 -- the routing that an event asks, at the edition of these routing data
 abbrev pub conn_asked_of : LaneHead → PlantState → Event → Option Asked
 conn_asked_of head plant e = asked_at plant.edition plant.routing (question_of (wish_of head.terms e))
 
 -- an event was taken with these routing data: the journal has one entry more
-pub record Takes (plant : PlantState) (stamp : Stamp) (e : Event) (old new : ConnLaneState) : Type 0 where
+pub record ConnLaneTakes (plant : PlantState) (stamp : Stamp) (e : Event) (old new : ConnLaneState) : Type 0 where
   pub entry : Entry
   pub journal : new.journal ≡ old.journal ++ entry ∷ []
   pub stamped : entry.stamp ≡ stamp

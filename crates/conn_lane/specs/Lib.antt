@@ -1,5 +1,6 @@
+pub mod Journals
 pub mod Lanes
-pub mod Keeping
+pub mod Remnants
 pub mod Seated
 pub mod Views
 pub mod Index

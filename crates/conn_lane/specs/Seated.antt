@@ -7,7 +7,7 @@ use Rattle.section_model.specs.Ends.{End}
 use Rattle.section_model.specs.Parameters.{arrival_in}
 use Rattle.section_model.specs.Step.{destination_of, named, end_is_gone, is_over}
 use Rattle.section_model.specs.Lane.{reference_of, slot_of}
-use Rattle.conn_lane.specs.Keeping.{Live, Seat, Keeping, takes_slot}
+use Rattle.conn_lane.specs.Remnants.{Live, Seat, Remnant, takes_slot}
 
 -- the seat of an end has its reference, and is frozen exactly once the end is gone
 abbrev pub SeatIs : End → Option Seat → Type 0
@@ -25,18 +25,18 @@ IsOn live = IfSome live (λ l. is_over l.connection ≡ false)
 abbrev pub IsInLane : Option Seat → Type 0
 IsInLane seat = IfSome seat (λ s. slot_of s.mine < 4096)
 
-pub record IsSeated (k : Keeping) : Type 0 where
+pub record IsSeated (k : Remnant) : Type 0 where
   pub on : IsOn k.live
   pub live : AreSeated k.live k.this k.that
   pub this : IsInLane k.this
   pub that : IsInLane k.that
 
 -- no slot is taken by two openings
-abbrev pub AreApart : List Keeping → Type 0
+abbrev pub AreApart : List Remnant → Type 0
 AreApart [] = Unit {0}
 AreApart (k ∷ more) = ((slot : ℕ) → takes_slot slot k ≡ true → list_any (takes_slot slot) more ≡ false) × AreApart more
 
-pub record AreOrderly (keeps : List Keeping) : Type 0 where
+pub record AreOrderly (keeps : List Remnant) : Type 0 where
   pub seated : All IsSeated keeps
   pub apart : AreApart keeps
 

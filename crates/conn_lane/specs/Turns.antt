@@ -12,41 +12,42 @@ use Rattle.section_model.specs.Laws.{openings_from}
 use Rattle.section_model.specs.Opening.{Wish, by_cr, by_user, no_wish, slots_needed, opened, Opened}
 use Rattle.section_model.specs.Lane.{Lane, stray_answer}
 use Rattle.section_coupling.specs.Sound.{IsCredit}
-use Rattle.conn_lane.specs.Keeping.{Keeping, keeping_of, keeping_after, first_part, all_parts, lowest_in, needed}
+use Rattle.conn_lane.specs.Remnants.{Remnant, remnant_of, remnant_after, first_part, all_parts, lowest_in, needed}
 use Rattle.conn_lane.specs.Laws.{unheard}
-use Rattle.conn_lane.specs.Lanes.{OpeningsState, IsConnJournal, lane_of}
+use Rattle.conn_lane.specs.Journals.{IsConnJournal, lane_of}
+use Rattle.conn_lane.specs.Views.{OpeningsState}
 
 -- the opening for a wish, with the lowest free references
-abbrev pub opened_in : Lane → List Keeping → Wish → Option Answer → Opened
+abbrev pub opened_in : Lane → List Remnant → Wish → Option Answer → Opened
 opened_in lane keeps wish answer = opened lane.terms wish answer (lowest_in lane keeps (slots_needed wish answer))
 
-abbrev pub other_outs_in : List Keeping → Event → List Output
+abbrev pub other_outs_in : List Remnant → Event → List Output
 other_outs_in keeps (Arrived point sls bytes) = unheard (first_part (Arrived point sls bytes) keeps) (stray_answer (Arrived point sls bytes))
 other_outs_in keeps (Requested ssn r) = unheard (first_part (Requested ssn r) keeps) (stray_answer (Requested ssn r))
 other_outs_in keeps Tick = all_parts Tick keeps
 
-abbrev pub outs_in : Lane → List Keeping → Event → Wish → Option Answer → List Output
+abbrev pub outs_in : Lane → List Remnant → Event → Wish → Option Answer → List Output
 outs_in lane keeps event (by_cr w) answer = (opened_in lane keeps (by_cr w) answer).outs
 outs_in lane keeps event (by_user ssn tag w) answer = (opened_in lane keeps (by_user ssn tag w) answer).outs
 outs_in lane keeps event no_wish answer = other_outs_in keeps event
 
 -- what is kept of a new connection
-abbrev pub new_keeping : Ticks → Option Connection → List Keeping
-new_keeping ticks None = []
-new_keeping ticks (Some c) = keeping_of ticks (record { first = c; since = [] }) ∷ []
+abbrev pub new_remnant : Ticks → Option Connection → List Remnant
+new_remnant ticks None = []
+new_remnant ticks (Some c) = remnant_of ticks (record { first = c; since = [] }) ∷ []
 
-abbrev pub keeps_in : Lane → List Keeping → Event → Wish → Option Answer → List Keeping
+abbrev pub keeps_in : Lane → List Remnant → Event → Wish → Option Answer → List Remnant
 keeps_in lane keeps event wish answer =
-    map (keeping_after event) keeps ++ new_keeping lane.terms.ticks (opened_in lane keeps wish answer).connection
+    map (remnant_after event) keeps ++ new_remnant lane.terms.ticks (opened_in lane keeps wish answer).connection
 
 -- what the lane keeps is, as far as it is needed, that of its journal's openings
-pub record Keeps (head : LaneHead) (number : ℕ) (journal : List Entry) (o : OpeningsState) : Type 0 where
-  pub keeps : needed o.keeps ≡ needed (map (keeping_of head.terms.ticks) (openings_from (lane_of head number) [] journal))
+pub record KeepsRemnants (head : LaneHead) (number : ℕ) (journal : List Entry) (o : OpeningsState) : Type 0 where
+  pub keeps : needed o.keeps ≡ needed (map (remnant_of head.terms.ticks) (openings_from (lane_of head number) [] journal))
   pub few : o.taken ≤ length journal
 
 -- the journal is legal, and unless want of memory spoilt it the lane keeps what it has to
 pub record IsConnLane (head : LaneHead) (number : ℕ) (journal : List Entry) (openings : Option OpeningsState) : Type 0 where
   pub legal : IsConnJournal head number journal
-  pub keeps : IfSome openings (Keeps head number journal)
+  pub keeps : IfSome openings (KeepsRemnants head number journal)
   pub lanes : number < 16
   pub credit : IsCredit head.terms.credit

@@ -5,9 +5,9 @@ use Rattle.relay_base.specs.declared.words.Event.TheVariants.{Tick}
 use Rattle.section_model.specs.Step.{hears, is_over, connection_step}
 use Rattle.section_coupling.specs.Duos.{DuoState, duo_at}
 use Rattle.conn_lane.specs.declared.kept.Hold.{Hold}
-use Rattle.conn_lane.specs.Keeping.{Live, Seat, Keeping, keeping_of}
+use Rattle.conn_lane.specs.Remnants.{Live, Seat, Remnant, remnant_of}
 
-pub record KeptState : Type 0 where
+pub record KeptOpeningState : Type 0 where
   pub duo : Option DuoState
   pub this : Option Hold
   pub that : Option Hold
@@ -38,15 +38,20 @@ abbrev pub until_after : ℕ → Bool → Option ℕ → Option ℕ
 until_after freed is_gone None = if is_gone then Some freed else None
 until_after freed is_gone (Some tick) = Some tick
 
-abbrev pub keeping_at : ℕ → KeptState → Keeping
-keeping_at now k = record {
+abbrev pub remnant_at : ℕ → KeptOpeningState → Remnant
+remnant_at now k = record {
   live = option_map (live_at now) k.duo;
   this = option_map (seat_at now) k.this;
   that = option_map (seat_at now) k.that;
 }
 
-abbrev pub keeping_all : ℕ → List KeptState → List Keeping
-keeping_all now kept = map (keeping_at now) kept
+abbrev pub remnants_at : ℕ → List KeptOpeningState → List Remnant
+remnants_at now kept = map (remnant_at now) kept
+
+-- how many ticks a lane has taken, and what it keeps of its openings
+pub record OpeningsState : Type 0 where
+  pub taken : ℕ
+  pub keeps : List Remnant
 
 -- its connection hears an event
 abbrev pub HearsAt : ℕ → Event → Option DuoState → Type 0
@@ -54,6 +59,6 @@ HearsAt now event None = ⊥
 HearsAt now event (Some d) = IsTrue (hears (duo_at now d) event)
 
 -- what is kept of a new connection
-abbrev pub news : ℕ → Option DuoState → List Keeping
+abbrev pub news : ℕ → Option DuoState → List Remnant
 news now None = []
-news now (Some d) = keeping_of d.ticks (record { first = duo_at now d; since = [] }) ∷ []
+news now (Some d) = remnant_of d.ticks (record { first = duo_at now d; since = [] }) ∷ []

@@ -1,11 +1,11 @@
-//! The index of the local references of a lane, and those that are free (Q.714, freezing of local references).
+//! The index of the local references of a lane, and those that are free (Q.714, 3.3.2).
 ghost use Rattle.std.specs.Prelude.{◌≡◌, ℕ, ◌<◌, ◌*◌, ◌+◌, replicate, List, None, IfOk, IfSome, option_map};
 ghost use Rattle.section_model.specs.Lane.{Lane, slot_of};
-ghost use Rattle.conn_lane.specs.Keeping.{Keeping, sits, takes_slot, lowest_in};
+ghost use Rattle.conn_lane.specs.Remnants.{Remnant, sits, takes_slot, lowest_in};
 ghost use Rattle.conn_lane.specs.Index.{place_at, marked, slot_held, lowest_unmarked, IsIndexOf};
-ghost use Rattle.conn_lane.specs.Views.{seat_at, keeping_at, keeping_all};
+ghost use Rattle.conn_lane.specs.Views.{seat_at, remnant_at, remnants_at};
 
-use crate::kept::{Hold, Kept};
+use crate::kept::{Hold, KeptOpening};
 use relay_base::{Memory, PlainList, Ref24};
 use std::alloc::Global;
 use std::marker::Model;
@@ -90,7 +90,9 @@ impl Index {
 
     /// Notes the place of an opening at the slot of a reference that it took, unless one before it takes that slot.
     fn mark(&mut self, now: u64, place: usize, hold: Option<Hold>)
-        ensures { (slot : ℕ) → slot < 4096 → place_at self.new slot ≡ marked place (sits slot (option_map (seat_at now) hold)) (place_at self.old slot) }
+        ensures { (slot : ℕ) → slot < 4096 →
+            let takes = sits slot (option_map (seat_at now) hold) in
+            place_at self.new slot ≡ marked place takes (place_at self.old slot) }
     {
         let Some(slot) = slot_held(now, hold) else {
             return;
@@ -101,8 +103,10 @@ impl Index {
     }
 
     /// The opening at a place takes its slots, after so many ticks.
-    pub fn take(&mut self, now: u64, place: usize, one: &Kept)
-        ensures { (slot : ℕ) → slot < 4096 → place_at self.new slot ≡ marked place (takes_slot slot (keeping_at now one.now)) (place_at self.old slot) }
+    pub fn take(&mut self, now: u64, place: usize, one: &KeptOpening)
+        ensures { (slot : ℕ) → slot < 4096 →
+            let takes = takes_slot slot (remnant_at now one.now) in
+            place_at self.new slot ≡ marked place takes (place_at self.old slot) }
     {
         self.mark(now, place, one.this);
         self.mark(now, place, one.that);
@@ -121,8 +125,8 @@ impl Index {
     }
 
     /// The index of these openings, after so many ticks.
-    pub fn of(alloc: Global, now: u64, kept: &[Kept]) -> Result<Index, Memory>
-        ensures { IfOk result (λ index. IsIndexOf (keeping_all now kept.now) index) }
+    pub fn of(alloc: Global, now: u64, kept: &[KeptOpening]) -> Result<Index, Memory>
+        ensures { IfOk result (λ index. IsIndexOf (remnants_at now kept.now) index) }
     {
         let mut index = Index::new(alloc)?;
         for (place, one) in kept.iter().enumerate() {
@@ -153,7 +157,8 @@ impl Index {
     /// no opening takes it.
     pub fn lowest_free(&self, alloc: Global, number: u8, count: u8) -> Result<RefList, Memory>
         requires { number < 16 }
-        ensures { (lane : Lane) (keeps : List Keeping) → lane.number ≡ number → IsIndexOf keeps self.now → IfOk result (λ refs. refs ≡ lowest_in lane keeps count) }
+        ensures { (lane : Lane) (keeps : List Remnant) → lane.number ≡ number →
+            IsIndexOf keeps self.now → IfOk result (λ refs. refs ≡ lowest_in lane keeps count) }
     {
         let lowest = self.lowest_unmarked(alloc, number, count)?;
         if lowest.len() == usize::from(count) {

@@ -4,18 +4,18 @@ ghost use Rattle.std.specs.Option.{option_map};
 ghost use Rattle.relay_base.specs.declared.words.Event.TheVariants.{Tick};
 ghost use Rattle.section_model.specs.Step.{hears, end_is_gone};
 ghost use Rattle.section_model.specs.Lane.{fed, reference_of};
-ghost use Rattle.section_coupling.specs.Duos.{duo_at, taken_after, side_of};
-ghost use Rattle.conn_lane.specs.Keeping.{keeping_of, keeping_after, seat_after, part_in, part_at, or_none, live_of, seat_by, holds_out, is_needed, is_freed, has_freed};
+ghost use Rattle.section_coupling.specs.Duos.{duo_at, taken_after, end_numbered};
+ghost use Rattle.conn_lane.specs.Remnants.{remnant_of, remnant_after, seat_after, part_in, part_at, or_none, live_of, seat_by, holds_out, is_needed, is_freed, has_freed};
 ghost use Rattle.conn_lane.specs.Seated.{IsSeated};
-ghost use Rattle.conn_lane.specs.Views.{IsAlive, HearsAt, live_at, until_after, seat_at, keeping_at};
+ghost use Rattle.conn_lane.specs.Views.{IsAlive, HearsAt, live_at, until_after, seat_at, remnant_at};
 
 use relay_base::{Event, Memory, Outs, Ref24};
-use section_coupling::Duo;
+use section_coupling::{Duo, taken_after};
 use std::alloc::Global;
 use std::marker::Model;
 
 /// A local reference that an end took, and, once the end is gone, the lane's tick, counted from 1, by which its freeze is over.
-#[derive(Clone, Copy, Debug, PartialEq, Eq)]
+#[derive(Clone, Copy)]
 pub struct Hold {
     pub mine: Ref24,
     pub until: Option<u64>,
@@ -24,18 +24,18 @@ pub struct Hold {
 /// What a lane keeps of an opening: the connection until it is over, the local references of its two ends, and the lane's tick up to which
 /// a tick only brings the connection's timers nearer.
 #[derive(Drop)]
-pub struct Kept {
+pub struct KeptOpening {
     pub duo: Option<Box<Duo>>,
     pub this: Option<Hold>,
     pub that: Option<Hold>,
     pub wakes: u64,
 }
 
-impl Model for Kept {
+impl Model for KeptOpening {
     ghost use Rattle.std.specs.Prelude.{option_map};
-    ghost use Rattle.conn_lane.specs.Views.{KeptState, IsAlive, IsAsleep};
+    ghost use Rattle.conn_lane.specs.Views.{KeptOpeningState, IsAlive, IsAsleep};
 
-    ghost Value = { KeptState };
+    ghost Value = { KeptOpeningState };
 
     ghost view = { λ k. record { duo = option_map (λ b. b.value) k.duo; this = k.this; that = k.that } };
 
@@ -45,7 +45,10 @@ impl Model for Kept {
 impl Hold {
     /// The reference of an end after an event, by which the end may be gone; `freed` is the tick by which a freeze that begins now is over.
     fn after(self, freed: u64, is_gone: bool) -> Hold
-        ensures { result ≡ record { mine = self.mine; until = until_after freed is_gone self.until } }
+        ensures { result ≡ record {
+          mine = self.mine;
+          until = until_after freed is_gone self.until;
+        } }
     {
         let until = match self.until {
             Some(until) => Some(until),
@@ -91,19 +94,22 @@ fn is_freed(hold: &Option<Hold>, now: u64) -> bool
 
 /// The local reference that an end took, after an event.
 #[tactic(auto, using(crate::proofs::Holds::hold_later))]
-fn hold_after(now: u64, event: &Event, duo: &Duo, side: u8, hold: Option<Hold>) -> Option<Hold>
+fn hold_after(now: u32, event: &Event, duo: &Duo, side: u8, hold: Option<Hold>) -> Option<Hold>
     requires side { side < 2 }
-    requires now { now ≤ 4_294_967_295 }
-    ensures { option_map (seat_at (taken_after now event.now)) result ≡ seat_after duo.now.ticks.freeze event.now (end_is_gone (side_of side (duo_at (taken_after now event.now) duo.now))) (option_map (seat_at now) hold) }
+    ensures { let later = taken_after now event.now in
+        let gone = end_is_gone (end_numbered side (duo_at later duo.now)) in
+        option_map (seat_at later) result ≡
+        seat_after duo.now.ticks.freeze event.now gone (option_map (seat_at now) hold) }
 {
     let hold = hold?;
-    let freed = taken_after(now, event) + u64::from(duo.freeze());
+    let freed = taken_after(now, event).number() + u64::from(duo.freeze());
     Some(hold.after(freed, duo.gone(side)))
 }
 
 /// The connection, unless it is over.
 fn unless_over(alloc: Global, duo: Duo) -> Result<Option<Box<Duo>>, Memory>
-    ensures live { (now : ℕ) → IfOk result (λ kept. option_map (λ b. live_at now b.value) kept ≡ live_of duo.ticks (duo_at now duo)) }
+    ensures live { (now : ℕ) → IfOk result (λ kept.
+        option_map (λ b. live_at now b.value) kept ≡ live_of duo.ticks (duo_at now duo)) }
     ensures alive { IfOk result (λ kept. IsAlive (option_map (λ b. b.value) kept)) }
     ensures same { IfOk result (λ kept. IfSome kept (λ b. b.value ≡ duo)) }
 {
@@ -115,55 +121,56 @@ fn unless_over(alloc: Global, duo: Duo) -> Result<Option<Box<Duo>>, Memory>
 
 /// The local reference that an end of a new connection took.
 #[tactic(auto, using(crate::proofs::Holds::hold_new))]
-fn hold_of(now: u64, duo: &Duo, side: u8) -> Option<Hold>
+fn hold_of(now: u32, duo: &Duo, side: u8) -> Option<Hold>
     requires side { side < 2 }
-    requires now { now ≤ 4_294_967_295 }
-    ensures { option_map (seat_at now) result ≡ seat_by duo.now.ticks.freeze (if end_is_gone (side_of side (duo_at now duo.now)) then Some 0 else None) (reference_of (side_of side (duo_at now duo.now))) }
+    ensures { let end = end_numbered side (duo_at now duo.now) in
+        let gone = (if end_is_gone end then Some 0 else None) in
+        option_map (seat_at now) result ≡ seat_by duo.now.ticks.freeze gone (reference_of end) }
 {
     let mine = duo.reference(side)?;
-    let freed = now + u64::from(duo.freeze());
+    let freed = u64::from(now) + u64::from(duo.freeze());
     let until = if duo.gone(side) { Some(freed) } else { None };
     Some(Hold { mine, until })
 }
 
 /// A connection after an event that it hears, and the outputs of that.
-fn feed(duo: &Duo, now: u64, event: &Event) -> Result<(Duo, Outs), Memory>
-    requires now { now ≤ 4_294_967_295 }
+fn feed(duo: &Duo, now: u32, event: &Event) -> Result<(Duo, Outs), Memory>
     requires hears { IsTrue (hears (duo_at now duo.now) event.now) }
-    ensures fed { IfOk result (λ r. duo_at (taken_after now event.now) r.0 ≡ fed duo.now.ticks (duo_at now duo.now) event.now) }
+    ensures fed { let later = taken_after now event.now in IfOk result (λ r.
+        duo_at later r.0 ≡ fed duo.now.ticks (duo_at now duo.now) event.now) }
     ensures ticks { IfOk result (λ r. r.0.ticks ≡ duo.now.ticks) }
     ensures part { IfOk result (λ r. Some r.1 ≡ part_in event.now (live_at now duo.now)) }
 {
-    let heard = duo.hear(now, event)?;
+    let heard = duo.hear(u64::from(now), event)?;
     Ok((heard.duo, heard.outs))
 }
 
-impl Kept {
+impl KeptOpening {
     /// Whether its connection isn't over, or a reference of it is held or frozen after so many ticks.
     pub fn is_needed(&self, now: u64) -> bool
-        ensures { result ≡ is_needed (keeping_at now self.now) }
+        ensures { result ≡ is_needed (remnant_at now self.now) }
     {
         self.duo.is_some() || is_held(&self.this, now) || is_held(&self.that, now)
     }
 
     /// Whether a reference of it is free again after so many ticks.
     pub fn has_freed(&self, now: u64) -> bool
-        ensures { result ≡ has_freed (keeping_at now self.now) }
+        ensures { result ≡ has_freed (remnant_at now self.now) }
     {
         is_freed(&self.this, now) || is_freed(&self.that, now)
     }
 
     /// What is kept of a connection that was just opened.
     #[tactic(auto, unfolding(section_model::specs::Lane::gone_for, section_model::specs::Lane::follow, section_model::specs::Lane::heard))]
-    pub fn opened(alloc: Global, now: u64, duo: Duo) -> Result<Kept, Memory>
-        requires now { now ≤ 4_294_967_295 }
-        ensures keeping { IfOk result (λ k. keeping_at now k ≡ keeping_of duo.ticks (record { first = duo_at now duo; since = [] })) }
+    pub fn opened(alloc: Global, now: u32, duo: Duo) -> Result<KeptOpening, Memory>
+        ensures keeping { IfOk result (λ k. remnant_at now k ≡
+            remnant_of duo.ticks (record { first = duo_at now duo; since = [] })) }
     {
         let this = hold_of(now, &duo, 0);
         let that = hold_of(now, &duo, 1);
         let wakes = duo.wakes();
         let duo = unless_over(alloc, duo)?;
-        Ok(Kept {
+        Ok(KeptOpening {
             duo,
             this,
             that,
@@ -182,11 +189,13 @@ impl Kept {
     }
 
     /// An event that its connection hears, and the outputs of that. After `Memory` all is as before.
-    pub fn hear(&mut self, alloc: Global, now: u64, event: &Event) -> Result<Outs, Memory>
-        requires now { now ≤ 4_294_967_295 }
+    pub fn hear(&mut self, alloc: Global, now: u32, event: &Event) -> Result<Outs, Memory>
         requires hears { HearsAt now event.now self.old.duo }
-        ensures keeping { OnOk result (keeping_at (taken_after now event.now) self.new ≡ keeping_after event.now (keeping_at now self.old)) }
-        ensures outs { IfOk result (λ outs. Some outs ≡ part_at event.now (option_map (live_at now) self.old.duo)) }
+        ensures keeping { let later = taken_after now event.now in
+            OnOk result
+            (remnant_at later self.new ≡ remnant_after event.now (remnant_at now self.old)) }
+        ensures outs { let live = option_map (live_at now) self.old.duo in
+            IfOk result (λ outs. Some outs ≡ part_at event.now live) }
         ensures err { OnErr result (self.new ≡ self.old) }
     {
         let Some(duo) = &self.duo else {
@@ -197,7 +206,7 @@ impl Kept {
         let that = hold_after(now, event, &duo, 1, self.that);
         let wakes = duo.wakes();
         let duo = unless_over(alloc, duo)?;
-        *self = Kept {
+        *self = KeptOpening {
             duo,
             this,
             that,
@@ -206,30 +215,20 @@ impl Kept {
         Ok(outs)
     }
 
-    /// A tick, and the outputs of that, None where it only brings timers nearer; `now` is how many ticks the lane took before. After `Memory` all
+    /// A tick, and the outputs of that: none where it only brings timers nearer. `now` is how many ticks the lane took before. After `Memory` all
     /// is as before.
     #[tactic(auto, using(crate::proofs::Holds::sleeps_on))]
-    pub fn tick(&mut self, alloc: Global, now: u64) -> Result<Option<Outs>, Memory>
-        requires now { now ≤ 4_294_967_295 }
-        requires seated { IsSeated (keeping_at now self.old) }
-        ensures keeping { OnOk result (keeping_at (now + 1) self.new ≡ keeping_after Tick (keeping_at now self.old)) }
-        ensures outs { IfOk result (λ part. or_none part ≡ or_none (part_at Tick (option_map (live_at now) self.old.duo))) }
+    pub fn tick(&mut self, alloc: Global, now: u32) -> Result<Outs, Memory>
+        requires seated { IsSeated (remnant_at now self.old) }
+        ensures keeping { OnOk result
+            (remnant_at (now + 1) self.new ≡ remnant_after Tick (remnant_at now self.old)) }
+        ensures outs { let live = option_map (live_at now) self.old.duo in
+            IfOk result (λ outs. outs ≡ or_none (part_at Tick live)) }
         ensures err { OnErr result (self.new ≡ self.old) }
     {
-        if self.duo.is_none() || now + 1 < self.wakes {
-            return Ok(None);
+        if self.duo.is_none() || u64::from(now) + 1 < self.wakes {
+            return Ok(Outs::new(alloc));
         }
-        Ok(Some(self.hear(alloc, now, &Event::Tick)?))
-    }
-}
-
-/// How many ticks a lane has taken after an event.
-pub fn taken_after(now: u64, event: &Event) -> u64
-    requires { now ≤ 4_294_967_295 }
-    ensures { result ≡ taken_after now event.now }
-{
-    match event {
-        Event::Message { .. } | Event::Asked { .. } => now,
-        Event::Tick => now + 1,
+        self.hear(alloc, now, &Event::Tick)
     }
 }

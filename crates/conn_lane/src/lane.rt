@@ -1,25 +1,29 @@
 //! The connection lane.
-ghost use Rattle.std.specs.Prelude.{◌≡◌, ◌≤◌, ◌<◌, ◌^◌, [], length, true, false, IfOk, IfSome, OnOk, OnErr};
+ghost use Rattle.std.specs.Prelude.{◌≡◌, ◌≤◌, ◌<◌, ◌^◌, ◌++◌, [], length, map, true, false, IfOk, IfSome, OnOk, OnErr};
 ghost use Rattle.plant_core.specs.declared.terms.Terms.{Terms};
 ghost use Rattle.std.specs.Option.{option_map};
-ghost use Rattle.plant_core.specs.Asking.{seen_ask, answer_to, asked_at, answer_in};
+ghost use Rattle.plant_core.specs.Asking.{answer_in};
 ghost use Rattle.section_model.specs.Opening.{wish_of, question_of, slots_needed};
 ghost use Rattle.relay_base.specs.declared.words.Event.TheVariants.{Tick};
 ghost use Rattle.section_model.specs.Lane.{stray_answer, is_tick};
 ghost use Rattle.section_coupling.specs.Duos.{duo_at};
 ghost use Rattle.section_coupling.specs.Openings.{IsAnswered, is_wish};
 ghost use Rattle.section_coupling.specs.Sound.{IsCredit};
+ghost use Rattle.conn_lane.specs.Remnants.{remnant_after};
 ghost use Rattle.conn_lane.specs.Laws.{unheard};
+ghost use Rattle.conn_lane.specs.Seated.{AreOrderly};
+ghost use Rattle.conn_lane.specs.Views.{news};
 ghost use Rattle.conn_lane.specs.Turns.{opened_in};
-ghost use Rattle.conn_lane.specs.Lanes.{lane_of, conn_asked_of};
-ghost use Rattle.conn_lane.specs.Grown.{Comes, Grows};
+ghost use Rattle.conn_lane.specs.Journals.{lane_of};
+ghost use Rattle.conn_lane.specs.Lanes.{conn_asked_of};
+ghost use Rattle.conn_lane.specs.Grown.{TurnsInto, Grows};
 
 use crate::openings::Openings;
-use plant_core::{Answer, Ask, Asked, Entry, EntryList, LaneHead, Plant, fitted};
+use plant_core::{Answer, Asked, Entry, EntryList, LaneHead, Plant, fitted};
 use relay_base::{Event, Memory, Outs, Stamp};
-use routing_control::route;
+use routing_control::asked;
 use section_coupling::{Begun, Duo, ask_of, opens, stray};
-use std::alloc::{AllocError, Global};
+use std::alloc::Global;
 use std::marker::Model;
 
 /// The connections of one lane. Its journal is a legal one at all times.
@@ -42,22 +46,6 @@ impl Model for ConnLane {
     ghost view = { λ l. record { head = l.head; number = l.number; journal = l.journal } };
 
     ghost invariant = { λ l. IsConnLane l.head l.number l.journal l.openings };
-}
-
-fn copy_of(event: &Event) -> Result<Event, AllocError>
-    ensures { IfOk result (λ copy. copy ≡ event.now) }
-{
-    event.clone()
-}
-
-/// The answer of the routing data, at their edition.
-fn asked(plant: &Plant, ask: &Ask<'_>) -> Asked
-    ensures { result ≡ record { edition = plant.now.edition; answer = answer_to plant.now.routing (seen_ask ask.now) } }
-{
-    Asked {
-        edition: plant.edition(),
-        answer: route(plant, &ask.called, ask.hop, ask.origin),
-    }
 }
 
 /// The routing that an event asks.
@@ -118,12 +106,28 @@ fn answer_in(asked: &Option<Asked>) -> Option<&Answer>
 /// How many references an opening takes.
 #[tactic(auto, using(crate::proofs::LaneGrows::none_needed))]
 fn needed(event: &Event, answer: Option<&Answer>) -> u8
-    ensures { (terms : Terms) → result ≡ slots_needed (wish_of terms event.now) (option_map (λ a. a.now) answer.entry) }
+    ensures { (terms : Terms) → result ≡
+        slots_needed (wish_of terms event.now) (option_map (λ a. a.now) answer.entry) }
 {
     match answer {
         Some(answer) => Duo::needs(event, answer),
         None => 0,
     }
+}
+
+/// The openings after an event that opens a connection, with that.
+fn joined(event: &Event, openings: Openings, duo: Option<Duo>) -> Result<Openings, Memory>
+    requires event { is_tick event.now ≡ false }
+    requires taken { openings.taken ≤ 4_294_967_295 }
+    requires orderly { let later = map (remnant_after event.now) openings.keeps in
+        AreOrderly (later ++ news openings.taken duo) }
+    ensures { IfOk result (λ after. after ≡ record {
+      taken = openings.taken;
+      keeps = map (remnant_after event.now) openings.keeps ++ news openings.taken duo;
+    }) }
+{
+    let (openings, _) = openings.hear(event)?;
+    openings.with(duo)
 }
 
 impl Context {
@@ -138,9 +142,17 @@ impl Context {
         requires taken { openings.now.taken ≤ 4_294_967_295 }
         requires number { self.now.number < 16 }
         requires credit { IsCredit self.now.head.terms.credit }
-        requires answered { IsAnswered (wish_of self.now.head.terms event.now) (answer_in asked.now) }
-        ensures opened { IfOk result (λ b. opened_in (lane_of self.now.head self.now.number) openings.now.keeps (wish_of self.now.head.terms event.now) (answer_in asked.now) ≡ record { connection = option_map (duo_at openings.now.taken) b.duo; outs = b.outs }) }
-        ensures ticks { IfOk result (λ b. IfSome b.duo (λ d. d.ticks ≡ self.now.head.terms.ticks)) }
+        requires answered { let wish = wish_of self.now.head.terms event.now in
+            IsAnswered wish (answer_in asked.now) }
+        ensures opened { let lane = lane_of self.now.head self.now.number in
+            let wish = wish_of self.now.head.terms event.now in IfOk result (λ b.
+            opened_in lane openings.now.keeps wish (answer_in asked.now) ≡
+            record {
+              connection = option_map (duo_at openings.now.taken) b.duo;
+              outs = b.outs;
+            }) }
+        ensures ticks { IfOk result (λ b.
+            IfSome b.duo (λ d. d.ticks ≡ self.now.head.terms.ticks)) }
     {
         let answer = answer_in(asked);
         let count = needed(event, answer);
@@ -162,12 +174,11 @@ impl Context {
         requires number { self.now.number < 16 }
         requires credit { IsCredit self.now.head.terms.credit }
         requires wish { is_wish (wish_of self.now.head.terms event.now) ≡ true }
-        ensures { IfOk result (λ turn. Comes plant.now self.now.head self.now.number event.now openings turn.openings turn.asked turn.outs) }
+        ensures { IfOk result (λ turn. TurnsInto plant.now self.now event.now openings turn) }
     {
         let asked = asked_by(plant, event);
         let begun = self.begin(event, &asked, &openings)?;
-        let (openings, _) = openings.hear(event)?;
-        let openings = openings.with(begun.duo)?;
+        let openings = joined(event, openings, begun.duo)?;
         Ok(Turn {
             openings,
             asked,
@@ -178,7 +189,7 @@ impl Context {
     /// A tick.
     fn tick(&self, plant: &Plant, openings: Openings) -> Result<Turn, Memory>
         requires taken { openings.taken ≤ 4_294_967_295 }
-        ensures { IfOk result (λ turn. Comes plant.now self.now.head self.now.number Tick openings turn.openings turn.asked turn.outs) }
+        ensures { IfOk result (λ turn. TurnsInto plant.now self.now Tick openings turn) }
     {
         let (openings, outs) = openings.tick()?;
         Ok(Turn {
@@ -193,7 +204,7 @@ impl Context {
         requires taken { openings.taken ≤ 4_294_967_295 }
         requires event { is_tick event.now ≡ false }
         requires wish { is_wish (wish_of self.now.head.terms event.now) ≡ false }
-        ensures { IfOk result (λ turn. Comes plant.now self.now.head self.now.number event.now openings turn.openings turn.asked turn.outs) }
+        ensures { IfOk result (λ turn. TurnsInto plant.now self.now event.now openings turn) }
     {
         let (openings, part) = openings.hear(event)?;
         let outs = or_stray(self.alloc, event, part)?;
@@ -209,7 +220,7 @@ impl Context {
         requires taken { openings.taken ≤ 4_294_967_295 }
         requires number { self.now.number < 16 }
         requires credit { IsCredit self.now.head.terms.credit }
-        ensures { IfOk result (λ turn. Comes plant.now self.now.head self.now.number event.now openings turn.openings turn.asked turn.outs) }
+        ensures { IfOk result (λ turn. TurnsInto plant.now self.now event.now openings turn) }
     {
         if matches!(event, Event::Tick) {
             self.tick(plant, openings)
@@ -231,7 +242,8 @@ impl Context {
         requires taken { openings.taken ≤ 4_294_967_295 }
         requires number { self.now.number < 16 }
         requires credit { IsCredit self.now.head.terms.credit }
-        ensures grows { IfOk result (λ r. Grows plant.now self.now.head self.now.number openings r.0 r.1) }
+        ensures grows { IfOk result (λ r.
+            Grows plant.now self.now.head self.now.number openings r.0 r.1) }
         ensures stamp { IfOk result (λ r. r.1.stamp ≡ stamp) }
         ensures event { IfOk result (λ r. r.1.event ≡ event.now) }
     {
@@ -240,7 +252,7 @@ impl Context {
             asked,
             outs,
         } = self.turn(plant, event, openings)?;
-        let event = copy_of(event)?;
+        let event = event.copied()?;
         let entry = Entry {
             stamp,
             event,
@@ -252,13 +264,15 @@ impl Context {
 }
 
 impl ConnLane {
-    ghost use Rattle.conn_lane.specs.Lanes.{IsConnJournal, Takes};
+    ghost use Rattle.conn_lane.specs.Journals.{IsConnJournal};
+    ghost use Rattle.conn_lane.specs.Lanes.{ConnLaneTakes};
 
     /// The connection lane of this number, 0 to 15, before its first event. The greatest credit of its head is 127 at most.
     pub fn new(alloc: Global, head: &LaneHead, number: u8) -> Result<ConnLane, Memory>
         requires number { number < 16 }
         requires credit { IsCredit head.now.terms.credit }
-        ensures { IfOk result (λ lane. lane ≡ record { head = head.now; number = number; journal = [] }) }
+        ensures { IfOk result (λ lane. lane ≡
+            record { head = head.now; number = number; journal = [] }) }
     {
         Ok(ConnLane {
             alloc,
@@ -272,7 +286,7 @@ impl ConnLane {
     /// Takes an event, with these routing data. After want of memory the journal is as before, and the lane takes no more.
     pub fn step(&mut self, plant: &Plant, stamp: Stamp, event: &Event) -> Result<(), Memory>
         requires few { length self.old.journal < 2 ^ 32 }
-        ensures ok { OnOk result (Takes plant.now stamp event.now self.old self.new) }
+        ensures ok { OnOk result (ConnLaneTakes plant.now stamp event.now self.old self.new) }
         ensures err { OnErr result (self.new ≡ self.old) }
     {
         let Some(openings) = self.openings.take() else {

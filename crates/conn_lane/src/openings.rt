@@ -1,20 +1,19 @@
 //! The openings of a lane that are needed yet, and the index of their local references.
-ghost use Rattle.std.specs.Prelude.{◌≡◌, ◌≤◌, ◌<◌, ◌+◌, ◌++◌, [], All, map, false, Some, IfOk, OnOk};
+ghost use Rattle.std.specs.Prelude.{◌≡◌, ◌≤◌, ◌<◌, ◌+◌, ◌++◌, [], All, map, false, Some, IfOk};
 ghost use Rattle.relay_base.specs.declared.words.Event.TheVariants.{Tick};
 ghost use Rattle.section_model.specs.Lane.{Lane, is_tick};
-ghost use Rattle.conn_lane.specs.Keeping.{keeping_after, first_part, all_parts, or_none, lowest_in, needed};
+ghost use Rattle.conn_lane.specs.Remnants.{remnant_after, first_part, all_parts, lowest_in, needed};
 ghost use Rattle.conn_lane.specs.Seated.{IsSeated, AreOrderly, reference_in};
-ghost use Rattle.conn_lane.specs.Views.{keeping_all, news};
+ghost use Rattle.conn_lane.specs.Views.{remnants_at, news};
 ghost use Rattle.conn_lane.specs.Finding.{IsFoundAt};
 
 use crate::index::{Index, RefList};
-use crate::kept::Kept;
+use crate::kept::KeptOpening;
 use relay_base::{Event, Memory, Outs, Ref24};
 use section_coupling::{Duo, named};
 use section_model::arrival_in;
 use std::alloc::Global;
 use std::marker::Model;
-use std::mem;
 
 /// The openings of a lane that are needed yet, in the order in which they were opened, how many ticks the lane has taken, and for each slot the
 /// opening that takes it.
@@ -22,21 +21,20 @@ use std::mem;
 pub struct Openings {
     alloc: Global,
     taken: u64,
-    kept: Vec<Kept>,
+    kept: Vec<KeptOpening>,
     index: Index,
 }
 
 impl Model for Openings {
-    ghost use Rattle.conn_lane.specs.Views.{keeping_all};
+    ghost use Rattle.conn_lane.specs.Views.{remnants_at, OpeningsState};
     ghost use Rattle.conn_lane.specs.Seated.{AreOrderly};
     ghost use Rattle.conn_lane.specs.Index.{IsIndexOf};
-    ghost use Rattle.conn_lane.specs.Lanes.{OpeningsState};
 
     ghost Value = { OpeningsState };
 
-    ghost view = { λ o. record { taken = o.taken; keeps = keeping_all o.taken o.kept.items } };
+    ghost view = { λ o. record { taken = o.taken; keeps = remnants_at o.taken o.kept.items } };
 
-    ghost invariant = { λ o. AreOrderly (keeping_all o.taken o.kept.items) × IsIndexOf (keeping_all o.taken o.kept.items) o.index };
+    ghost invariant = { λ o. AreOrderly (remnants_at o.taken o.kept.items) × IsIndexOf (remnants_at o.taken o.kept.items) o.index };
 }
 
 /// The local reference that a message or a request names.
@@ -53,40 +51,30 @@ fn reference_in(event: &Event) -> Option<Ref24>
     }
 }
 
-/// Puts outputs at the end, where there are any.
-fn append(alloc: Global, outs: &mut Outs, part: Option<Outs>) -> Result<(), Memory>
-    ensures { OnOk result (outs.new ≡ outs.old ++ or_none part) }
-{
-    let Some(more) = part else {
-        return Ok(());
-    };
-    let mut items = mem::replace(outs, Outs::new(alloc)).into_vec();
-    let mut added = more.into_vec();
-    items.append(&mut added)?;
-    *outs = Outs::from(items);
-    Ok(())
-}
-
 /// A tick on each opening; `now` is how many ticks the lane took before. The outputs stand one after another.
-fn tick_each(alloc: Global, now: u64, kept: Vec<Kept>) -> Result<(Vec<Kept>, Outs), Memory>
-    requires now { now ≤ 4_294_967_295 }
-    requires seated { All IsSeated (keeping_all now kept.items) }
-    ensures keeps { IfOk result (λ r. keeping_all (now + 1) r.0.items ≡ map (keeping_after Tick) (keeping_all now kept.items)) }
-    ensures all { IfOk result (λ r. r.1 ≡ all_parts Tick (keeping_all now kept.items)) }
+fn tick_each(
+    alloc: Global,
+    now: u32,
+    kept: Vec<KeptOpening>,
+) -> Result<(Vec<KeptOpening>, Outs), Memory>
+    requires seated { All IsSeated (remnants_at now kept.items) }
+    ensures keeps { IfOk result (λ r. remnants_at (now + 1) r.0.items ≡
+        map (remnant_after Tick) (remnants_at now kept.items)) }
+    ensures all { IfOk result (λ r. r.1 ≡ all_parts Tick (remnants_at now kept.items)) }
 {
     let mut next = Vec::with_capacity(alloc, kept.len())?;
     let mut outs = Outs::new(alloc);
     for mut one in kept {
         let part = one.tick(alloc, now)?;
-        append(alloc, &mut outs, part)?;
+        outs.append(part)?;
         next.push(one)?;
     }
     Ok((next, outs))
 }
 
 /// The openings that are needed after so many ticks: one whose connection is over and whose references are free again does nothing more.
-fn needed(alloc: Global, now: u64, kept: Vec<Kept>) -> Result<Vec<Kept>, Memory>
-    ensures { IfOk result (λ r. keeping_all now r.items ≡ needed (keeping_all now kept.items)) }
+fn needed(alloc: Global, now: u64, kept: Vec<KeptOpening>) -> Result<Vec<KeptOpening>, Memory>
+    ensures { IfOk result (λ r. remnants_at now r.items ≡ needed (remnants_at now kept.items)) }
 {
     let mut next = Vec::with_capacity(alloc, kept.len())?;
     for one in kept {
@@ -111,9 +99,10 @@ impl Openings {
     }
 
     /// These openings, after so many ticks.
-    fn of(alloc: Global, taken: u64, kept: Vec<Kept>) -> Result<Openings, Memory>
-        requires { AreOrderly (keeping_all taken kept.items) }
-        ensures { IfOk result (λ o. o ≡ record { taken = taken; keeps = keeping_all taken kept.items }) }
+    fn of(alloc: Global, taken: u64, kept: Vec<KeptOpening>) -> Result<Openings, Memory>
+        requires { AreOrderly (remnants_at taken kept.items) }
+        ensures { IfOk result (λ o. o ≡
+            record { taken = taken; keeps = remnants_at taken kept.items }) }
     {
         let index = Index::of(alloc, taken, &kept)?;
         Ok(Openings {
@@ -151,7 +140,8 @@ impl Openings {
         requires event { is_tick event.now ≡ false }
         requires taken { self.taken ≤ 4_294_967_295 }
         ensures part { IfOk result (λ r. r.1 ≡ first_part event.now self.keeps) }
-        ensures keeps { IfOk result (λ r. r.0 ≡ record { taken = self.taken; keeps = map (keeping_after event.now) self.keeps }) }
+        ensures keeps { IfOk result (λ r. r.0 ≡
+            record { taken = self.taken; keeps = map (remnant_after event.now) self.keeps }) }
     {
         let Some(place) = self.place_of(event) else {
             return Ok((self, None));
@@ -162,7 +152,7 @@ impl Openings {
             mut kept,
             index,
         } = self;
-        let outs = kept[place].hear(alloc, taken, event)?;
+        let outs = kept[place].hear(alloc, taken as u32, event)?;
         if kept[place].has_freed(taken) {
             return Ok((Openings::of(alloc, taken, kept)?, Some(outs)));
         }
@@ -179,7 +169,8 @@ impl Openings {
     pub fn tick(self) -> Result<(Openings, Outs), Memory>
         requires taken { self.taken ≤ 4_294_967_295 }
         ensures outs { IfOk result (λ r. r.1 ≡ all_parts Tick self.keeps) }
-        ensures keeps { IfOk result (λ r. r.0 ≡ record { taken = self.taken + 1; keeps = needed (map (keeping_after Tick) self.keeps) }) }
+        ensures keeps { let keeps = needed (map (remnant_after Tick) self.keeps) in
+            IfOk result (λ r. r.0 ≡ record { taken = self.taken + 1; keeps = keeps }) }
     {
         let Openings {
             alloc,
@@ -187,7 +178,7 @@ impl Openings {
             kept,
             ..
         } = self;
-        let (kept, outs) = tick_each(alloc, taken, kept)?;
+        let (kept, outs) = tick_each(alloc, taken as u32, kept)?;
         let kept = needed(alloc, taken + 1, kept)?;
         Ok((Openings::of(alloc, taken + 1, kept)?, outs))
     }
@@ -195,7 +186,8 @@ impl Openings {
     /// The local references of so many lowest free slots, in the lane of this number, or none where there are too few.
     pub fn lowest_free(&self, number: u8, count: u8) -> Result<RefList, Memory>
         requires { number < 16 }
-        ensures { (lane : Lane) → lane.number ≡ number → IfOk result (λ refs. refs ≡ lowest_in lane self.now.keeps count) }
+        ensures { (lane : Lane) → lane.number ≡ number →
+            IfOk result (λ refs. refs ≡ lowest_in lane self.now.keeps count) }
     {
         self.index.lowest_free(self.alloc, number, count)
     }
@@ -204,7 +196,8 @@ impl Openings {
     pub fn with(self, duo: Option<Duo>) -> Result<Openings, Memory>
         requires taken { self.taken ≤ 4_294_967_295 }
         requires orderly { AreOrderly (self.keeps ++ news self.taken duo) }
-        ensures { IfOk result (λ o. o ≡ record { taken = self.taken; keeps = self.keeps ++ news self.taken duo }) }
+        ensures { IfOk result (λ o. o ≡
+            record { taken = self.taken; keeps = self.keeps ++ news self.taken duo }) }
     {
         let Some(duo) = duo else {
             return Ok(self);
@@ -215,7 +208,7 @@ impl Openings {
             mut kept,
             mut index,
         } = self;
-        let one = Kept::opened(alloc, taken, duo)?;
+        let one = KeptOpening::opened(alloc, taken as u32, duo)?;
         index.take(taken, kept.len(), &one);
         index.advance();
         kept.push(one)?;

@@ -25,7 +25,7 @@ use Rattle.node_engine.specs.Heads.{routing_of, lane_head_of, control_head_of}
 use Rattle.node_engine.specs.Placed.{in_control, in_conn, in_data}
 use Rattle.node_engine.specs.Editions.{changes_of}
 use Rattle.node_engine.specs.Lanes.{LaneKind, LanesFrom, conn_question, conn_kind, data_kind}
-use Rattle.node_engine.specs.Running.{PairsFrom, ExtendsIf, ConnTakes, DataTakes, ConnsTake, UnitsTake, ControlExtendsIf, ControlTakes, IsConnLaneOf, IsDataLaneOf, IsOf, Stands, IsCounted, Standing, Took, Went, book_of, conn_journals, data_journals}
+use Rattle.node_engine.specs.Running.{PairsFrom, ExtendsIf, taking_by, ConnTakes, DataTakes, ConnsTake, UnitsTake, ControlExtendsIf, ControlTakes, IsConnLaneOf, IsDataLaneOf, IsOf, IsRightSoFar, IsCounted, AreRightSoFar, Took, Went, book_of, conn_journals, data_journals}
 use Rattle.node_engine.proofs.ListLemmas.{weaker, all-append, pairs-refl, pairs-length, pairs-weaker, pairs-all, pairs-lanes, pairs-map}
 use Rattle.node_engine.proofs.EditionLemmas.{Grows}
 use Rattle.node_engine.proofs.LaneLemmas.{extends-pairs, stands-kept, stands-extends}
@@ -48,13 +48,13 @@ each-took kind head control place stamp e olds news same h =
 
 each-stands : (kind : LaneKind) (head : Head) (before control : List ControlEntry) (place : LanePlace) (stamp : Stamp) (e : Event) (olds news : List (List Entry))
     → IsCounted head before → IsCounted head control → Grows head stamp.phase before control → AllByRecursion (λ c. c.stamp.phase ≤ stamp.phase) control
-    → ExtendEach kind head control place stamp e olds news → AllByRecursion (Stands kind.question head stamp.phase before) olds → AllByRecursion (Stands kind.question head stamp.phase control) news
+    → ExtendEach kind head control place stamp e olds news → AllByRecursion (IsRightSoFar kind.question head stamp.phase before) olds → AllByRecursion (IsRightSoFar kind.question head stamp.phase control) news
 each-stands kind head before control place stamp e olds news was counted grows within h stood =
     let edition : ℕ = length (changes_of head control) in
     let routing : RoutingData = routing_after (routing_of head) (changes_of head control) in
-    pairs-all (Stands kind.question head stamp.phase control) (Stands kind.question head stamp.phase control) (λ k old new. ExtendsIf (kind.is_in k place) (kind.question e) edition routing stamp e old new) 0 olds news
+    pairs-all (IsRightSoFar kind.question head stamp.phase control) (IsRightSoFar kind.question head stamp.phase control) (λ k old new. ExtendsIf (kind.is_in k place) (kind.question e) edition routing stamp e old new) 0 olds news
     (λ k old new s x. stands-extends (kind.is_in k place) kind.question head control stamp e old new counted within x s)
-    (weaker (Stands kind.question head stamp.phase before) (Stands kind.question head stamp.phase control) olds (λ j s. stands-kept kind.question head stamp.phase before control j was grows s) stood) h
+    (weaker (IsRightSoFar kind.question head stamp.phase before) (IsRightSoFar kind.question head stamp.phase control) olds (λ j s. stands-kept kind.question head stamp.phase before control j was grows s) stood) h
 
 -- ---- both kinds
 
@@ -76,7 +76,7 @@ conns-each : (head : Head) (lane : ControlState) (place : LanePlace) (stamp : St
 conns-each head lane place stamp e olds news h s lanes x =
     let edition : ℕ = length (changes_by lane) in
     let routing : RoutingData = routing_after lane.start (changes_by lane) in
-    pairs-map (IsConnLaneOf head) (ConnTakes edition routing place stamp e)
+    pairs-map (IsConnLaneOf head) (ConnTakes (taking_by lane place stamp e))
     (λ k old new. ExtendsIf (in_conn k place) (conn_question (lane_head_of head) e) (length (changes_of head lane.journal)) (routing_after (routing_of head) (changes_of head lane.journal)) stamp e old new)
     (λ (l : ConnLaneState). l.journal) 0 olds news
     (λ k old new of t. at-newest head lane (in_conn k place) (conn_question (lane_head_of head) e) stamp e old.journal new.journal h s
@@ -87,7 +87,7 @@ units-each : (head : Head) (lane : ControlState) (place : LanePlace) (stamp : St
 units-each head lane place stamp e olds news h s lanes x =
     let edition : ℕ = length (changes_by lane) in
     let routing : RoutingData = routing_after lane.start (changes_by lane) in
-    pairs-map (IsDataLaneOf head) (DataTakes edition routing place stamp e)
+    pairs-map (IsDataLaneOf head) (DataTakes (taking_by lane place stamp e))
     (λ k old new. ExtendsIf (in_data k place) (data_kind.question e) (length (changes_of head lane.journal)) (routing_after (routing_of head) (changes_of head lane.journal)) stamp e old new)
     (λ (l : LaneState). l.journal) 0 olds news
     (λ k old new of t. at-newest head lane (in_data k place) (data_kind.question e) stamp e old.journal new.journal h s t.journal) lanes x
@@ -124,43 +124,43 @@ units-took head lane place stamp (Changing change) olds news h s same lanes x =
 conns-stand : (head : Head) (before : List ControlEntry) (lane : ControlState) (place : LanePlace) (stamp : Stamp) (e : ControlEvent) (olds news : List ConnLaneState) → lane.head ≡ control_head_of head → lane.start ≡ routing_of head
     → IsCounted head before → IsCounted head lane.journal → Grows head stamp.phase before lane.journal → AllByRecursion (λ c. c.stamp.phase ≤ stamp.phase) lane.journal
     → LanesFrom (IsConnLaneOf head) 0 olds → ConnsTake lane place stamp e olds news
-    → AllByRecursion (Stands (conn_kind head).question head stamp.phase before) (conn_journals olds) → AllByRecursion (Stands (conn_kind head).question head stamp.phase lane.journal) (conn_journals news)
+    → AllByRecursion (IsRightSoFar (conn_kind head).question head stamp.phase before) (conn_journals olds) → AllByRecursion (IsRightSoFar (conn_kind head).question head stamp.phase lane.journal) (conn_journals news)
 conns-stand head before lane place stamp (Plain e) olds news h s was counted grows within lanes x stood =
     each-stands (conn_kind head) head before lane.journal place stamp e (conn_journals olds) (conn_journals news) was counted grows within (conns-each head lane place stamp e olds news h s lanes x) stood
 conns-stand head before lane place stamp (Changing change) olds news h s was counted grows within lanes x stood =
-    subst (λ l. AllByRecursion (Stands (conn_kind head).question head stamp.phase lane.journal) (conn_journals l)) (sym x)
-    (weaker (Stands (conn_kind head).question head stamp.phase before) (Stands (conn_kind head).question head stamp.phase lane.journal) (conn_journals olds) (λ j r. stands-kept (conn_kind head).question head stamp.phase before lane.journal j was grows r) stood)
+    subst (λ l. AllByRecursion (IsRightSoFar (conn_kind head).question head stamp.phase lane.journal) (conn_journals l)) (sym x)
+    (weaker (IsRightSoFar (conn_kind head).question head stamp.phase before) (IsRightSoFar (conn_kind head).question head stamp.phase lane.journal) (conn_journals olds) (λ j r. stands-kept (conn_kind head).question head stamp.phase before lane.journal j was grows r) stood)
 
 units-stand : (head : Head) (before : List ControlEntry) (lane : ControlState) (place : LanePlace) (stamp : Stamp) (e : ControlEvent) (olds news : List LaneState) → lane.head ≡ control_head_of head → lane.start ≡ routing_of head
     → IsCounted head before → IsCounted head lane.journal → Grows head stamp.phase before lane.journal → AllByRecursion (λ c. c.stamp.phase ≤ stamp.phase) lane.journal
     → LanesFrom (IsDataLaneOf head) 0 olds → UnitsTake lane place stamp e olds news
-    → AllByRecursion (Stands data_kind.question head stamp.phase before) (data_journals olds) → AllByRecursion (Stands data_kind.question head stamp.phase lane.journal) (data_journals news)
+    → AllByRecursion (IsRightSoFar data_kind.question head stamp.phase before) (data_journals olds) → AllByRecursion (IsRightSoFar data_kind.question head stamp.phase lane.journal) (data_journals news)
 units-stand head before lane place stamp (Plain e) olds news h s was counted grows within lanes x stood =
     each-stands data_kind head before lane.journal place stamp e (data_journals olds) (data_journals news) was counted grows within (units-each head lane place stamp e olds news h s lanes x) stood
 units-stand head before lane place stamp (Changing change) olds news h s was counted grows within lanes x stood =
-    subst (λ l. AllByRecursion (Stands data_kind.question head stamp.phase lane.journal) (data_journals l)) (sym x)
-    (weaker (Stands data_kind.question head stamp.phase before) (Stands data_kind.question head stamp.phase lane.journal) (data_journals olds) (λ j r. stands-kept data_kind.question head stamp.phase before lane.journal j was grows r) stood)
+    subst (λ l. AllByRecursion (IsRightSoFar data_kind.question head stamp.phase lane.journal) (data_journals l)) (sym x)
+    (weaker (IsRightSoFar data_kind.question head stamp.phase before) (IsRightSoFar data_kind.question head stamp.phase lane.journal) (data_journals olds) (λ j r. stands-kept data_kind.question head stamp.phase before lane.journal j was grows r) stood)
 
 -- ---- the heads and numbers of the lanes
 
 conns-of : (head : Head) (lane : ControlState) (place : LanePlace) (stamp : Stamp) (e : ControlEvent) (olds news : List ConnLaneState) → ConnsTake lane place stamp e olds news → LanesFrom (IsConnLaneOf head) 0 olds → LanesFrom (IsConnLaneOf head) 0 news
 conns-of head lane place stamp (Plain e) olds news x lanes =
-    pairs-lanes (IsConnLaneOf head) (IsConnLaneOf head) (ConnTakes (length (changes_by lane)) (routing_after lane.start (changes_by lane)) place stamp e) 0 olds news
+    pairs-lanes (IsConnLaneOf head) (IsConnLaneOf head) (ConnTakes (taking_by lane place stamp e)) 0 olds news
     (λ k old new of t. record { of_head = t.head_kept ∙ of.of_head; of_number = t.number_kept ∙ of.of_number }) lanes x
 conns-of head lane place stamp (Changing change) olds news x lanes = subst (LanesFrom (IsConnLaneOf head) 0) (sym x) lanes
 
 units-of : (head : Head) (lane : ControlState) (place : LanePlace) (stamp : Stamp) (e : ControlEvent) (olds news : List LaneState) → UnitsTake lane place stamp e olds news → LanesFrom (IsDataLaneOf head) 0 olds → LanesFrom (IsDataLaneOf head) 0 news
 units-of head lane place stamp (Plain e) olds news x lanes =
-    pairs-lanes (IsDataLaneOf head) (IsDataLaneOf head) (DataTakes (length (changes_by lane)) (routing_after lane.start (changes_by lane)) place stamp e) 0 olds news
+    pairs-lanes (IsDataLaneOf head) (IsDataLaneOf head) (DataTakes (taking_by lane place stamp e)) 0 olds news
     (λ k old new of t. record { of_head = t.head_kept ∙ of.of_head; of_number = t.number_kept ∙ of.of_number }) lanes x
 units-of head lane place stamp (Changing change) olds news x lanes = subst (LanesFrom (IsDataLaneOf head) 0) (sym x) lanes
 
 conns-count : (lane : ControlState) (place : LanePlace) (stamp : Stamp) (e : ControlEvent) (olds news : List ConnLaneState) → ConnsTake lane place stamp e olds news → length news ≡ length olds
-conns-count lane place stamp (Plain e) olds news x = pairs-length (ConnTakes (length (changes_by lane)) (routing_after lane.start (changes_by lane)) place stamp e) 0 olds news x
+conns-count lane place stamp (Plain e) olds news x = pairs-length (ConnTakes (taking_by lane place stamp e)) 0 olds news x
 conns-count lane place stamp (Changing change) olds news x = ap length x
 
 units-count : (lane : ControlState) (place : LanePlace) (stamp : Stamp) (e : ControlEvent) (olds news : List LaneState) → UnitsTake lane place stamp e olds news → length news ≡ length olds
-units-count lane place stamp (Plain e) olds news x = pairs-length (DataTakes (length (changes_by lane)) (routing_after lane.start (changes_by lane)) place stamp e) 0 olds news x
+units-count lane place stamp (Plain e) olds news x = pairs-length (DataTakes (taking_by lane place stamp e)) 0 olds news x
 units-count lane place stamp (Changing change) olds news x = ap length x
 
 -- ---- the control lane
@@ -207,7 +207,7 @@ grows-event head place stamp e old new lanes after control =
 standing-event : (head : Head) (place : LanePlace) (stamp : Stamp) (e : ControlEvent) (old new : Node) → IsOf head old → IsOf head new → ControlTakes place stamp e old.control new.control
     → IsControlJournal new.control.head new.control.start new.control.journal
     → ConnsTake new.control place stamp e old.conns.items new.conns.items → UnitsTake new.control place stamp e old.units.items new.units.items
-    → Standing head stamp.phase (book_of old) → Standing head stamp.phase (book_of new)
+    → AreRightSoFar head stamp.phase (book_of old) → AreRightSoFar head stamp.phase (book_of new)
 standing-event head place stamp e old new lanes after control legal conns units s =
     let grows : Grows head stamp.phase old.control.journal new.control.journal = grows-event head place stamp e old new lanes after control in
     let counted : IsCounted head new.control.journal = legal-here head new.control after.control_head after.start legal in
@@ -231,8 +231,8 @@ went-event head place stamp e old new same lanes control legal conns units =
       control = control-pairs (in_control place) stamp e old.control.journal new.control.journal control.journal ∙ ap (λ p. control_pairs_of old.control.journal ++ cond (in_control p) ((stamp, e) ∷ []) []) same;
       conns = conns-took head new.control place stamp e old.conns.items new.conns.items after.control_head after.start same lanes.conns conns;
       units = units-took head new.control place stamp e old.units.items new.units.items after.control_head after.start same lanes.units units;
-      standing = λ phase at s. subst (λ p. Standing head p (book_of new)) at.0
-          (standing-event head place stamp e old new lanes after control legal conns units (subst (λ p. Standing head p (book_of old)) (sym at.0) s));
+      standing = λ phase at s. subst (λ p. AreRightSoFar head p (book_of new)) at.0
+          (standing-event head place stamp e old new lanes after control legal conns units (subst (λ p. AreRightSoFar head p (book_of old)) (sym at.0) s));
     }
 
 -- the same, of a call that may be refused

@@ -20,7 +20,7 @@ use Rattle.node_engine.specs.Own.{pairs_of}
 use Rattle.node_engine.specs.Heads.{routing_of}
 use Rattle.node_engine.specs.Editions.{changes_of, editions_in, named, IsRouting}
 use Rattle.node_engine.specs.Lanes.{IsRouted}
-use Rattle.node_engine.specs.Running.{Extends, ExtendsIf, Stands, IsCounted}
+use Rattle.node_engine.specs.Running.{Extends, ExtendsIf, IsRightSoFar, IsCounted}
 use Rattle.node_engine.proofs.ListLemmas.{weaker-two, all-append, all-push}
 use Rattle.node_engine.proofs.EditionLemmas.{Grows, routing-kept, routing-new, routing-known}
 
@@ -35,7 +35,7 @@ extends-pairs false asks edition routing stamp e old new h = ap pairs_of h ∙ s
 -- ---- the control journal grew
 
 pub stands-kept : (question : Event → Option Question) (head : Head) (phase : ℕ) (before after : List ControlEntry) (journal : List Entry) → IsCounted head before → Grows head phase before after
-    → Stands question head phase before journal → Stands question head phase after journal
+    → IsRightSoFar question head phase before journal → IsRightSoFar question head phase after journal
 stands-kept question head phase before after journal counted g h = record {
   within = h.within;
   routed = weaker-two (λ e. e.stamp.phase ≤ phase) (IsRouted question head before) (IsRouted question head after) journal
@@ -75,10 +75,10 @@ entry-routed question head control stamp e entry counted within stamped of_event
 
 stands-entry : (question : Event → Option Question) (head : Head) (control : List ControlEntry) (stamp : Stamp) (e : Event) (old new : List Entry) → IsCounted head control → AllByRecursion (λ c. c.stamp.phase ≤ stamp.phase) control
     → Extends (question e) (length (changes_of head control)) (routing_after (routing_of head) (changes_of head control)) stamp e old new
-    → Stands question head stamp.phase control old → Stands question head stamp.phase control new
+    → IsRightSoFar question head stamp.phase control old → IsRightSoFar question head stamp.phase control new
 stands-entry question head control stamp e old new counted within h s =
     let most : ℕ = length (changes_of head control) in
-    subst (Stands question head stamp.phase control) (sym h.journal) (record {
+    subst (IsRightSoFar question head stamp.phase control) (sym h.journal) (record {
       within = all-push (λ c. c.stamp.phase ≤ stamp.phase) old h.entry s.within (omega (arith, ap (λ (x : Stamp). x.phase) h.stamped));
       routed = all-push (IsRouted question head control) old h.entry s.routed (entry-routed question head control stamp e h.entry counted within h.stamped h.of_event h.answered);
       rising = subst IsNonDecreasing (sym (editions-push old h.entry ∙ ap (λ a. editions_in old ++ named a) h.answered))
@@ -88,6 +88,6 @@ stands-entry question head control stamp e old new counted within h s =
 -- what stands of a journal after an event, where it takes it
 pub stands-extends : (t : Bool) (question : Event → Option Question) (head : Head) (control : List ControlEntry) (stamp : Stamp) (e : Event) (old new : List Entry) → IsCounted head control → AllByRecursion (λ c. c.stamp.phase ≤ stamp.phase) control
     → ExtendsIf t (question e) (length (changes_of head control)) (routing_after (routing_of head) (changes_of head control)) stamp e old new
-    → Stands question head stamp.phase control old → Stands question head stamp.phase control new
+    → IsRightSoFar question head stamp.phase control old → IsRightSoFar question head stamp.phase control new
 stands-extends true question head control stamp e old new counted within h s = stands-entry question head control stamp e old new counted within h s
-stands-extends false question head control stamp e old new counted within h s = subst (Stands question head stamp.phase control) (sym h) s
+stands-extends false question head control stamp e old new counted within h s = subst (IsRightSoFar question head stamp.phase control) (sym h) s

@@ -10,7 +10,8 @@ use Rattle.plant_core.specs.declared.entry.ControlEntry.{ControlEntry}
 use Rattle.plant_core.specs.declared.entry.ControlEvent.{ControlEvent}
 use Rattle.plant_core.specs.declared.entry.ControlEvent.TheVariants.{Plain}
 use Rattle.data_lane.specs.Legal.{LaneState, IsDataJournal}
-use Rattle.conn_lane.specs.Lanes.{ConnLaneState, IsConnJournal}
+use Rattle.conn_lane.specs.Journals.{IsConnJournal}
+use Rattle.conn_lane.specs.Lanes.{ConnLaneState}
 use Rattle.scmg.specs.Control.{IsControlJournal}
 use Rattle.node_head.specs.declared.head.Head.{Head}
 use Rattle.capture_form.specs.Events.{Stamped, phase_events, AreOfLinks}
@@ -23,7 +24,7 @@ use Rattle.node_engine.specs.Heads.{lane_head_of, control_head_of}
 use Rattle.node_engine.specs.Placed.{in_control, taken, placed, IsOfLane}
 use Rattle.node_engine.specs.Lanes.{LaneKind, LanesFrom, IsServed, conn_kind, data_kind}
 use Rattle.node_engine.specs.Right.{HasServed, AreLegal, IsRight}
-use Rattle.node_engine.specs.Running.{PairsFrom, CanTake, IsFirst, IsConnLaneOf, IsDataLaneOf, IsOf, Stands, IsCounted, Standing, Took, Went, book_of, conn_journals, data_journals, HasLegal}
+use Rattle.node_engine.specs.Running.{PairsFrom, CanTake, IsFirst, IsConnLaneOf, IsDataLaneOf, IsOf, IsRightSoFar, IsCounted, AreRightSoFar, Took, Went, book_of, conn_journals, data_journals, HasLegal}
 use Rattle.node_engine.proofs.ListLemmas.{weaker, any-lanes, lanes-all, lanes-map, all-cond, all-lanes, pairs-lanes, all-map, all-mapped}
 use Rattle.node_engine.proofs.OwnLemmas.{phases-within, more-events, no-events, of-phase}
 
@@ -60,28 +61,28 @@ own-within in_lane head phases events own =
 
 -- ---- what stands of journals that have the events of the phases
 
-stands-served : (kind : LaneKind) (head : Head) (phases : List (List Stamped)) (control : List ControlEntry) (k : ℕ) (journal : List Entry) → IsServed kind head phases control k journal → Stands kind.question head (length phases + 1) control journal
+stands-served : (kind : LaneKind) (head : Head) (phases : List (List Stamped)) (control : List ControlEntry) (k : ℕ) (journal : List Entry) → IsServed kind head phases control k journal → IsRightSoFar kind.question head (length phases + 1) control journal
 stands-served kind head phases control k journal h = record {
   within = all-mapped (λ (e : Stamp × ControlEvent). e.0.phase ≤ length phases + 1) (λ (x : Entry). (x.stamp, Plain x.event)) journal (own-within (kind.is_in k) head phases (pairs_of journal) h.own);
   routed = h.routed;
   rising = h.rising;
 }
 
-standing-served : (head : Head) (phases : List (List Stamped)) (book : Book) → IsCounted head book.control → HasServed head phases book → Standing head (length phases + 1) book
+standing-served : (head : Head) (phases : List (List Stamped)) (book : Book) → IsCounted head book.control → HasServed head phases book → AreRightSoFar head (length phases + 1) book
 standing-served head phases book counted h = record {
   counted = counted;
   within = all-mapped (λ (e : Stamp × ControlEvent). e.0.phase ≤ length phases + 1) (λ (x : ControlEntry). (x.stamp, x.event)) book.control (own-within in_control head phases (control_pairs_of book.control) h.control);
-  conns = lanes-all (IsServed (conn_kind head) head phases book.control) (Stands (conn_kind head).question head (length phases + 1) book.control) 0 book.conns (λ k j s. stands-served (conn_kind head) head phases book.control k j s) h.conns;
-  units = lanes-all (IsServed data_kind head phases book.control) (Stands data_kind.question head (length phases + 1) book.control) 0 book.units (λ k j s. stands-served data_kind head phases book.control k j s) h.units;
+  conns = lanes-all (IsServed (conn_kind head) head phases book.control) (IsRightSoFar (conn_kind head).question head (length phases + 1) book.control) 0 book.conns (λ k j s. stands-served (conn_kind head) head phases book.control k j s) h.conns;
+  units = lanes-all (IsServed data_kind head phases book.control) (IsRightSoFar data_kind.question head (length phases + 1) book.control) 0 book.units (λ k j s. stands-served data_kind head phases book.control k j s) h.units;
 }
 
 -- ---- one phase more
 
 lanes-served : (kind : LaneKind) (head : Head) (before : List (List Stamped)) (lists : List Stamped) (old new : List ControlEntry) (olds news : List (List Entry)) → AreOfLinks (length before + 1) 0 lists
-    → PairsFrom (Took kind head (phase_events lists)) 0 olds news → AllByRecursion (Stands kind.question head (length before + 1) new) news
+    → PairsFrom (Took kind head (phase_events lists)) 0 olds news → AllByRecursion (IsRightSoFar kind.question head (length before + 1) new) news
     → LanesFrom (IsServed kind head before old) 0 olds → LanesFrom (IsServed kind head (before ++ lists ∷ []) new) 0 news
 lanes-served kind head before lists old new olds news h took stand served =
-    all-lanes (Stands kind.question head (length before + 1) new) (IsServed kind head (before ++ lists ∷ []) new) (λ k journal. IsOfLane (kind.is_in k) head (before ++ lists ∷ []) (pairs_of journal)) 0 news
+    all-lanes (IsRightSoFar kind.question head (length before + 1) new) (IsServed kind head (before ++ lists ∷ []) new) (λ k journal. IsOfLane (kind.is_in k) head (before ++ lists ∷ []) (pairs_of journal)) 0 news
     (λ k journal s own. record { own = own; routed = s.routed; rising = s.rising }) stand
     (pairs-lanes (IsServed kind head before old) (λ k journal. IsOfLane (kind.is_in k) head (before ++ lists ∷ []) (pairs_of journal)) (Took kind head (phase_events lists)) 0 olds news
     (λ k a b s t. own-more (kind.is_in k) head before lists (pairs_of a) (pairs_of b) h t s.own) served took)
@@ -89,7 +90,7 @@ lanes-served kind head before lists old new olds news h took stand served =
 pub served-more : (head : Head) (before : List (List Stamped)) (lists : List Stamped) (old new : Node) → IsCounted head old.control.journal → Went head (phase_events lists) old new → AreOfLinks (length before + 1) 0 lists
     → HasServed head before (book_of old) → HasServed head (before ++ lists ∷ []) (book_of new)
 served-more head before lists old new counted went h served =
-    let standing : Standing head (length before + 1) (book_of new) = went.standing (length before + 1) (of-phase (length before + 1) lists h) (standing-served head before (book_of old) counted served) in
+    let standing : AreRightSoFar head (length before + 1) (book_of new) = went.standing (length before + 1) (of-phase (length before + 1) lists h) (standing-served head before (book_of old) counted served) in
     record {
       control = own-more in_control head before lists (control_pairs_of old.control.journal) (control_pairs_of new.control.journal) h went.control served.control;
       conns = lanes-served (conn_kind head) head before lists old.control.journal new.control.journal (conn_journals old.conns.items) (conn_journals new.conns.items) h went.conns standing.conns served.conns;

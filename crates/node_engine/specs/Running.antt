@@ -13,7 +13,8 @@ use Rattle.plant_core.specs.declared.entry.ControlEvent.{ControlEvent}
 use Rattle.plant_core.specs.declared.entry.ControlEvent.TheVariants.{Plain, Change as Changing}
 use Rattle.data_lane.specs.Legal.{LaneState, IsDataJournal}
 use Rattle.data_lane.specs.Legal.{question_of as question_of_unit}
-use Rattle.conn_lane.specs.Lanes.{ConnLaneState, IsConnJournal}
+use Rattle.conn_lane.specs.Journals.{IsConnJournal}
+use Rattle.conn_lane.specs.Lanes.{ConnLaneState}
 use Rattle.node_head.specs.declared.head.Head.{Head}
 use Rattle.capture_form.specs.declared.lane_place.LanePlace.{LanePlace}
 use Rattle.journal_text.specs.declared.book.Book.{Book}
@@ -23,6 +24,7 @@ use Rattle.scmg.specs.Lane.{changes_of as changes_by}
 use Rattle.node_engine.specs.declared.changes.PhaseChanges.{PhaseChanges}
 use Rattle.node_engine.specs.declared.node.Node.{Node}
 use Rattle.capture_form.specs.Events.{Stamped}
+use Rattle.node_engine.specs.declared.taking.Turn.{Turn}
 use Rattle.node_engine.specs.Own.{pairs_of, control_pairs_of}
 use Rattle.node_engine.specs.Heads.{routing_of, lane_head_of, control_head_of}
 use Rattle.node_engine.specs.Placed.{in_control, in_conn, in_data, taken}
@@ -62,24 +64,40 @@ abbrev pub ExtendsIf : Bool → Option Question → ℕ → RoutingData → Stam
 ExtendsIf true asks edition routing stamp e old new = Extends asks edition routing stamp e old new
 ExtendsIf false asks edition routing stamp e old new = new ≡ old
 
+-- an event that the lanes of a kind take: its place and its stamp, and the routing data of the moment
+pub record Taking : Type 0 where
+  pub edition : ℕ
+  pub routing : RoutingData
+  pub place : LanePlace
+  pub stamp : Stamp
+  pub event : Event
+
+abbrev pub taking_of : Turn → Taking
+taking_of t = record { edition = t.plant.now.edition; routing = t.plant.now.routing; place = t.place; stamp = t.stamp; event = t.event.now }
+
+-- with the routing data of the control lane
+abbrev pub taking_by : ControlState → LanePlace → Stamp → Event → Taking
+taking_by lane place stamp e =
+    record { edition = length (changes_by lane); routing = routing_after lane.start (changes_by lane); place = place; stamp = stamp; event = e }
+
 -- what the connection lane and the data lane of a number do with an event
-pub record ConnTakes (edition : ℕ) (routing : RoutingData) (place : LanePlace) (stamp : Stamp) (e : Event) (number : ℕ) (old new : ConnLaneState) : Type 0 where
-  pub journal : ExtendsIf (in_conn number place) (conn_question old.head e) edition routing stamp e old.journal new.journal
+pub record ConnTakes (t : Taking) (number : ℕ) (old new : ConnLaneState) : Type 0 where
+  pub journal : ExtendsIf (in_conn number t.place) (conn_question old.head t.event) t.edition t.routing t.stamp t.event old.journal new.journal
   pub head_kept : new.head ≡ old.head
   pub number_kept : new.number ≡ old.number
 
-pub record DataTakes (edition : ℕ) (routing : RoutingData) (place : LanePlace) (stamp : Stamp) (e : Event) (number : ℕ) (old new : LaneState) : Type 0 where
-  pub journal : ExtendsIf (in_data number place) (question_of_unit e) edition routing stamp e old.journal new.journal
+pub record DataTakes (t : Taking) (number : ℕ) (old new : LaneState) : Type 0 where
+  pub journal : ExtendsIf (in_data number t.place) (question_of_unit t.event) t.edition t.routing t.stamp t.event old.journal new.journal
   pub head_kept : new.head ≡ old.head
   pub number_kept : new.number ≡ old.number
 
 -- the connection lanes and the data lanes take an event, with the routing data of the control lane; none takes a change
 abbrev pub ConnsTake : ControlState → LanePlace → Stamp → ControlEvent → List ConnLaneState → List ConnLaneState → Type 0
-ConnsTake lane place stamp (Plain e) olds news = PairsFrom (ConnTakes (length (changes_by lane)) (routing_after lane.start (changes_by lane)) place stamp e) 0 olds news
+ConnsTake lane place stamp (Plain e) olds news = PairsFrom (ConnTakes (taking_by lane place stamp e)) 0 olds news
 ConnsTake lane place stamp (Changing change) olds news = news ≡ olds
 
 abbrev pub UnitsTake : ControlState → LanePlace → Stamp → ControlEvent → List LaneState → List LaneState → Type 0
-UnitsTake lane place stamp (Plain e) olds news = PairsFrom (DataTakes (length (changes_by lane)) (routing_after lane.start (changes_by lane)) place stamp e) 0 olds news
+UnitsTake lane place stamp (Plain e) olds news = PairsFrom (DataTakes (taking_by lane place stamp e)) 0 olds news
 UnitsTake lane place stamp (Changing change) olds news = news ≡ olds
 
 -- the control journal has one entry more: that of an event
@@ -151,7 +169,7 @@ pub record HasLegal (node : Node) : Type 0 where
 -- ---- what stands in a phase, whatever events were taken
 
 -- the routings of a journal are right by a control journal, and none of its entries is of a later phase
-pub record Stands (question : Event → Option Question) (head : Head) (phase : ℕ) (control : List ControlEntry) (journal : List Entry) : Type 0 where
+pub record IsRightSoFar (question : Event → Option Question) (head : Head) (phase : ℕ) (control : List ControlEntry) (journal : List Entry) : Type 0 where
   pub within : AllByRecursion (λ e. e.stamp.phase ≤ phase) journal
   pub routed : AllByRecursion (IsRouted question head control) journal
   pub rising : IsNonDecreasing (editions_in journal)
@@ -160,11 +178,11 @@ pub record Stands (question : Event → Option Question) (head : Head) (phase : 
 abbrev pub IsCounted : Head → List ControlEntry → Type 0
 IsCounted head control = count_by (λ e. is_some e.published) control ≡ length (changes_of head control)
 
-pub record Standing (head : Head) (phase : ℕ) (book : Book) : Type 0 where
+pub record AreRightSoFar (head : Head) (phase : ℕ) (book : Book) : Type 0 where
   pub counted : IsCounted head book.control
   pub within : AllByRecursion (λ e. e.stamp.phase ≤ phase) book.control
-  pub conns : AllByRecursion (Stands (conn_kind head).question head phase book.control) book.conns
-  pub units : AllByRecursion (Stands data_kind.question head phase book.control) book.units
+  pub conns : AllByRecursion (IsRightSoFar (conn_kind head).question head phase book.control) book.conns
+  pub units : AllByRecursion (IsRightSoFar data_kind.question head phase book.control) book.units
 
 -- ---- a list of events
 
@@ -178,4 +196,4 @@ pub record Went (head : Head) (events : Stamped) (old new : Node) : Type 0 where
   pub control : control_pairs_of new.control.journal ≡ control_pairs_of old.control.journal ++ taken in_control head events
   pub conns : PairsFrom (Took (conn_kind head) head events) 0 (conn_journals old.conns.items) (conn_journals new.conns.items)
   pub units : PairsFrom (Took data_kind head events) 0 (data_journals old.units.items) (data_journals new.units.items)
-  pub standing : (phase : ℕ) → AllByRecursion (λ e. e.0.phase ≡ phase) events → Standing head phase (book_of old) → Standing head phase (book_of new)
+  pub standing : (phase : ℕ) → AllByRecursion (λ e. e.0.phase ≡ phase) events → AreRightSoFar head phase (book_of old) → AreRightSoFar head phase (book_of new)

@@ -61,7 +61,8 @@ fn add_rows(plant: &mut Plant, rows: &[Row]) -> Result<(), Memory>
     requires edition { plant.old.edition ≡ 0 }
     requires addable { IsTrue (are_addable plant.old.routing.rows rows.now) }
     ensures edition { plant.new.edition ≡ 0 }
-    ensures rows { OnOk result (plant.new.routing ≡ record plant.old.routing { rows = plant.old.routing.rows ++ rows.now }) }
+    ensures rows { let old = plant.old.routing in
+        OnOk result (plant.new.routing ≡ record old { rows = old.rows ++ rows.now }) }
 {
     for row in rows {
         match plant.add(*row) {
@@ -87,7 +88,8 @@ fn plant_of(alloc: Global, head: &Head) -> Result<Plant, Memory>
 /// The control lane of a head, before its first event.
 fn control_lane(alloc: Global, head: &Head) -> Result<ControlLane, Memory>
     requires { IsTrue (are_addable [] head.now.row) }
-    ensures { IfOk result (λ lane. lane ≡ record { head = control_head_of head.now; start = routing_of head.now; journal = [] }) }
+    ensures { IfOk result (λ lane. lane ≡
+        record { head = control_head_of head.now; start = routing_of head.now; journal = [] }) }
 {
     let plant = plant_of(alloc, head)?;
     let told = control_head_of(alloc, head)?;

@@ -141,8 +141,9 @@ pub fn run_phase<R: Threads + Wait + Sync, P: Pace>(
 ) -> Result<(), Memory>
     requires { CanTake head.now (phase_events phase.now) node.old }
     ensures went { OnOk result (Went head.now (phase_events phase.now) node.old node.new) }
-    ensures served { OnOk result ((before : List (List Stamped)) → AreOfLinks (length before + 1) 0 phase.now
-        → HasServed head.now before (book_of node.old) → HasServed head.now (before ++ phase.now ∷ []) (book_of node.new)) }
+    ensures served { OnOk result ((before : List (List Stamped)) →
+        AreOfLinks (length before + 1) 0 phase.now → HasServed head.now before (book_of node.old) →
+        HasServed head.now (before ++ phase.now ∷ []) (book_of node.new)) }
 {
     let mut changes = PhaseChanges::new(alloc, node.control.plant().edition());
     take_links(head, &mut changes, phase, node)

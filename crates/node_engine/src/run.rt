@@ -1,7 +1,7 @@
 //! The run of a capture.
 ghost use Rattle.std.specs.Prelude.{◌≡◌, ◌<◌, ◌^◌, [], length, IfOk, OnOk, OnErr};
 ghost use Rattle.std.specs.List.{AllByRecursion};
-ghost use Rattle.conn_lane.specs.Lanes.{IsConnJournal};
+ghost use Rattle.conn_lane.specs.Journals.{IsConnJournal};
 ghost use Rattle.data_lane.specs.Legal.{IsDataJournal};
 ghost use Rattle.node_head.specs.Ranges.{IsHead};
 ghost use Rattle.journal_text.specs.Book.{IsEmpty};
@@ -43,7 +43,8 @@ fn run_phases<R: Threads + Wait + Sync, P: Pace>(
 /// The journals of connection lanes.
 fn conn_journals(alloc: Global, lanes: ConnLaneList) -> Result<JournalList, Memory>
     ensures value { IfOk result (λ journals. journals ≡ conn_journals lanes.items) }
-    ensures legal { IfOk result (λ journals. AllByRecursion (λ l. IsConnJournal l.head l.number l.journal) lanes.items) }
+    ensures legal { IfOk result (λ journals.
+        AllByRecursion (λ l. IsConnJournal l.head l.number l.journal) lanes.items) }
 {
     let mut journals = JournalList::new(alloc);
     for lane in lanes {
@@ -55,7 +56,8 @@ fn conn_journals(alloc: Global, lanes: ConnLaneList) -> Result<JournalList, Memo
 /// The journals of data lanes.
 fn data_journals(alloc: Global, lanes: DataLaneList) -> Result<JournalList, Memory>
     ensures value { IfOk result (λ journals. journals ≡ data_journals lanes.items) }
-    ensures legal { IfOk result (λ journals. AllByRecursion (λ l. IsDataJournal l.head l.number l.journal) lanes.items) }
+    ensures legal { IfOk result (λ journals.
+        AllByRecursion (λ l. IsDataJournal l.head l.number l.journal) lanes.items) }
 {
     let mut journals = JournalList::new(alloc);
     for lane in lanes {
@@ -81,6 +83,25 @@ fn book_of(alloc: Global, node: Node) -> Result<Book, Memory>
     })
 }
 
+/// The lanes of a capture, once they have taken its events.
+fn node_after<R: Threads + Wait + Sync, P: Pace>(
+    rt: &R,
+    alloc: Global,
+    capture: &Capture,
+    pace: &P,
+) -> Result<Node, Memory>
+    requires head { IsHead capture.now.head }
+    requires stamped { IsStamped capture.now.head capture.now.phases }
+    requires few { length (all_events capture.now.phases) < 2 ^ 32 }
+    ensures lanes { IfOk result (IsOf capture.now.head) }
+    ensures served { IfOk result (λ node.
+        HasServed capture.now.head capture.now.phases (book_of node)) }
+{
+    let mut node = Node::start(alloc, &capture.head)?;
+    run_phases(rt, alloc, &capture.head, &capture.phases, &mut node, pace)?;
+    Ok(node)
+}
+
 /// The book of a capture.
 fn book_after<R: Threads + Wait + Sync, P: Pace>(
     rt: &R,
@@ -91,10 +112,9 @@ fn book_after<R: Threads + Wait + Sync, P: Pace>(
     requires head { IsHead capture.now.head }
     requires stamped { IsStamped capture.now.head capture.now.phases }
     requires few { length (all_events capture.now.phases) < 2 ^ 32 }
-    ensures { IfOk result (λ book. IsRight capture.now.head capture.now.phases book) }
+    ensures { IfOk result (IsRight capture.now.head capture.now.phases) }
 {
-    let mut node = Node::start(alloc, &capture.head)?;
-    run_phases(rt, alloc, &capture.head, &capture.phases, &mut node, pace)?;
+    let node = node_after(rt, alloc, capture, pace)?;
     book_of(alloc, node)
 }
 

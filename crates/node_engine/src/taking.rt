@@ -2,7 +2,7 @@
 ghost use Rattle.std.specs.Prelude.{◌≡◌, ◌<◌, ◌^◌, length, IfOk, OnOk};
 ghost use Rattle.std.specs.List.{AllByRecursion};
 ghost use Rattle.node_engine.specs.Placed.{in_control, in_conn, in_data};
-ghost use Rattle.node_engine.specs.Running.{PairsFrom, ConnTakes, DataTakes};
+ghost use Rattle.node_engine.specs.Running.{PairsFrom, taking_of, ConnTakes, DataTakes};
 
 use capture_form::LanePlace;
 use conn_lane::ConnLane;
@@ -55,7 +55,7 @@ impl Turn<'_> {
     /// The connection lane of a number takes the event, where it is placed there.
     fn conn_takes(&self, number: usize, lane: &mut ConnLane) -> Result<(), Memory>
         requires { length lane.old.journal < 2 ^ 32 }
-        ensures { OnOk result (ConnTakes self.now.plant.now.edition self.now.plant.now.routing self.now.place self.now.stamp self.now.event.now number lane.old lane.new) }
+        ensures { OnOk result (ConnTakes (taking_of self.now) number lane.old lane.new) }
     {
         if in_conn(number, self.place) {
             lane.step(self.plant, self.stamp, self.event)?;
@@ -65,7 +65,7 @@ impl Turn<'_> {
 
     /// The data lane of a number takes the event, where it is placed there.
     fn unit_takes(&self, number: usize, lane: &mut DataLane) -> Result<(), Memory>
-        ensures { OnOk result (DataTakes self.now.plant.now.edition self.now.plant.now.routing self.now.place self.now.stamp self.now.event.now number lane.old lane.new) }
+        ensures { OnOk result (DataTakes (taking_of self.now) number lane.old lane.new) }
     {
         if in_data(number, self.place) {
             lane.step(self.plant, self.stamp, self.event)?;
@@ -76,7 +76,7 @@ impl Turn<'_> {
     /// The connection lanes in which the event is placed take it.
     pub fn conns_take(&self, lanes: &mut [ConnLane]) -> Result<(), Memory>
         requires { AllByRecursion (λ l. length l.journal < 2 ^ 32) lanes.old }
-        ensures { OnOk result (PairsFrom (ConnTakes self.now.plant.now.edition self.now.plant.now.routing self.now.place self.now.stamp self.now.event.now) 0 lanes.old lanes.new) }
+        ensures { OnOk result (PairsFrom (ConnTakes (taking_of self.now)) 0 lanes.old lanes.new) }
     {
         for (number, lane) in lanes.iter_mut().enumerate() {
             self.conn_takes(number, lane)?;
@@ -86,7 +86,7 @@ impl Turn<'_> {
 
     /// The data lanes in which the event is placed take it.
     pub fn units_take(&self, lanes: &mut [DataLane]) -> Result<(), Memory>
-        ensures { OnOk result (PairsFrom (DataTakes self.now.plant.now.edition self.now.plant.now.routing self.now.place self.now.stamp self.now.event.now) 0 lanes.old lanes.new) }
+        ensures { OnOk result (PairsFrom (DataTakes (taking_of self.now)) 0 lanes.old lanes.new) }
     {
         for (number, lane) in lanes.iter_mut().enumerate() {
             self.unit_takes(number, lane)?;

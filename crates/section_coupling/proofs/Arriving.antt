@@ -1,5 +1,5 @@
 -- What a section acts upon, and what follows each event.
-use Rattle.std.proofs.Common.{◌≡◌, ℕ, true, false, List, ap, ◌∙◌, refl, sym, subst}
+use Rattle.std.proofs.Common.{◌≡◌, ◌<◌, ◌+◌, [], ◌∷◌, ◌++◌, length, get_or, drop, fold, ℕ, true, false, List, ap, ◌∙◌, refl, sym, subst}
 use Rattle.std.specs.Prelude.{IsTrue, Some, if◌then◌else◌}
 use Rattle.std.proofs.lemmas.Bool.{and_parts}
 use Rattle.relay_base.specs.declared.words.Event.{Event}
@@ -9,15 +9,27 @@ use Rattle.plant_core.specs.declared.terms.Ticks.{Ticks}
 use Rattle.section_model.specs.declared.cell.Cell.{Cell}
 use Rattle.section_class3.specs.Windows.{windows_hear_arrival, windows_hear_event, windows_act, windows_turn}
 use Rattle.section_class2.specs.Lines.{line_hears_arrival, line_hears_event, line_acts}
-use Rattle.section_model.specs.Ends.{Section, Connection}
+use Rattle.section_model.specs.declared.cell.SectionState.{SectionState}
+use Rattle.section_model.specs.declared.hand.Acted.{Acted}
+use Rattle.section_model.specs.Ends.{Section, End, Connection, wire}
+use Rattle.section_model.specs.Timing.{timers_after}
+use Rattle.std.specs.List.{list_any}
+use Rattle.flow_law.proofs.Flowing.{either}
 use Rattle.section_model.specs.Parameters.{Arrival}
-use Rattle.section_model.specs.Acting.{timed, by_line, by_windows, in_windows, section_hears}
-use Rattle.section_model.specs.Step.{hears, is_in_range, named, names, on_windows, on_each, after_event}
+use Rattle.section_model.specs.Acting.{timed, is_sent, by_line, by_windows, in_windows, section_hears}
+use Rattle.relay_base.specs.declared.words.Output.TheVariants.{Lost as Dropped}
+use Rattle.relay_base.specs.declared.words.Lost.TheVariants as lost
+use Rattle.section_model.specs.declared.cell.Timer.{Timer}
+use Rattle.section_model.specs.Coupling.{settles}
+use Rattle.std.proofs.lemmas.List.{drop_more}
+use Rattle.section_coupling.specs.declared.clock.Clock.{Clock}
+use Rattle.section_coupling.specs.declared.coming.Coming.{Coming}
+use Rattle.section_model.specs.Step.{fires, fires_next, is_from_elsewhere, in_touch, hears_message, hears, is_in_range, named, names, on_windows, on_each, after_event}
 use Rattle.section_model.specs.declared.cell.Cell.TheVariants.{Leave, Acknowledge}
 use Rattle.section_model.specs.declared.input.Input.{Input}
 use Rattle.section_model.specs.Windowed.{acknowledges}
 use Rattle.relay_base.specs.declared.words.Output.{Output}
-use Rattle.section_coupling.specs.Arrived.{arrived_in}
+use Rattle.section_coupling.specs.Comings.{arrived_in, hears_coming, hears_on}
 use Rattle.section_coupling.specs.Acts.{untimed_acts}
 
 -- a request that is heard is in its ranges
@@ -26,13 +38,18 @@ unfolding hears
 range-of c e ssn r same h = (and_parts (is_in_range r) (names (named r) c) (subst (λ f. IsTrue (hears c f)) same h)).0
 
 -- a message that arrives is what a section acts upon
-pub acts_heard : (ticks : Ticks) (c : Cell) (e : Event) (a : Arrival) (x : Section) → (arrived_in e).arrival ≡ Some a
+acts_arrived : (ticks : Ticks) (c : Cell) (e : Event) (a : Arrival) (x : Section) → (arrived_in e).arrival ≡ Some a
     → timed ticks x (if in_windows c x then by_windows (windows_hear_event c e) x else by_line (line_hears_event c e) x) ≡ section_hears ticks c (arrived_in e).point a.parameters x
 unfolding section_hears
-acts_heard ticks c (Arrives point sls bytes) a x f =
+acts_arrived ticks c (Arrives point sls bytes) a x f =
     subst (λ r. timed ticks x (if in_windows c x then by_windows (windows_hear_arrival c r) x else by_line (line_hears_arrival c point r) x) ≡ section_hears ticks c point a.parameters x) (sym f) refl
-acts_heard ticks c (Requested ssn r) a x f = absurd (cc)
-acts_heard ticks c Tick a x f = absurd (cc)
+acts_arrived ticks c (Requested ssn r) a x f = absurd (cc)
+acts_arrived ticks c Tick a x f = absurd (cc)
+
+pub acts_heard : (ticks : Ticks) (c : Cell) (e : Event) (point : ℕ) (a : Arrival) (x : Section) → arrived_in e ≡ record { point = point; arrival = Some a }
+    → timed ticks x (if in_windows c x then by_windows (windows_hear_event c e) x else by_line (line_hears_event c e) x) ≡ section_hears ticks c point a.parameters x
+acts_heard ticks c e point a x f =
+    acts_arrived ticks c e a x (ap (λ r. r.arrival) f) ∙ ap (λ from. section_hears ticks c from a.parameters x) (ap (λ r. r.point) f)
 
 -- an act of the windows, and one of the line
 pub acts-windowed : (c : Cell) (i : Input) (x : Section) → in_windows c x ≡ true → untimed_acts c i x ≡ by_windows (windows_act c i) x
@@ -40,6 +57,38 @@ acts-windowed c i x e = rw e refl
 
 pub acts-lined : (c : Cell) (i : Input) (x : Section) → in_windows c x ≡ false → untimed_acts c i x ≡ by_line (line_acts c i) x
 acts-lined c i x e = rw e refl
+
+-- an act but for the timers leaves these
+pub untimed-timers : (c : Cell) (i : Input) (x : Section) → (untimed_acts c i x).0.timers ≡ x.timers
+untimed-timers c i x = either (λ (r : Section × Acted). r.0.timers ≡ x.timers) (in_windows c x) _ _ (λ _. refl) (λ _. refl)
+
+-- an act with its timers, which follow from the state before and from what is sent
+pub in_time : (ticks : Ticks) (x y z : Section) (done : Section × Acted) (acted : Acted) (old : SectionState) → done.0.timers ≡ x.timers → done ≡ (y, acted) → old ≡ x.head.state
+    → z ≡ record y { timers = timers_after ticks old y.head.state (list_any is_sent acted.outs) y.timers } → timed ticks x done ≡ (wire z, acted)
+in_time ticks x y z done acted old same e f g =
+    let sent = list_any is_sent acted.outs in
+    ap (timed ticks x) e
+    ∙ (ap (λ t. (wire (record y { timers = timers_after ticks x.head.state y.head.state sent t }), acted)) (sym same ∙ ap (λ r. r.0.timers) e)
+    ∙ (ap (λ s. (wire (record y { timers = timers_after ticks s y.head.state sent y.timers }), acted)) (sym f)
+    ∙ ap (λ s. (wire s, acted)) (sym g)))
+
+-- a message from the section's point
+pub heard_near : (clock : Clock) (c : Coming) (x y : Section) (that : End) (acting : End × Acted) (r : Connection × List Output) → is_from_elsewhere c.point x.head ≡ false
+    → y ≡ in_touch clock.ticks x → hears_coming clock c y ≡ acting → settles clock.ticks acting that ≡ r → hears_on clock c x that ≡ r
+unfolding hears_message
+heard_near clock c x y that acting r near e f g =
+    let z : Section = in_touch clock.ticks x in
+    ap (λ b. if b then (record { this = wire x; that = that }, Dropped lost.Point ∷ []) else settles clock.ticks (hears_coming clock c z) that) near
+    ∙ (ap (λ a. settles clock.ticks a that) (subst (λ s. hears_coming clock c s ≡ acting) e f) ∙ g)
+
+-- one timer more, and those to come
+pub fired_more : (ticks : Ticks) (c d : Connection) (outs more all : List Output) (timers : List Timer) (i : ℕ) (t : Timer) (r : Connection × List Output) → i < length timers
+    → fires ticks (get_or timers i t) c.this c.that ≡ (d, more) → all ≡ outs ++ more → fold (fires_next ticks) (c, outs) (drop i timers) ≡ r
+    → fold (fires_next ticks) (d, all) (drop (i + 1) timers) ≡ r
+fired_more ticks c d outs more all timers i t r within e f g =
+    subst (λ o. fold (fires_next ticks) (d, o) (drop (i + 1) timers) ≡ r) (sym f)
+    (subst (λ s. fold (fires_next ticks) (s.0, outs ++ s.1) (drop (i + 1) timers) ≡ r) e
+    (subst (λ ts. fold (fires_next ticks) (c, outs) ts ≡ r) (drop_more timers i t within) g))
 
 -- what waits leaves, and then what left is acknowledged
 pub followed : (ticks : Ticks) (r s t : Connection × List Output) → on_each (on_windows ticks (windows_turn Leave)) r ≡ s → on_each (on_windows ticks (windows_turn Acknowledge)) s ≡ t → after_event ticks r ≡ t

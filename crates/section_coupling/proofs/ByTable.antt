@@ -15,7 +15,7 @@ use Rattle.section_model.specs.Parameters.{Arrival}
 use Rattle.section_model.specs.Acting.{section_takes_by}
 use Rattle.section_class2.specs.Lines.{IsDt1}
 use Rattle.section_class3.specs.Windows.{IsDt2, IsEd}
-use Rattle.section_coupling.specs.Arrived.{arrived_in}
+use Rattle.section_coupling.specs.Comings.{arrived_in}
 use Rattle.section_coupling.specs.Acts.{SetsUpOnce}
 
 pub sets_up_once : (s : SectionState) (o : Occasion) → SetsUpOnce (section_cell s o) s

@@ -31,30 +31,9 @@ use Rattle.section_coupling.proofs.Resting.{rests_at_any}
 
 -- Nothing leaves.
 
--- what `leaves` makes of a section where so many units may leave, and expedited data or none
-abbrev left_by : ℕ → Bool → Windowed → Windowed × Acted
-left_by count is_expedited x = let w = x.windows in (
-  record x {
-    windows = record w {
-      waits = drop count w.waits;
-      sent = w.sent + count;
-      told = (if count == 0 then w.told else w.passed);
-      waiting = (if is_expedited then None else w.waiting);
-      unanswered = w.unanswered || is_expedited;
-    };
-  },
-  gives_then
-      (numbered x.head w.sent w.passed (take count w.waits) ++ (if is_expedited then sent_on x.head (Ed x.head.other (unwrap_or w.waiting [])) ∷ [] else []))
-      (if is_expedited || nat_lt 0 count then hand.Left count is_expedited ∷ [] else []),
-)
-
-none_leave : (x : Windowed) → left_by 0 false x ≡ (x, no_effect)
-none_leave x = rw (add-zero, or-false) refl
-
 nothing_leaves : (x : Windowed) → AreDrained x.windows → leaves x ≡ (x, no_effect)
 unfolding leaves
-nothing_leaves x d =
-    ap (λ count. left_by count (is_some x.windows.waiting && not x.windows.unanswered) x) d.0 ∙ (ap (λ e. left_by 0 e x) d.1 ∙ none_leave x)
+nothing_leaves x d = rw (d.0, d.1, add-zero, or-false) refl
 
 nothing_owed : (x : Windowed) → x.windows.passed ≡ x.windows.told → acknowledges x ≡ (x, no_effect)
 unfolding acknowledges

@@ -8,6 +8,8 @@ use Rattle.section_model.specs.declared.cell.Timer.TheVariants.{Repeat}
 use Rattle.section_model.specs.Ends.{End, wire, owner, Connection}
 use Rattle.section_model.specs.Timing.{firing_order, timer_in}
 use Rattle.flow_law.specs.InStep.{IsInStep}
+use Rattle.section_coupling.specs.declared.pair.EndName.{EndName}
+use Rattle.section_coupling.specs.declared.pair.EndName.TheVariants.{This, That}
 use Rattle.section_coupling.specs.declared.pair.Pair.{Pair}
 use Rattle.section_coupling.specs.Sound.{SoundPair}
 use Rattle.section_coupling.specs.Resting.{Rests}
@@ -26,9 +28,13 @@ HoldsAt p = SoundPair p × IsInStep (connection_at 0 p) × Rests (connection_at 
 abbrev pub duo_at : ℕ → DuoState → Connection
 duo_at now d = connection_at now d.pair
 
--- the end of a number
-abbrev pub side_of : ℕ → Connection → End
-side_of side c = if side == 0 then c.this else c.that
+-- the end of a name, and the end of a number
+abbrev pub end_named : EndName → Connection → End
+end_named This c = c.this
+end_named That c = c.that
+
+abbrev pub end_numbered : ℕ → Connection → End
+end_numbered side c = if side == 0 then c.this else c.that
 
 -- the timer at a place, from 0, of the order in which timers fire
 abbrev pub timer_placed : ℕ → Timer
@@ -53,7 +59,7 @@ fewest_left e = fewest_of firing_order e
 
 -- A timer's number is 7 times that of its end, and its place in the order in which timers fire.
 abbrev pub ticks_left : ℕ → Connection → Option ℕ
-ticks_left timer c = left_of_timer (timer_placed (timer % 7)) (side_of (timer / 7) c)
+ticks_left timer c = left_of_timer (timer_placed (timer % 7)) (end_numbered (timer / 7) c)
 
 -- how many ticks a lane has taken after an event
 abbrev pub taken_after : ℕ → Event → ℕ

@@ -1,7 +1,7 @@
 pub mod Views
 pub mod Sound
 pub mod Acts
-pub mod Arrived
+pub mod Comings
 pub mod Openings
 pub mod Resting
 pub mod Duos

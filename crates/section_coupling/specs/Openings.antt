@@ -2,9 +2,11 @@
 use Rattle.std.specs.Prelude.{◌≡◌, ℕ, Bool, true, false, ◌==◌, ◌||◌, ◌≤◌, IsTrue, List, [], ◌∷◌, length, Option, Some, None, is_some, IfSome}
 use Rattle.std.specs.Option.{option_map}
 use Rattle.plant_core.specs.declared.answer.Answer.{Answer}
+use Rattle.sccp_address.specs.Subsystems.{subsystem_address}
 use Rattle.plant_core.specs.declared.terms.Terms.{Terms}
 use Rattle.section_model.specs.Lengths.{IsAddress, IsData}
-use Rattle.section_model.specs.Opening.{Wanted, Wish, by_cr, by_user, no_wish, Opened, question_of, offered}
+use Rattle.q713_codec.specs.declared.message.Message.{Message}
+use Rattle.section_model.specs.Opening.{Wanted, Wish, by_cr, by_user, no_wish, Opened, question_of, offered, onward}
 use Rattle.section_coupling.specs.declared.wish.Calling.{Calling}
 use Rattle.section_coupling.specs.declared.wish.Calling.TheVariants.{Absent, Given, Subsystem}
 use Rattle.section_coupling.specs.declared.wish.WantedView.{WantedView}
@@ -13,6 +15,7 @@ use Rattle.section_coupling.specs.declared.wish.Outgoing.{Outgoing}
 use Rattle.section_coupling.specs.declared.wish.WishView.{WishView}
 use Rattle.section_coupling.specs.declared.wish.WishView.TheVariants.{ByCr, ByUser, NoWish}
 use Rattle.section_coupling.specs.declared.opening.Opening.{Opening}
+use Rattle.section_coupling.specs.declared.opening.Route.{Route}
 use Rattle.section_coupling.specs.Views.{connection_at}
 use Rattle.section_coupling.specs.Sound.{SoundPair}
 
@@ -30,7 +33,7 @@ IsAnswered wish answer = is_some answer ≡ is_some (question_of wish)
 abbrev pub seen_calling : Calling → Option (List ℕ)
 seen_calling Absent = None
 seen_calling (Given octets) = Some octets.now
-seen_calling (Subsystem ssn) = Some (0x42 ∷ ssn ∷ [])
+seen_calling (Subsystem ssn) = Some (subsystem_address ssn)
 
 -- what is wanted, from a point and a reference there
 abbrev pub seen_wanted : Terms → ℕ → ℕ → WantedView → Wanted
@@ -77,3 +80,7 @@ opened_at now o = record { connection = option_map (connection_at now) o.pair; o
 -- the connection that is opened, if any
 abbrev pub OpensSound : Opening → Type 0
 OpensSound o = IfSome o.pair SoundPair
+
+-- CR as it goes on by a route, from a new reference
+abbrev pub cr_onward : Wanted → Route → ℕ → Message
+cr_onward w to mine = onward w to.rewrite.now to.hop mine

@@ -1,4 +1,4 @@
--- Where nothing would leave a connection after an event (Q.714, flow control and expedited data transfer).
+-- Where nothing would leave a connection after an event (Q.714, 3.5.2 and 3.6).
 use Rattle.std.specs.Prelude.{◌≡◌, ◌==◌, ◌&&◌, not, true, false, is_some}
 use Rattle.section_model.specs.Ends.{Windows, End, wire, owner, Connection, is_up}
 use Rattle.section_model.specs.Windowed.{may_leave}

@@ -5,6 +5,7 @@ use Rattle.section_model.specs.declared.hand.Hand.TheVariants as hand
 use Rattle.section_model.specs.declared.hand.Acted.{Acted}
 use Rattle.section_model.specs.declared.input.Input.{Input}
 use Rattle.section_model.specs.declared.input.Input.TheVariants as input
+use Rattle.section_model.specs.declared.limits.TheConstants.{GREATEST_CREDIT}
 use Rattle.section_model.specs.Lengths.{HandsWithin, InputWithin, KeptWithin, WindowsWithin}
 use Rattle.section_coupling.specs.declared.wire.Wire.{Wire}
 use Rattle.section_coupling.specs.declared.owner.Owner.{Owner}
@@ -12,9 +13,9 @@ use Rattle.section_coupling.specs.declared.side.Side.{Side}
 use Rattle.section_coupling.specs.declared.side.Side.TheVariants as side
 use Rattle.section_coupling.specs.declared.pair.Pair.{Pair}
 
--- the greatest credit (Q.713, credit)
+-- the greatest credit (Q.713, 3.10)
 abbrev pub IsCredit : ℕ → Type 0
-IsCredit credit = credit ≤ 127
+IsCredit credit = credit ≤ GREATEST_CREDIT
 
 -- the credit that an effect agrees on, if it does
 abbrev pub IsGranted : Hand → Type 0

@@ -1,8 +1,11 @@
 -- The connection that the code stands for, after so many ticks of its lane.
-use Rattle.std.specs.Prelude.{ℕ, ◌-◌, Option, option_map}
-use Rattle.section_model.specs.Ends.{Section, User, End, wire, owner, Connection, Timers as TicksLeft}
+use Rattle.std.specs.Prelude.{◌≡◌, ℕ, ◌-◌, List, Option, option_map}
+use Rattle.relay_base.specs.declared.words.Output.{Output}
+use Rattle.section_model.specs.declared.hand.Acted.{Acted}
 use Rattle.section_model.specs.Views.{section_of}
+use Rattle.section_model.specs.Ends.{Section, User, End, wire, owner, Connection, Timers as TicksLeft}
 use Rattle.section_user.specs.Side.{user_of}
+use Rattle.section_coupling.specs.declared.clock.Clock.{Clock}
 use Rattle.section_coupling.specs.declared.timers.Timers.{Timers}
 use Rattle.section_coupling.specs.declared.wire.Wire.{Wire}
 use Rattle.section_coupling.specs.declared.owner.Owner.{Owner}
@@ -38,3 +41,28 @@ end_at now (side.User o) = owner (user_at o)
 
 abbrev pub connection_at : ℕ → Pair → Connection
 connection_at now p = record { this = end_at now p.this; that = end_at now p.that }
+
+-- The same by a lane's clock, and what a part of a step makes of it.
+
+abbrev pub timers_by : Clock → Timers → TicksLeft
+timers_by clock t = timers_at clock.taken t
+
+abbrev pub section_by : Clock → Wire → Section
+section_by clock w = section_at clock.taken w
+
+abbrev pub end_by : Clock → Side → End
+end_by clock s = end_at clock.taken s
+
+abbrev pub connection_by : Clock → Pair → Connection
+connection_by clock p = connection_at clock.taken p
+
+-- this is what the definition gives: the connection, and the outputs
+abbrev pub IsStep : Clock → Connection × List Output → Pair × List Output → Type 0
+IsStep clock given r = given ≡ (connection_by clock r.0, r.1)
+
+-- the section, or the end, and what it hands over and gives
+abbrev pub IsAct : Clock → End × Acted → Wire × Acted → Type 0
+IsAct clock given r = given ≡ (wire (section_by clock r.0), r.1)
+
+abbrev pub IsEndAct : Clock → End × Acted → Side × Acted → Type 0
+IsEndAct clock given r = given ≡ (end_by clock r.0, r.1)

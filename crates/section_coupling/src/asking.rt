@@ -5,10 +5,12 @@ ghost use Rattle.relay_base.specs.declared.words.Reason.TheVariants as reason;
 ghost use Rattle.relay_base.specs.declared.words.Request.TheVariants as request;
 ghost use Rattle.section_model.specs.Step.{asking_cell, refusal, reason_against, said_no, asks_owner, asks, asked_by, is_in_range};
 ghost use Rattle.section_model.specs.UserEnd.{user_asks, unit_count};
-ghost use Rattle.section_coupling.specs.Views.{user_at, section_at, end_at, connection_at};
+ghost use Rattle.section_coupling.specs.Comings.{IsRequest, IsInRange};
+ghost use Rattle.section_coupling.specs.Views.{user_at, section_at, section_by, end_by, connection_by, IsStep};
 ghost use Rattle.section_coupling.specs.Sound.{SoundWire, SoundOwner, SoundSide, SoundPair, SoundActed};
 
 use crate::clock::Clock;
+use crate::coming::Wanting;
 use crate::coupling::settle;
 use crate::owner::Owner;
 use crate::pair::Pair;
@@ -16,6 +18,7 @@ use crate::side::Side;
 use crate::wire::Wire;
 use relay_base::{Event, Memory, Octets, Output, Outs, Reason, Request, Ssn, Tell};
 use section_grid::{Acted, Cell, SectionState, UserOccasion, UserState, user_cell};
+use section_model::limits::{LONGEST_UNIT, MOST_WAITING};
 use std::alloc::Global;
 
 /// What a request is to a user's end.
@@ -33,26 +36,24 @@ fn asking_cell(state: UserState, request: &Request) -> Cell
     }
 }
 
-/// The most units that may wait on a section.
-const MOST_UNITS: usize = 127;
-
 /// How many units a text is cut into.
 fn unit_count(body: &Octets) -> usize
     ensures { result ≡ unit_count body.now }
 {
-    body.len().div_ceil(255)
+    body.len().div_ceil(LONGEST_UNIT)
 }
 
 /// Whether more units don't fit beside those that wait.
 fn is_too_much(waiting: usize, more: usize) -> bool
-    ensures { result ≡ nat_lt 127 (waiting + more) }
+    ensures { result ≡ nat_lt MOST_WAITING (waiting + more) }
 {
-    waiting > MOST_UNITS || more > MOST_UNITS - waiting
+    waiting > MOST_WAITING || more > MOST_WAITING - waiting
 }
 
 /// Why a text is refused: in class 3 no more than 127 units may wait.
 fn refusal_to_send(body: &Octets, user: &Owner, wire: &Wire) -> Option<Reason>
-    ensures { (now mine : ℕ) → result ≡ refusal (request.Send mine body.now) (user_at user.now) (section_at now wire.now) }
+    ensures { (now mine : ℕ) →
+        result ≡ refusal (request.Send mine body.now) (user_at user.now) (section_at now wire.now) }
 {
     if user.side.class == 3 && is_too_much(wire.windows.waiting_units(), unit_count(body)) {
         return Some(Reason::Full);
@@ -62,7 +63,8 @@ fn refusal_to_send(body: &Octets, user: &Owner, wire: &Wire) -> Option<Reason>
 
 /// Why expedited data are refused: class 2 has none, and in class 3 no more than one message of them waits.
 fn refusal_to_expedite(user: &Owner, wire: &Wire) -> Option<Reason>
-    ensures { (now mine : ℕ) (body : List ℕ) → result ≡ refusal (request.Expedite mine body) (user_at user.now) (section_at now wire.now) }
+    ensures { (now mine : ℕ) (body : List ℕ) →
+        result ≡ refusal (request.Expedite mine body) (user_at user.now) (section_at now wire.now) }
 {
     if user.side.class == 2 {
         return Some(Reason::Class);
@@ -75,7 +77,8 @@ fn refusal_to_expedite(user: &Owner, wire: &Wire) -> Option<Reason>
 
 /// Why a reset is refused: class 2 has none, and one may be under way.
 fn refusal_to_reset(user: &Owner, wire: &Wire) -> Option<Reason>
-    ensures { (now mine : ℕ) → result ≡ refusal (request.Reset mine) (user_at user.now) (section_at now wire.now) }
+    ensures { (now mine : ℕ) →
+        result ≡ refusal (request.Reset mine) (user_at user.now) (section_at now wire.now) }
 {
     if user.side.class == 2 {
         return Some(Reason::Class);
@@ -88,7 +91,8 @@ fn refusal_to_reset(user: &Owner, wire: &Wire) -> Option<Reason>
 
 /// Why a request is refused whose cell is named.
 fn refusal(request: &Request, user: &Owner, wire: &Wire) -> Option<Reason>
-    ensures { (now : ℕ) → result ≡ refusal request.now (user_at user.now) (section_at now wire.now) }
+    ensures { (now : ℕ) →
+        result ≡ refusal request.now (user_at user.now) (section_at now wire.now) }
 {
     match request {
         Request::Accept { class, .. } => {
@@ -119,7 +123,8 @@ fn said_no(alloc: Global, ssn: Ssn, reason: Reason) -> Result<Outs, Memory>
 
 /// Why a request has no effect: no cell is named for it, or it is refused.
 fn reason_against(request: &Request, user: &Owner, wire: &Wire) -> Option<Reason>
-    ensures { (now : ℕ) → result ≡ reason_against request.now (user_at user.now) (section_at now wire.now) }
+    ensures { (now : ℕ) →
+        result ≡ reason_against request.now (user_at user.now) (section_at now wire.now) }
 {
     if asking_cell(user.side.state, request) == Cell::Nothing {
         return Some(Reason::State);
@@ -137,7 +142,8 @@ fn user_asks(
     requires user { SoundOwner user }
     requires range { IsTrue (is_in_range request.now) }
     requires event { event.now ≡ Requested user.side.ssn request.now }
-    ensures asks { IfOk result (λ r. user_asks (asking_cell user.side.state request.now) request.now (user_at user) ≡ (user_at r.0, r.1)) }
+    ensures asks { IfOk result (λ r.
+        user_asks (asking_cell user.side.state request.now) request.now (user_at user) ≡ (user_at r.0, r.1)) }
     ensures sound { IfOk result (λ r. SoundOwner r.0 × SoundActed r.1) }
 {
     let cell = asking_cell(user.side.state, request);
@@ -153,12 +159,12 @@ fn ask_owner(
     user: Owner,
     wire: Wire,
 ) -> Result<(Pair, Outs), Memory>
-    requires clock { clock.now.taken ≤ 4_294_967_296 }
     requires user { SoundOwner user }
     requires section { SoundWire wire }
     requires range { IsTrue (is_in_range request.now) }
     requires event { event.now ≡ Requested user.side.ssn request.now }
-    ensures asks { IfOk result (λ r. asks_owner clock.now.ticks request.now (user_at user) (section_at clock.now.taken wire) ≡ (connection_at clock.now.taken r.0, r.1)) }
+    ensures asks { IfOk result (IsStep clock.now
+        (asks_owner clock.now.ticks request.now (user_at user) (section_by clock.now wire))) }
     ensures sound { IfOk result (λ r. SoundPair r.0) }
 {
     let ssn = user.ssn();
@@ -175,7 +181,8 @@ fn ask_owner(
 
 /// A request of a subsystem that isn't the user of the connection.
 fn not_owner(alloc: Global, ssn: Ssn, this: Side, that: Side) -> Result<(Pair, Outs), Memory>
-    ensures { IfOk result (λ r. (r.0 ≡ record { this = this; that = that }) × (r.1 ≡ said_no ssn reason.Owner)) }
+    ensures { IfOk result (λ r.
+        (r.0 ≡ record { this = this; that = that }) × (r.1 ≡ said_no ssn reason.Owner)) }
 {
     let outs = said_no(alloc, ssn, Reason::Owner)?;
     Ok((Pair { this, that }, outs))
@@ -186,23 +193,24 @@ fn not_owner(alloc: Global, ssn: Ssn, this: Side, that: Side) -> Result<(Pair, O
 fn ask_this(
     alloc: Global,
     clock: &Clock,
-    ssn: Ssn,
-    request: &Request,
-    event: &Event,
+    wanting: &Wanting<'_>,
     pair: Pair,
 ) -> Result<(Pair, Outs), Memory>
-    requires clock { clock.now.taken ≤ 4_294_967_296 }
     requires pair { SoundPair pair }
-    requires range { IsTrue (is_in_range request.now) }
-    requires event { event.now ≡ Requested ssn request.now }
-    ensures asks { IfOk result (λ r. asks clock.now.ticks ssn request.now (end_at clock.now.taken pair.this) (end_at clock.now.taken pair.that) ≡ (connection_at clock.now.taken r.0, r.1)) }
+    requires range { IsInRange wanting.now }
+    requires event { IsRequest wanting.now }
+    ensures asks { let w = wanting.now in
+        let this = end_by clock.now pair.this in
+        let that = end_by clock.now pair.that in
+        IfOk result (IsStep clock.now (asks clock.now.ticks w.ssn w.request.now this that)) }
     ensures sound { IfOk result (λ r. SoundPair r.0) }
 {
+    let ssn = wanting.ssn;
     let Pair { this, that } = pair;
     match this {
         Side::User(user) => match that {
             Side::Wire(wire) if user.side.ssn == ssn => {
-                ask_owner(alloc, clock, request, event, user, wire)
+                ask_owner(alloc, clock, wanting.request, wanting.event, user, wire)
             }
             that => not_owner(alloc, ssn, Side::User(user), that),
         },
@@ -214,21 +222,19 @@ fn ask_this(
 pub fn ask(
     alloc: Global,
     clock: &Clock,
-    ssn: Ssn,
-    request: &Request,
-    event: &Event,
+    wanting: &Wanting<'_>,
     pair: Pair,
 ) -> Result<(Pair, Outs), Memory>
-    requires clock { clock.now.taken ≤ 4_294_967_296 }
     requires pair { SoundPair pair }
-    requires range { IsTrue (is_in_range request.now) }
-    requires event { event.now ≡ Requested ssn request.now }
-    ensures asks { IfOk result (λ r. asked_by clock.now.ticks ssn request.now (connection_at clock.now.taken pair) ≡ (connection_at clock.now.taken r.0, r.1)) }
+    requires range { IsInRange wanting.now }
+    requires event { IsRequest wanting.now }
+    ensures asks { let w = wanting.now in IfOk result (IsStep clock.now
+        (asked_by clock.now.ticks w.ssn w.request.now (connection_by clock.now pair))) }
     ensures sound { IfOk result (λ r. SoundPair r.0) }
 {
     if matches!(pair.this, Side::User(_)) {
-        return ask_this(alloc, clock, ssn, request, event, pair);
+        return ask_this(alloc, clock, wanting, pair);
     }
-    let (pair, outs) = ask_this(alloc, clock, ssn, request, event, pair.turned())?;
+    let (pair, outs) = ask_this(alloc, clock, wanting, pair.turned())?;
     Ok((pair.turned(), outs))
 }

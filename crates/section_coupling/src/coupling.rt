@@ -1,7 +1,7 @@
 //! What the ends of a connection hand to each other.
-ghost use Rattle.std.specs.Prelude.{◌≡◌, ◌≤◌, ◌++◌, IfOk, OnOk, fold};
+ghost use Rattle.std.specs.Prelude.{IfOk, fold};
 ghost use Rattle.section_model.specs.Coupling.{exchange, other_takes, settles};
-ghost use Rattle.section_coupling.specs.Views.{connection_at, end_at};
+ghost use Rattle.section_coupling.specs.Views.{connection_by, end_by, IsStep};
 ghost use Rattle.section_coupling.specs.Sound.{SoundActed, SoundPair, SoundSide, SoundHands};
 
 use crate::clock::Clock;
@@ -10,18 +10,6 @@ use crate::side::Side;
 use relay_base::{Memory, Outs};
 use section_grid::{Acted, HandList};
 use std::alloc::Global;
-use std::mem;
-
-/// Puts outputs at the end.
-pub fn append(alloc: Global, outs: &mut Outs, more: Outs) -> Result<(), Memory>
-    ensures { OnOk result (outs.new ≡ outs.old ++ more) }
-{
-    let mut items = mem::replace(outs, Outs::new(alloc)).into_vec();
-    let mut added = more.into_vec();
-    items.append(&mut added)?;
-    *outs = Outs::from(items);
-    Ok(())
-}
 
 /// The other end takes effects, one after another, and what it hands back goes on in turn. The outputs stand behind those that are
 /// there.
@@ -34,10 +22,10 @@ fn offer(
     outs: Outs,
     hands: &HandList,
 ) -> Result<(Pair, Outs), Memory>
-    requires clock { clock.now.taken ≤ 4_294_967_296 }
     requires pair { SoundPair pair }
     requires hands { SoundHands hands.now }
-    ensures offered { IfOk result (λ r. fold (other_takes (exchange turns clock.now.ticks) clock.now.ticks) (connection_at clock.now.taken pair, outs) hands.now ≡ (connection_at clock.now.taken r.0, r.1)) }
+    ensures offered { let next = exchange turns clock.now.ticks in IfOk result (IsStep clock.now
+        (fold (other_takes next clock.now.ticks) (connection_by clock.now pair, outs) hands.now)) }
     ensures sound { IfOk result (λ r. SoundPair r.0) }
 {
     let mut pair = pair;
@@ -46,7 +34,7 @@ fn offer(
         let (that, acted) = pair.that.take(alloc, clock, hand)?;
         let (back, more) = exchange(alloc, clock, turns, that, acted, pair.this)?;
         pair = back.turned();
-        append(alloc, &mut outs, more)?;
+        outs.append(more)?;
     }
     Ok((pair, outs))
 }
@@ -63,11 +51,11 @@ fn exchange(
     acted: Acted,
     that: Side,
 ) -> Result<(Pair, Outs), Memory>
-    requires clock { clock.now.taken ≤ 4_294_967_296 }
     requires this { SoundSide this }
     requires acted { SoundActed acted }
     requires that { SoundSide that }
-    ensures exchanged { IfOk result (λ r. exchange turns clock.now.ticks (end_at clock.now.taken this, acted) (end_at clock.now.taken that) ≡ (connection_at clock.now.taken r.0, r.1)) }
+    ensures exchanged { IfOk result (IsStep clock.now
+        (exchange turns clock.now.ticks (end_by clock.now this, acted) (end_by clock.now that))) }
     ensures sound { IfOk result (λ r. SoundPair r.0) }
 {
     let Acted { first, outs, then } = acted;
@@ -77,7 +65,7 @@ fn exchange(
     }
     let none = Outs::new(alloc);
     let (pair, mut all) = offer(alloc, clock, turns - 1, pair, none, &first)?;
-    append(alloc, &mut all, outs)?;
+    all.append(outs)?;
     let (pair, all) = offer(alloc, clock, turns - 1, pair, all, &then)?;
     Ok((pair, all))
 }
@@ -90,11 +78,11 @@ pub fn settle(
     acted: Acted,
     that: Side,
 ) -> Result<(Pair, Outs), Memory>
-    requires clock { clock.now.taken ≤ 4_294_967_296 }
     requires this { SoundSide this }
     requires acted { SoundActed acted }
     requires that { SoundSide that }
-    ensures settled { IfOk result (λ r. settles clock.now.ticks (end_at clock.now.taken this, acted) (end_at clock.now.taken that) ≡ (connection_at clock.now.taken r.0, r.1)) }
+    ensures settled { IfOk result (IsStep clock.now
+        (settles clock.now.ticks (end_by clock.now this, acted) (end_by clock.now that))) }
     ensures sound { IfOk result (λ r. SoundPair r.0) }
 {
     exchange(alloc, clock, 3, this, acted, that)

@@ -6,24 +6,27 @@ ghost use Rattle.section_model.specs.Lane.{reference_of};
 ghost use Rattle.section_model.specs.Opening.{wish_of, slots_needed, opened};
 ghost use Rattle.section_coupling.specs.Openings.{IsAnswered};
 ghost use Rattle.section_model.specs.Parameters.{arrival_in};
-ghost use Rattle.section_coupling.specs.Views.{connection_at, left_at};
+ghost use Rattle.section_coupling.specs.Views.{connection_at, left_at, IsStep};
 ghost use Rattle.section_coupling.specs.Sound.{IsCredit, SoundPair};
 ghost use Rattle.flow_law.specs.InStep.{IsInStep};
 ghost use Rattle.flow_law.specs.FlowLaw.{FlowKept};
 ghost use Rattle.relay_base.specs.declared.words.Event.TheVariants.{Tick};
-ghost use Rattle.section_coupling.specs.Duos.{duo_at, taken_after, side_of, ticks_left, fewest_left};
+ghost use Rattle.section_coupling.specs.Duos.{duo_at, taken_after, end_numbered, end_named, left_of_timer, ticks_left, fewest_left};
 
 use crate::asking::ask;
-use crate::clock::Clock;
+use crate::clock::{Clock, taken_after};
+use crate::coming::{Coming, Wanting};
 use crate::following::follow;
 use crate::hearing::hear_message;
 use crate::opening::{Opening, begin};
-use crate::pair::Pair;
+use crate::pair::{EndName, Pair};
 use crate::sizes::needs;
+use crate::taken::Taken;
 use crate::ticking::{tick, timer_placed};
 use crate::unheard::{is_in_range, named};
 use plant_core::{Answer, Terms, Ticks};
 use relay_base::{Event, Memory, Outs, Ref24};
+use section_grid::Timer;
 use section_model::arrival_in;
 use std::alloc::Global;
 use std::marker::Model;
@@ -53,42 +56,43 @@ pub struct Heard {
     pub outs: Outs,
 }
 
-/// How many ticks a lane has taken after an event.
-fn taken_after(now: u64, event: &Event) -> u64
-    requires { now ≤ 4_294_967_295 }
-    ensures { result ≡ taken_after now event.now }
-{
-    match event {
-        Event::Message { .. } | Event::Asked { .. } => now,
-        Event::Tick => now + 1,
-    }
-}
-
-/// The connection after an event, and its outputs, but for what follows each event in class 3.
+/// The connection after an event before which the lane took so many ticks, and its outputs, but for what follows each event in class 3.
+/// The clock has the event already.
 fn take(
     alloc: Global,
-    ticks: Ticks,
-    now: u64,
+    clock: &Clock,
+    now: u32,
     event: &Event,
     pair: Pair,
 ) -> Result<(Pair, Outs), Memory>
-    requires now { now ≤ 4_294_967_295 }
+    requires clock { clock.now.taken ≡ taken_after now event.now }
     requires pair { SoundPair pair }
     requires hears { IsTrue (hears (connection_at now pair) event.now) }
-    ensures step { IfOk result (λ r. event_step ticks (connection_at now pair) event.now ≡ (connection_at (taken_after now event.now) r.0, r.1)) }
+    ensures step { IfOk result (IsStep clock.now
+        (event_step clock.now.ticks (connection_at now pair) event.now)) }
     ensures sound { IfOk result (λ r. SoundPair r.0) }
 {
-    let clock = Clock {
-        ticks,
-        taken: taken_after(now, event),
-    };
     match event {
         Event::Message { opc, bytes, .. } => match arrival_in(bytes.as_slice()) {
-            Some(arrival) => hear_message(alloc, &clock, &arrival, *opc, event, pair),
+            Some(arrival) => {
+                let coming = Coming {
+                    event,
+                    point: *opc,
+                    arrival,
+                };
+                hear_message(alloc, clock, &coming, pair)
+            }
             None => Ok((pair, Outs::new(alloc))),
         },
-        Event::Asked { ssn, request } => ask(alloc, &clock, *ssn, request, event, pair),
-        Event::Tick => tick(alloc, &clock, now, pair),
+        Event::Asked { ssn, request } => {
+            let wanting = Wanting {
+                event,
+                ssn: *ssn,
+                request,
+            };
+            ask(alloc, clock, &wanting, pair)
+        }
+        Event::Tick => tick(alloc, clock, now, pair),
     }
 }
 
@@ -102,7 +106,8 @@ pub struct Begun {
 impl Duo {
     /// How many local references an opening takes by the answer of routing, 0, 1 or 2.
     pub fn needs(event: &Event, answer: &Answer) -> u8
-        ensures { (terms : Terms) → result ≡ slots_needed (wish_of terms event.now) (Some answer.now) }
+        ensures { (terms : Terms) →
+            result ≡ slots_needed (wish_of terms event.now) (Some answer.now) }
     {
         needs(event, answer)
     }
@@ -119,11 +124,15 @@ impl Duo {
     ) -> Result<Begun, Memory>
         requires now { now ≤ 4_294_967_295 }
         requires credit { IsCredit terms.now.credit }
-        requires answered { IsAnswered (wish_of terms.now event.now) (option_map (λ a. a.now) asked) }
-        ensures opened { IfOk result (λ b. opened terms.now (wish_of terms.now event.now) (option_map (λ a. a.now) asked.entry) refs.now ≡ record { connection = option_map (duo_at now) b.duo; outs = b.outs }) }
+        requires answered { let answer = option_map (λ a. a.now) asked in
+            IsAnswered (wish_of terms.now event.now) answer }
+        ensures opened { let answer = option_map (λ a. a.now) asked.entry in
+            IfOk result (λ b. opened terms.now (wish_of terms.now event.now) answer refs.now ≡
+            record { connection = option_map (duo_at now) b.duo; outs = b.outs }) }
         ensures ticks { IfOk result (λ b. IfSome b.duo (λ d. d.ticks ≡ terms.now.ticks)) }
     {
-        let Opening { pair, outs } = begin(alloc, terms, now, event, asked, refs)?;
+        let taken = Taken::before(now as u32);
+        let Opening { pair, outs } = begin(alloc, terms, taken, event, asked, refs)?;
         let ticks = terms.ticks;
         let duo = match pair {
             Some(pair) => Some(Duo { alloc, ticks, pair }),
@@ -168,16 +177,20 @@ impl Duo {
     pub fn hear(&self, now: u64, event: &Event) -> Result<Heard, Memory>
         requires now { now ≤ 4_294_967_295 }
         requires hears { IsTrue (hears (duo_at now self.now) event.now) }
-        ensures step { IfOk result (λ heard. connection_step self.now.ticks (duo_at now self.now) event.now ≡ (duo_at (taken_after now event.now) heard.duo, heard.outs)) }
+        ensures step { let later = taken_after now event.now in IfOk result (λ heard.
+            connection_step self.now.ticks (duo_at now self.now) event.now ≡
+            (duo_at later heard.duo, heard.outs)) }
         ensures ticks { IfOk result (λ heard. heard.duo.ticks ≡ self.now.ticks) }
-        ensures windows { IfOk result (λ heard. FlowKept (duo_at (taken_after now event.now) heard.duo)) }
+        ensures windows { IfOk result (λ heard.
+            FlowKept (duo_at (taken_after now event.now) heard.duo)) }
     {
         let Duo { alloc, ticks, pair } = self.copy()?;
-        let (pair, outs) = take(alloc, ticks, now, event, pair)?;
+        let before = now as u32;
         let clock = Clock {
             ticks,
-            taken: taken_after(now, event),
+            taken: taken_after(before, event),
         };
+        let (pair, outs) = take(alloc, &clock, before, event, pair)?;
         let (pair, outs) = follow(alloc, &clock, pair, outs)?;
         let duo = Duo { alloc, ticks, pair };
         Ok(Heard { duo, outs })
@@ -193,7 +206,7 @@ impl Duo {
     /// The local reference that the end of this number took, 0 or 1; None where it is a user.
     pub fn reference(&self, side: u8) -> Option<Ref24>
         requires { side < 2 }
-        ensures { (now : ℕ) → result ≡ reference_of (side_of side (duo_at now self.now)) }
+        ensures { (now : ℕ) → result ≡ reference_of (end_numbered side (duo_at now self.now)) }
     {
         if side == 0 {
             self.pair.this.reference()
@@ -208,11 +221,18 @@ impl Duo {
         requires { timer < 14 }
         ensures { (now : ℕ) → left_at now result ≡ ticks_left timer (duo_at now self.now) }
     {
-        let (end, placed) = (timer / 7, timer_placed(timer % 7));
-        if end == 0 {
-            self.pair.this.deadline(placed)
-        } else {
-            self.pair.that.deadline(placed)
+        // One number for both, since a caller keeps and compares timers of many connections by such numbers; inside both have their names.
+        self.deadline_of(EndName::numbered(timer / 7), timer_placed(timer % 7))
+    }
+
+    /// The lane's tick, counted from 1, at which a timer of an end fires; None where it doesn't run.
+    fn deadline_of(&self, end: EndName, timer: Timer) -> Option<u64>
+        ensures { (now : ℕ) →
+            left_at now result ≡ left_of_timer timer (end_named end (duo_at now self.now)) }
+    {
+        match end {
+            EndName::This => self.pair.this.deadline(timer),
+            EndName::That => self.pair.that.deadline(timer),
         }
     }
 
@@ -220,8 +240,11 @@ impl Duo {
     /// only bring the timers nearer, since nothing is left after an event that would leave: such a tick gives no output, and the same
     /// connection.
     pub fn wakes(&self) -> u64
-        ensures first { result ≡ min (fewest_left (duo_at 0 self.now).this) (fewest_left (duo_at 0 self.now).that) }
-        ensures sleeps { (now : ℕ) → now + 1 < result → connection_step self.now.ticks (duo_at now self.now) Tick ≡ (duo_at (now + 1) self.now, []) }
+        ensures first { result ≡
+            min (fewest_left (duo_at 0 self.now).this) (fewest_left (duo_at 0 self.now).that) }
+        ensures sleeps { (now : ℕ) → now + 1 < result →
+            connection_step self.now.ticks (duo_at now self.now) Tick ≡
+            (duo_at (now + 1) self.now, []) }
     {
         self.pair.this.wakes().min(self.pair.that.wakes())
     }
@@ -236,7 +259,7 @@ impl Duo {
     /// Whether the end of this number is gone, 0 or 1.
     pub fn gone(&self, side: u8) -> bool
         requires { side < 2 }
-        ensures { (now : ℕ) → result ≡ end_is_gone (side_of side (duo_at now self.now)) }
+        ensures { (now : ℕ) → result ≡ end_is_gone (end_numbered side (duo_at now self.now)) }
     {
         if side == 0 {
             self.pair.this.is_gone()

@@ -1,15 +1,16 @@
-//! What follows each event in class 3 (Q.714, flow control and expedited data transfer): what waits leaves, and what left is
+//! What follows each event in class 3 (Q.714, 3.5.2 and 3.6): what waits leaves, and what left is
 //! acknowledged.
 ghost use Rattle.std.specs.Prelude.{◌≡◌, ◌≤◌, ◌==◌, ◌&&◌, IfOk};
 ghost use Rattle.section_model.specs.Ends.{is_up, wire as end};
 ghost use Rattle.section_class3.specs.Windows.{windows_turn};
 ghost use Rattle.section_model.specs.Views.{section_of};
+ghost use Rattle.section_model.specs.Coupling.{and_then};
 ghost use Rattle.section_model.specs.Step.{on_windows, on_each, after_event};
-ghost use Rattle.section_coupling.specs.Views.{section_at, end_at, connection_at};
+ghost use Rattle.section_coupling.specs.Views.{section_by, end_by, connection_by, IsStep};
 ghost use Rattle.section_coupling.specs.Sound.{SoundWire, SoundSide, SoundPair};
 
 use crate::clock::Clock;
-use crate::coupling::{append, settle};
+use crate::coupling::settle;
 use crate::pair::Pair;
 use crate::side::Side;
 use crate::wire::Wire;
@@ -32,10 +33,11 @@ fn on_section(
     wire: Wire,
     that: Side,
 ) -> Result<(Pair, Outs), Memory>
-    requires clock { clock.now.taken ≤ 4_294_967_296 }
     requires section { SoundWire wire }
     requires that { SoundSide that }
-    ensures follows { IfOk result (λ r. on_windows clock.now.ticks (windows_turn cell) (end (section_at clock.now.taken wire)) (end_at clock.now.taken that) ≡ (connection_at clock.now.taken r.0, r.1)) }
+    ensures follows { let this = end (section_by clock.now wire) in
+        let part = on_windows clock.now.ticks (windows_turn cell) in
+        IfOk result (IsStep clock.now (part this (end_by clock.now that))) }
     ensures sound { IfOk result (λ r. SoundPair r.0) }
 {
     if !has_windows(&wire.head) {
@@ -48,9 +50,10 @@ fn on_section(
 
 /// A part of it on this end.
 fn on_this(alloc: Global, clock: &Clock, cell: Cell, pair: Pair) -> Result<(Pair, Outs), Memory>
-    requires clock { clock.now.taken ≤ 4_294_967_296 }
     requires pair { SoundPair pair }
-    ensures follows { IfOk result (λ r. on_windows clock.now.ticks (windows_turn cell) (end_at clock.now.taken pair.this) (end_at clock.now.taken pair.that) ≡ (connection_at clock.now.taken r.0, r.1)) }
+    ensures follows { let part = on_windows clock.now.ticks (windows_turn cell) in
+        IfOk result (IsStep clock.now
+        (part (end_by clock.now pair.this) (end_by clock.now pair.that))) }
     ensures sound { IfOk result (λ r. SoundPair r.0) }
 {
     let Pair { this, that } = pair;
@@ -58,6 +61,26 @@ fn on_this(alloc: Global, clock: &Clock, cell: Cell, pair: Pair) -> Result<(Pair
         Side::Wire(wire) => on_section(alloc, clock, cell, wire, that),
         Side::User(_) => Ok((Pair { this, that }, Outs::new(alloc))),
     }
+}
+
+/// A part of it on this end, behind these outputs.
+fn then_on_this(
+    alloc: Global,
+    clock: &Clock,
+    cell: Cell,
+    pair: Pair,
+    outs: Outs,
+) -> Result<(Pair, Outs), Memory>
+    requires pair { SoundPair pair }
+    ensures follows { let part = on_windows clock.now.ticks (windows_turn cell) in
+        IfOk result (IsStep clock.now
+        (and_then (λ c. part c.this c.that) (connection_by clock.now pair, outs))) }
+    ensures sound { IfOk result (λ r. SoundPair r.0) }
+{
+    let mut outs = outs;
+    let (pair, more) = on_this(alloc, clock, cell, pair)?;
+    outs.append(more)?;
+    Ok((pair, outs))
 }
 
 /// A part of it on this end, and then on the other one.
@@ -68,25 +91,22 @@ fn on_each(
     pair: Pair,
     outs: Outs,
 ) -> Result<(Pair, Outs), Memory>
-    requires clock { clock.now.taken ≤ 4_294_967_296 }
     requires pair { SoundPair pair }
-    ensures follows { IfOk result (λ r. on_each (on_windows clock.now.ticks (windows_turn cell)) (connection_at clock.now.taken pair, outs) ≡ (connection_at clock.now.taken r.0, r.1)) }
+    ensures follows { let part = on_windows clock.now.ticks (windows_turn cell) in
+        IfOk result (IsStep clock.now (on_each part (connection_by clock.now pair, outs))) }
     ensures sound { IfOk result (λ r. SoundPair r.0) }
 {
-    let mut outs = outs;
-    let (pair, more) = on_this(alloc, clock, cell, pair)?;
-    append(alloc, &mut outs, more)?;
-    let (pair, more) = on_this(alloc, clock, cell, pair.turned())?;
-    append(alloc, &mut outs, more)?;
+    let (pair, outs) = then_on_this(alloc, clock, cell, pair, outs)?;
+    let (pair, outs) = then_on_this(alloc, clock, cell, pair.turned(), outs)?;
     Ok((pair.turned(), outs))
 }
 
 /// What follows an event that gave these outputs: on each end what waits leaves, and then on each what left is acknowledged.
 #[tactic(auto, unfolding(section_model::specs::Step::after_event))]
 pub fn follow(alloc: Global, clock: &Clock, pair: Pair, outs: Outs) -> Result<(Pair, Outs), Memory>
-    requires clock { clock.now.taken ≤ 4_294_967_296 }
     requires pair { SoundPair pair }
-    ensures follows { IfOk result (λ r. after_event clock.now.ticks (connection_at clock.now.taken pair, outs) ≡ (connection_at clock.now.taken r.0, r.1)) }
+    ensures follows { IfOk result (IsStep clock.now
+        (after_event clock.now.ticks (connection_by clock.now pair, outs))) }
     ensures sound { IfOk result (λ r. SoundPair r.0) }
 {
     let (pair, outs) = on_each(alloc, clock, Cell::Leave, pair, outs)?;

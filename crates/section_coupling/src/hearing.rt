@@ -1,22 +1,26 @@
 //! A message on a connection section (Q.714): the checks before the table's cell, and the cell.
-ghost use Rattle.std.specs.Prelude.{◌≡◌, ◌≤◌, ℕ, Some, IfOk};
+ghost use Rattle.std.specs.Prelude.{◌≡◌, ◌∷◌, [], Some, IfOk};
 ghost use Rattle.std.specs.Option.{option_map};
-ghost use Rattle.relay_base.specs.declared.words.Event.TheVariants.{Message as Arrived};
+ghost use Rattle.relay_base.specs.declared.words.Output.TheVariants.{Sent, Lost as Dropped};
+ghost use Rattle.relay_base.specs.declared.words.Lost.TheVariants as lost;
+ghost use Rattle.q713_codec.specs.declared.message.Message.TheVariants.{Err as Error};
+ghost use Rattle.q713_codec.specs.Writing.{spelling_of};
 ghost use Rattle.section_model.specs.Ends.{wire};
-ghost use Rattle.section_model.specs.Parameters.{arrival_in};
 ghost use Rattle.section_model.specs.Views.{seen_arrival, seen_parameters, section_of};
-ghost use Rattle.section_model.specs.Step.{names_both, ends_both, names_another, is_of_class_2, is_of_class_3, is_of_other_class, checked, hears_checked, hears_message, is_from_elsewhere, in_touch, keeps, is_named, at_this, heard_by};
-ghost use Rattle.section_coupling.specs.Arrived.{arrived_in};
-ghost use Rattle.section_coupling.specs.Views.{section_at, end_at, connection_at};
+ghost use Rattle.section_model.specs.Step.{names_both, ends_both, names_another, is_of_class_2, is_of_class_3, is_of_other_class, checked, is_from_elsewhere, in_touch, keeps, at_this, heard_by};
+ghost use Rattle.section_coupling.specs.Comings.{IsArrival, hears_coming, hears_on};
+ghost use Rattle.section_coupling.specs.Views.{section_by, end_by, connection_by, IsStep, IsAct};
 ghost use Rattle.section_coupling.specs.Sound.{SoundWire, SoundSide, SoundPair, SoundActed};
 
 use crate::clock::Clock;
+use crate::coming::Coming;
 use crate::coupling::settle;
 use crate::pair::Pair;
 use crate::side::Side;
 use crate::wire::{Wire, is_sent};
 use q713_codec::{Message, write};
-use relay_base::{Event, Lost, Memory, Output, Outs, Pc, Ref24};
+use relay_base::causes::ERROR_INCONSISTENT_REFERENCE;
+use relay_base::{Lost, Memory, Output, Outs, Pc, Ref24};
 use section_grid::{Acted, Input, Occasion, SectionState, WireHead, section_cell};
 use section_model::{ArrivalView, ParametersView};
 use std::alloc::Global;
@@ -75,27 +79,37 @@ fn is_from_elsewhere(point: Pc, head: &WireHead) -> bool
     is_reached && point != head.point
 }
 
+/// ERR for a wrong reference of the other end, to the reference that the message names.
+fn reference_error(alloc: Global, head: &WireHead, dlr: Ref24) -> Result<Output, Memory>
+    ensures { let error = spelling_of (Error dlr ERROR_INCONSISTENT_REFERENCE) in
+        IfOk result (λ output. output ≡ Sent head.now.point head.now.sls error) }
+{
+    let error = Message::Err {
+        dlr,
+        cause: ERROR_INCONSISTENT_REFERENCE,
+    };
+    let bytes = write(alloc, &error)?;
+    Ok(Output::Sent {
+        point: head.point,
+        sls: head.sls,
+        bytes,
+    })
+}
+
 /// What is said in place of the cell, where a check keeps the message from it.
 fn checked(
     alloc: Global,
     arrival: &ArrivalView<'_>,
     head: &WireHead,
 ) -> Result<Option<Output>, Memory>
-    ensures { IfOk result (λ output. output ≡ checked arrival.now.occasion (seen_parameters arrival.now.parameters) (section_of head.now)) }
+    ensures { let parameters = seen_parameters arrival.now.parameters in IfOk result (λ output.
+        output ≡ checked arrival.now.occasion parameters (section_of head.now)) }
 {
     let occasion = arrival.occasion;
     let names_another = names_another(&arrival.parameters, head);
     if names_both(occasion) && names_another {
-        let error = Message::Err {
-            dlr: arrival.parameters.slr,
-            cause: 1,
-        };
-        let bytes = write(alloc, &error)?;
-        return Ok(Some(Output::Sent {
-            point: head.point,
-            sls: head.sls,
-            bytes,
-        }));
+        let error = reference_error(alloc, head, arrival.parameters.slr)?;
+        return Ok(Some(error));
     }
     if ends_both(occasion) && names_another {
         return Ok(Some(Output::Lost(Lost::State)));
@@ -109,8 +123,8 @@ fn checked(
 impl Wire {
     /// A message from the section's point starts its receive inactivity timer again.
     fn in_touch(self, clock: &Clock) -> Wire
-        requires { clock.now.taken ≤ 4_294_967_296 }
-        ensures value { section_at clock.now.taken result ≡ in_touch clock.now.ticks (section_at clock.now.taken self) }
+        ensures value { section_by clock.now result ≡
+            in_touch clock.now.ticks (section_by clock.now self) }
         ensures sound { SoundWire self → SoundWire result }
     {
         Wire {
@@ -121,9 +135,9 @@ impl Wire {
 
     /// Gives an output, and keeps its state.
     fn keep(self, alloc: Global, clock: &Clock, output: Output) -> Result<(Wire, Acted), Memory>
-        requires { clock.now.taken ≤ 4_294_967_296 }
         ensures sound { SoundWire self → IfOk result (λ r. SoundWire r.0 × SoundActed r.1) }
-        ensures keeps { IfOk result (λ r. keeps clock.now.ticks output (section_at clock.now.taken self) ≡ (wire (section_at clock.now.taken r.0), r.1)) }
+        ensures keeps { IfOk result (IsAct clock.now
+            (keeps clock.now.ticks output (section_by clock.now self))) }
     {
         let state = self.head.state();
         let is_sent = is_sent(&output);
@@ -141,94 +155,94 @@ impl Wire {
         self,
         alloc: Global,
         clock: &Clock,
-        arrival: &ArrivalView<'_>,
-        event: &Event,
+        coming: &Coming<'_>,
     ) -> Result<(Wire, Acted), Memory>
-        requires clock { clock.now.taken ≤ 4_294_967_296 }
         requires section { SoundWire self }
-        requires arrives { (arrived_in event.now).arrival ≡ Some (seen_arrival arrival.now) }
-        ensures hears { IfOk result (λ r. hears_checked clock.now.ticks arrival.now.occasion (arrived_in event.now).point (seen_parameters arrival.now.parameters) (section_at clock.now.taken self) (checked arrival.now.occasion (seen_parameters arrival.now.parameters) (section_of self.head)) ≡ (wire (section_at clock.now.taken r.0), r.1)) }
+        requires arrives { IsArrival coming.now }
+        ensures hears { IfOk result (IsAct clock.now
+            (hears_coming clock.now coming.now (section_by clock.now self))) }
         ensures sound { IfOk result (λ r. SoundWire r.0 × SoundActed r.1) }
     {
-        match checked(alloc, arrival, &self.head)? {
+        match checked(alloc, &coming.arrival, &self.head)? {
             Some(output) => self.keep(alloc, clock, output),
             None => {
-                let cell = section_cell(self.head.state(), arrival.occasion);
-                self.act(alloc, clock, cell, &Input::Event(event))
+                let cell = section_cell(self.head.state(), coming.arrival.occasion);
+                self.act(alloc, clock, cell, &Input::Event(coming.event))
             }
         }
     }
 }
 
-/// A message on a section, from a point.
+/// A message that comes from another point than the section's is lost.
+fn lost_from_elsewhere(alloc: Global, this: Side, that: Side) -> Result<(Pair, Outs), Memory>
+    ensures { IfOk result (λ r.
+        (r.0 ≡ record { this = this; that = that }) × (r.1 ≡ Dropped lost.Point ∷ [])) }
+{
+    let mut outs = Outs::new(alloc);
+    outs.push(Output::Lost(Lost::Point))?;
+    Ok((Pair { this, that }, outs))
+}
+
+/// A message on a section.
 #[tactic(auto, unfolding(section_model::specs::Step::hears_message))]
 fn hear_on(
     alloc: Global,
     clock: &Clock,
-    arrival: &ArrivalView<'_>,
-    point: Pc,
-    event: &Event,
+    coming: &Coming<'_>,
     wire: Wire,
     that: Side,
 ) -> Result<(Pair, Outs), Memory>
-    requires clock { clock.now.taken ≤ 4_294_967_296 }
     requires section { SoundWire wire }
     requires that { SoundSide that }
-    requires arrives { arrived_in event.now ≡ record { point = point; arrival = Some (seen_arrival arrival.now) } }
-    ensures hears { IfOk result (λ r. hears_message clock.now.ticks arrival.now.occasion point (seen_parameters arrival.now.parameters) (section_at clock.now.taken wire) (end_at clock.now.taken that) ≡ (connection_at clock.now.taken r.0, r.1)) }
+    requires arrives { IsArrival coming.now }
+    ensures hears { IfOk result (IsStep clock.now
+        (hears_on clock.now coming.now (section_by clock.now wire) (end_by clock.now that))) }
     ensures sound { IfOk result (λ r. SoundPair r.0) }
 {
-    if is_from_elsewhere(point, &wire.head) {
-        let mut outs = Outs::new(alloc);
-        outs.push(Output::Lost(Lost::Point))?;
-        let this = Side::Wire(wire);
-        return Ok((Pair { this, that }, outs));
+    if is_from_elsewhere(coming.point, &wire.head) {
+        return lost_from_elsewhere(alloc, Side::Wire(wire), that);
     }
-    let wire = wire.in_touch(clock);
-    let (wire, acted) = wire.hear(alloc, clock, arrival, event)?;
+    let (wire, acted) = wire.in_touch(clock).hear(alloc, clock, coming)?;
     settle(alloc, clock, Side::Wire(wire), acted, that)
-}
-
-/// A message on the end that its destination local reference names.
-pub fn hear_message(
-    alloc: Global,
-    clock: &Clock,
-    arrival: &ArrivalView<'_>,
-    point: Pc,
-    event: &Event,
-    pair: Pair,
-) -> Result<(Pair, Outs), Memory>
-    requires clock { clock.now.taken ≤ 4_294_967_296 }
-    requires pair { SoundPair pair }
-    requires arrives { arrived_in event.now ≡ record { point = point; arrival = Some (seen_arrival arrival.now) } }
-    ensures hears { IfOk result (λ r. heard_by clock.now.ticks point (Some (seen_arrival arrival.now)) (connection_at clock.now.taken pair) ≡ (connection_at clock.now.taken r.0, r.1)) }
-    ensures sound { IfOk result (λ r. SoundPair r.0) }
-{
-    if pair.this.is_named(arrival.parameters.dlr) {
-        return hear_at_this(alloc, clock, arrival, point, event, pair);
-    }
-    let (pair, outs) = hear_at_this(alloc, clock, arrival, point, event, pair.turned())?;
-    Ok((pair.turned(), outs))
 }
 
 /// A message on this end; one for a user's end has no effect.
 fn hear_at_this(
     alloc: Global,
     clock: &Clock,
-    arrival: &ArrivalView<'_>,
-    point: Pc,
-    event: &Event,
+    coming: &Coming<'_>,
     pair: Pair,
 ) -> Result<(Pair, Outs), Memory>
-    requires clock { clock.now.taken ≤ 4_294_967_296 }
     requires pair { SoundPair pair }
-    requires arrives { arrived_in event.now ≡ record { point = point; arrival = Some (seen_arrival arrival.now) } }
-    ensures hears { IfOk result (λ r. at_this (hears_message clock.now.ticks arrival.now.occasion point (seen_parameters arrival.now.parameters)) (connection_at clock.now.taken pair) ≡ (connection_at clock.now.taken r.0, r.1)) }
+    requires arrives { IsArrival coming.now }
+    ensures hears { IfOk result (IsStep clock.now
+        (at_this (hears_on clock.now coming.now) (connection_by clock.now pair))) }
     ensures sound { IfOk result (λ r. SoundPair r.0) }
 {
     let Pair { this, that } = pair;
     match this {
-        Side::Wire(wire) => hear_on(alloc, clock, arrival, point, event, wire, that),
+        Side::Wire(wire) => hear_on(alloc, clock, coming, wire, that),
         Side::User(_) => Ok((Pair { this, that }, Outs::new(alloc))),
     }
+}
+
+/// A message on the end that its destination local reference names.
+pub fn hear_message(
+    alloc: Global,
+    clock: &Clock,
+    coming: &Coming<'_>,
+    pair: Pair,
+) -> Result<(Pair, Outs), Memory>
+    requires pair { SoundPair pair }
+    requires arrives { IsArrival coming.now }
+    ensures hears { let arrival = Some (seen_arrival coming.now.arrival) in
+        IfOk result (IsStep clock.now
+        (heard_by clock.now.ticks coming.now.point arrival (connection_by clock.now pair))) }
+    ensures sound { IfOk result (λ r. SoundPair r.0) }
+{
+    if pair.this.is_named(coming.arrival.parameters.dlr) {
+        return hear_at_this(alloc, clock, coming, pair);
+    }
+    let (pair, outs) = hear_at_this(alloc, clock, coming, pair.turned())?;
+    Ok((pair.turned(), outs))
 }

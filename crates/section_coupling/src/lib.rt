@@ -4,6 +4,7 @@
 
 mod asking;
 mod clock;
+mod coming;
 mod coupling;
 mod duo;
 mod following;
@@ -13,12 +14,15 @@ mod owner;
 mod pair;
 mod side;
 mod sizes;
+mod taken;
 mod ticking;
 mod timers;
 mod unheard;
 mod wire;
 mod wish;
 
+pub use clock::taken_after;
 pub use duo::{Begun, Duo, Heard};
+pub use taken::Taken;
 pub use unheard::{named, stray};
 pub use wish::{ask_of, opens};

@@ -1,4 +1,4 @@
-//! How a connection is opened (Q.714, connection establishment): by CR from the network, or by a user's request.
+//! How a connection is opened (Q.714, 3.1): by CR from the network, or by a user's request.
 ghost use Rattle.std.specs.Prelude.{◌≡◌, ◌≤◌, ◌∷◌, [], ℕ, true, IfOk, IfSome};
 ghost use Rattle.std.specs.Option.{option_map};
 ghost use Rattle.relay_base.specs.declared.words.Output.TheVariants.{Sent, Told};
@@ -10,8 +10,8 @@ ghost use Rattle.scmg_messages.specs.Messages.{status_outputs};
 ghost use Rattle.plant_core.specs.Rewriting.{called_onward};
 ghost use Rattle.section_model.specs.Views.{section_of};
 ghost use Rattle.section_model.specs.Line.{credit_of};
-ghost use Rattle.section_model.specs.Opening.{wish_of, offered, fits, by_cr, by_user, new_section, new_user, asked_section, asking_section, onward, cref_to, not_opened, opened_locally, opened_onward, opened_by_cr, opened_out, opened_by_user, opened};
-ghost use Rattle.section_coupling.specs.Openings.{seen_calling, seen_wanted, seen_incoming, seen_outgoing, opened_at, IsGivenWithin, OpensSound};
+ghost use Rattle.section_model.specs.Opening.{wish_of, offered, fits, by_cr, by_user, new_section, new_user, asked_section, asking_section, cref_to, not_opened, opened_locally, opened_onward, opened_by_cr, opened_out, opened_by_user, opened};
+ghost use Rattle.section_coupling.specs.Openings.{seen_calling, seen_wanted, seen_incoming, seen_outgoing, opened_at, cr_onward, IsGivenWithin, OpensSound};
 ghost use Rattle.section_coupling.specs.Sound.{IsCredit, SoundSide, SoundPair};
 ghost use Rattle.section_coupling.specs.Views.{end_at, connection_at};
 
@@ -20,25 +20,22 @@ use crate::owner::Owner;
 use crate::pair::Pair;
 use crate::side::Side;
 use crate::sizes::fits;
+use crate::taken::Taken;
 use crate::timers::Timers;
 use crate::unheard::sent;
 use crate::wire::Wire;
 use crate::wish::{Calling, Incoming, Outgoing, WantedView, WishView, wish_of};
 use plant_core::{Answer, Rewrite, RouteCause, Terms, called_onward, refusal_cause};
 use q713_codec::Message;
+use relay_base::causes::{REFUSAL_NOT_AVAILABLE, REFUSAL_UNQUALIFIED};
 use relay_base::{BoxedOctets, Event, Memory, Octets, Output, Outs, Pc, Ref24, Ssn, Tell};
+use sccp_address::subsystem_address;
 use scmg_messages::put_status;
 use section_class2::Line;
 use section_class3::Windows;
 use section_grid::{KeptRelease, SectionState, UserState, WireHead};
 use section_user::UserSide;
 use std::alloc::Global;
-
-/// The refusal cause of CR for which no references are free (Q.713, QoS not available, transient).
-const NO_REFERENCE: u8 = 0x07;
-
-/// The refusal cause of CR that is none for this node, or can't go on (Q.713, unqualified).
-const UNQUALIFIED: u8 = 0x0F;
 
 /// The connection that an event opens, if it opens one, and what comes of the event.
 #[derive(Drop)]
@@ -60,8 +57,7 @@ fn offered(terms: &Terms, wanted: &WantedView<'_>) -> u8
 }
 
 /// A new section, in which nothing is kept or counted.
-fn new_wire(alloc: Global, terms: &Terms, now: u64, head: WireHead) -> Side
-    requires now { now ≤ 4_294_967_296 }
+fn new_wire(alloc: Global, terms: &Terms, now: Taken, head: WireHead) -> Side
     requires credit { IsCredit head.credit }
     ensures value { end_at now result ≡ new_section terms.now.ticks (section_of head) }
     ensures sound { SoundSide result }
@@ -82,10 +78,16 @@ fn new_wire(alloc: Global, terms: &Terms, now: u64, head: WireHead) -> Side
 }
 
 /// The section that CR came on.
-fn asked_side(alloc: Global, terms: &Terms, now: u64, mine: Ref24, incoming: &Incoming<'_>) -> Side
-    requires now { now ≤ 4_294_967_296 }
+fn asked_side(
+    alloc: Global,
+    terms: &Terms,
+    now: Taken,
+    mine: Ref24,
+    incoming: &Incoming<'_>,
+) -> Side
     requires credit { IsCredit terms.now.credit }
-    ensures value { end_at now result ≡ asked_section terms.now mine (seen_incoming terms.now incoming.now) }
+    ensures value { end_at now result ≡
+        asked_section terms.now mine (seen_incoming terms.now incoming.now) }
     ensures sound { SoundSide result }
 {
     let head = WireHead {
@@ -104,14 +106,14 @@ fn asked_side(alloc: Global, terms: &Terms, now: u64, mine: Ref24, incoming: &In
 fn asking_side(
     alloc: Global,
     terms: &Terms,
-    now: u64,
+    now: Taken,
     point: Pc,
     mine: Ref24,
     wanted: &WantedView<'_>,
 ) -> Side
-    requires now { now ≤ 4_294_967_296 }
     requires credit { IsCredit terms.now.credit }
-    ensures value { (from slr : ℕ) → end_at now result ≡ asking_section terms.now point mine (seen_wanted terms.now from slr wanted.now) }
+    ensures value { (from slr : ℕ) → end_at now result ≡
+        asking_section terms.now point mine (seen_wanted terms.now from slr wanted.now) }
     ensures sound { SoundSide result }
 {
     let head = WireHead {
@@ -136,7 +138,8 @@ fn user_side(
     wanted: &WantedView<'_>,
 ) -> Side
     requires credit { IsCredit terms.now.credit }
-    ensures value { (now from slr : ℕ) → end_at now result ≡ new_user state ssn mine (seen_wanted terms.now from slr wanted.now) }
+    ensures value { (now from slr : ℕ) →
+        end_at now result ≡ new_user state ssn mine (seen_wanted terms.now from slr wanted.now) }
     ensures sound { SoundSide result }
 {
     Side::User(Owner::new(UserSide {
@@ -157,7 +160,7 @@ fn calling_octets(alloc: Global, calling: &Calling<'_>) -> Result<Option<Octets>
         Calling::Absent => Ok(None),
         Calling::Given(octets) => Ok(Some(Octets::from_slice(alloc, octets)?)),
         Calling::Subsystem(ssn) => {
-            let octets = [0x42, ssn.number() as u8];
+            let octets = subsystem_address(*ssn);
             Ok(Some(Octets::from_slice(alloc, &octets)?))
         }
     }
@@ -183,7 +186,8 @@ struct Route<'a> {
 
 /// The credit of CR, which class 3 alone has.
 fn credit_in_cr(terms: &Terms, wanted: &WantedView<'_>) -> Option<u8>
-    ensures { result ≡ credit_of wanted.now.class (offered terms.now wanted.now.class wanted.now.credit) }
+    ensures { result ≡
+        credit_of wanted.now.class (offered terms.now wanted.now.class wanted.now.credit) }
 {
     if wanted.class == 3 {
         Some(offered(terms, wanted))
@@ -200,7 +204,8 @@ fn onward(
     to: &Route<'_>,
     mine: Ref24,
 ) -> Result<Message, Memory>
-    ensures { IfOk result (λ message. (from slr : ℕ) → message ≡ onward (seen_wanted terms.now from slr wanted.now) to.now.rewrite.now to.now.hop mine) }
+    ensures { IfOk result (λ message. (from slr : ℕ) → message ≡
+        cr_onward (seen_wanted terms.now from slr wanted.now) to.now mine) }
 {
     Ok(Message::Cr {
         slr: mine,
@@ -224,8 +229,9 @@ fn single(alloc: Global, output: Output) -> Result<Outs, Memory>
 }
 
 /// CREF to where CR came from.
-fn refused(alloc: Global, incoming: &Incoming<'_>, cause: u8) -> Result<Outs, Memory>
-    ensures { IfOk result (λ outs. (terms : Terms) → outs ≡ cref_to (seen_incoming terms incoming.now) cause ∷ []) }
+fn cref_outs(alloc: Global, incoming: &Incoming<'_>, cause: u8) -> Result<Outs, Memory>
+    ensures { IfOk result (λ outs. (terms : Terms) → outs ≡
+        cref_to (seen_incoming terms incoming.now) cause ∷ []) }
 {
     let message = Message::Cref {
         dlr: incoming.slr,
@@ -249,22 +255,27 @@ impl Opening {
 
     /// CR is refused.
     fn refused(alloc: Global, incoming: &Incoming<'_>, cause: u8) -> Result<Opening, Memory>
-        ensures value { IfOk result (λ o. (now : ℕ) (terms : Terms) → opened_at now o ≡ not_opened (cref_to (seen_incoming terms incoming.now) cause ∷ [])) }
+        ensures value { IfOk result (λ o. (now : ℕ) (terms : Terms) →
+            opened_at now o ≡ not_opened (cref_to (seen_incoming terms incoming.now) cause ∷ [])) }
         ensures sound { IfOk result OpensSound }
     {
-        Ok(Opening::none(refused(alloc, incoming, cause)?))
+        Ok(Opening::none(cref_outs(alloc, incoming, cause)?))
     }
 }
 
 /// What a user is told of CR.
-fn told(
+fn offer_told(
     alloc: Global,
     terms: &Terms,
     ssn: Ssn,
     mine: Ref24,
     wanted: &WantedView<'_>,
 ) -> Result<Outs, Memory>
-    ensures { IfOk result (λ outs. outs ≡ Told ssn (tell.Conn mine wanted.now.class (offered terms.now wanted.now.class wanted.now.credit) wanted.now.called.now (seen_calling wanted.now.calling) (option_map (λ b. b.now) wanted.now.body)) ∷ []) }
+    ensures { let body = option_map (λ b. b.now) wanted.now.body in
+        let credit = offered terms.now wanted.now.class wanted.now.credit in
+        let calling = seen_calling wanted.now.calling in IfOk result (λ outs. outs ≡
+        Told ssn
+        (tell.Conn mine wanted.now.class credit wanted.now.called.now calling body) ∷ []) }
 {
     let tell = Tell::Conn {
         mine,
@@ -285,8 +296,11 @@ fn sent_onward(
     to: &Route<'_>,
     mine: Ref24,
 ) -> Result<Output, Memory>
-    requires { (from slr : ℕ) → InRange (onward (seen_wanted terms.now from slr wanted.now) to.now.rewrite.now to.now.hop mine) }
-    ensures { IfOk result (λ output. (from slr : ℕ) → output ≡ Sent to.now.point wanted.now.sls (spelling_of (onward (seen_wanted terms.now from slr wanted.now) to.now.rewrite.now to.now.hop mine))) }
+    requires { (from slr : ℕ) →
+        InRange (cr_onward (seen_wanted terms.now from slr wanted.now) to.now mine) }
+    ensures { IfOk result (λ output. (from slr : ℕ) →
+        let cr = cr_onward (seen_wanted terms.now from slr wanted.now) to.now mine in
+        output ≡ Sent to.now.point wanted.now.sls (spelling_of cr)) }
 {
     let message = onward(alloc, terms, wanted, to, mine)?;
     sent(alloc, to.point, wanted.sls, message)
@@ -296,18 +310,18 @@ fn sent_onward(
 fn open_locally(
     alloc: Global,
     terms: &Terms,
-    now: u64,
+    now: Taken,
     incoming: &Incoming<'_>,
     ssn: Ssn,
     mine: Ref24,
 ) -> Result<Opening, Memory>
-    requires now { now ≤ 4_294_967_296 }
     requires credit { IsCredit terms.now.credit }
-    ensures value { IfOk result (λ o. opened_at now o ≡ opened_locally terms.now (seen_incoming terms.now incoming.now) ssn mine) }
+    ensures value { IfOk result (λ o. opened_at now o ≡
+        opened_locally terms.now (seen_incoming terms.now incoming.now) ssn mine) }
     ensures sound { IfOk result OpensSound }
 {
     let wanted = &incoming.wanted;
-    let outs = told(alloc, terms, ssn, mine, wanted)?;
+    let outs = offer_told(alloc, terms, ssn, mine, wanted)?;
     let this = asked_side(alloc, terms, now, mine, incoming);
     let that = user_side(alloc, terms, UserState::Offered, ssn, mine, wanted);
     Ok(Opening {
@@ -320,16 +334,18 @@ fn open_locally(
 fn open_onward(
     alloc: Global,
     terms: &Terms,
-    now: u64,
+    now: Taken,
     incoming: &Incoming<'_>,
     to: &Route<'_>,
     mine: Ref24,
     next: Ref24,
 ) -> Result<Opening, Memory>
-    requires now { now ≤ 4_294_967_296 }
     requires credit { IsCredit terms.now.credit }
-    requires fits { fits (seen_incoming terms.now incoming.now) to.now.rewrite.now to.now.hop ≡ true }
-    ensures value { IfOk result (λ o. opened_at now o ≡ opened_onward terms.now (seen_incoming terms.now incoming.now) to.now.point to.now.rewrite.now to.now.hop mine next) }
+    requires fits { let w = seen_incoming terms.now incoming.now in
+        fits w to.now.rewrite.now to.now.hop ≡ true }
+    ensures value { let w = seen_incoming terms.now incoming.now in
+        IfOk result (λ o. opened_at now o ≡
+        opened_onward terms.now w to.now.point to.now.rewrite.now to.now.hop mine next) }
     ensures sound { IfOk result OpensSound }
 {
     let wanted = &incoming.wanted;
@@ -346,21 +362,22 @@ fn open_onward(
 fn through(
     alloc: Global,
     terms: &Terms,
-    now: u64,
+    now: Taken,
     incoming: &Incoming<'_>,
     to: &Route<'_>,
     refs: &[Ref24],
 ) -> Result<Opening, Memory>
-    requires now { now ≤ 4_294_967_296 }
     requires credit { IsCredit terms.now.credit }
-    ensures value { IfOk result (λ o. opened_at now o ≡ opened_by_cr terms.now (seen_incoming terms.now incoming.now) (Forward to.now.point to.now.rewrite.now to.now.hop) refs.now) }
+    ensures value { let w = seen_incoming terms.now incoming.now in
+        let answer = Forward to.now.point to.now.rewrite.now to.now.hop in
+        IfOk result (λ o. opened_at now o ≡ opened_by_cr terms.now w answer refs.now) }
     ensures sound { IfOk result OpensSound }
 {
     if !fits(&incoming.wanted, to.rewrite, to.hop) {
-        return Opening::refused(alloc, incoming, UNQUALIFIED);
+        return Opening::refused(alloc, incoming, REFUSAL_UNQUALIFIED);
     }
     if refs.len() < 2 {
-        return Opening::refused(alloc, incoming, NO_REFERENCE);
+        return Opening::refused(alloc, incoming, REFUSAL_NOT_AVAILABLE);
     }
     open_onward(alloc, terms, now, incoming, to, refs[0], refs[1])
 }
@@ -373,10 +390,12 @@ fn unrouted(
     cause: RouteCause,
     local: Option<Ssn>,
 ) -> Result<Opening, Memory>
-    ensures value { IfOk result (λ o. (now : ℕ) → opened_at now o ≡ not_opened (cref_to (seen_incoming terms.now incoming.now) (refusal_code cause) ∷ status_outputs terms.now.own incoming.now.point incoming.now.wanted.sls local)) }
+    ensures value { let w = seen_incoming terms.now incoming.now in IfOk result (λ o. (now : ℕ) →
+        opened_at now o ≡ not_opened (cref_to w (refusal_code cause)
+        ∷ status_outputs terms.now.own incoming.now.point incoming.now.wanted.sls local)) }
     ensures sound { IfOk result OpensSound }
 {
-    let mut outs = refused(alloc, incoming, refusal_cause(cause))?;
+    let mut outs = cref_outs(alloc, incoming, refusal_cause(cause))?;
     let sls = incoming.wanted.sls;
     put_status(alloc, &mut outs, terms.own, incoming.point, sls, local)?;
     Ok(Opening::none(outs))
@@ -387,20 +406,20 @@ fn unrouted(
 fn by_cr(
     alloc: Global,
     terms: &Terms,
-    now: u64,
+    now: Taken,
     incoming: &Incoming<'_>,
     answer: &Answer,
     refs: &[Ref24],
 ) -> Result<Opening, Memory>
-    requires now { now ≤ 4_294_967_296 }
     requires credit { IsCredit terms.now.credit }
-    ensures value { IfOk result (λ o. opened_at now o ≡ opened_by_cr terms.now (seen_incoming terms.now incoming.now) answer.now refs.now) }
+    ensures value { IfOk result (λ o. opened_at now o ≡
+        opened_by_cr terms.now (seen_incoming terms.now incoming.now) answer.now refs.now) }
     ensures sound { IfOk result OpensSound }
 {
     match answer {
         Answer::Refused { cause, local } => unrouted(alloc, terms, incoming, *cause, *local),
         Answer::Local(ssn) => match refs.first() {
-            None => Opening::refused(alloc, incoming, NO_REFERENCE),
+            None => Opening::refused(alloc, incoming, REFUSAL_NOT_AVAILABLE),
             Some(mine) => open_locally(alloc, terms, now, incoming, *ssn, *mine),
         },
         Answer::Forward { dpc, rewrite, hop } => {
@@ -416,7 +435,8 @@ fn by_cr(
 
 /// A user is told that its connection isn't made.
 fn not_made(alloc: Global, outgoing: &Outgoing<'_>, cause: u8) -> Result<Opening, Memory>
-    ensures value { IfOk result (λ o. (now : ℕ) → opened_at now o ≡ not_opened (Told outgoing.now.ssn (tell.NotMade outgoing.now.tag cause) ∷ [])) }
+    ensures value { IfOk result (λ o. (now : ℕ) → opened_at now o ≡
+        not_opened (Told outgoing.now.ssn (tell.NotMade outgoing.now.tag cause) ∷ [])) }
     ensures sound { IfOk result OpensSound }
 {
     let output = Output::Told {
@@ -438,7 +458,9 @@ fn named_and_sent(
     mine: Ref24,
 ) -> Result<Outs, Memory>
     requires within { IsGivenWithin outgoing.now.wanted }
-    ensures { IfOk result (λ outs. outs ≡ Told outgoing.now.ssn (tell.Named outgoing.now.tag mine) ∷ Sent to.now.point outgoing.now.wanted.sls (spelling_of (onward (seen_outgoing terms.now outgoing.now) to.now.rewrite.now to.now.hop mine)) ∷ []) }
+    ensures { let cr = cr_onward (seen_outgoing terms.now outgoing.now) to.now mine in
+        IfOk result (λ outs. outs ≡ Told outgoing.now.ssn (tell.Named outgoing.now.tag mine)
+        ∷ Sent to.now.point outgoing.now.wanted.sls (spelling_of cr) ∷ []) }
 {
     let told = Output::Told {
         ssn: outgoing.ssn,
@@ -457,16 +479,17 @@ fn named_and_sent(
 fn open_out(
     alloc: Global,
     terms: &Terms,
-    now: u64,
+    now: Taken,
     outgoing: &Outgoing<'_>,
     point: Pc,
     rewrite: &Rewrite,
     mine: Ref24,
 ) -> Result<Opening, Memory>
-    requires now { now ≤ 4_294_967_296 }
     requires credit { IsCredit terms.now.credit }
     requires within { IsGivenWithin outgoing.now.wanted }
-    ensures value { IfOk result (λ o. opened_at now o ≡ opened_out terms.now outgoing.now.ssn outgoing.now.tag (seen_outgoing terms.now outgoing.now) point rewrite.now mine) }
+    ensures value { let w = seen_outgoing terms.now outgoing.now in
+        IfOk result (λ o. opened_at now o ≡
+        opened_out terms.now outgoing.now.ssn outgoing.now.tag w point rewrite.now mine) }
     ensures sound { IfOk result OpensSound }
 {
     let wanted = &outgoing.wanted;
@@ -489,22 +512,23 @@ fn open_out(
 fn by_user(
     alloc: Global,
     terms: &Terms,
-    now: u64,
+    now: Taken,
     outgoing: &Outgoing<'_>,
     answer: &Answer,
     refs: &[Ref24],
 ) -> Result<Opening, Memory>
-    requires now { now ≤ 4_294_967_296 }
     requires credit { IsCredit terms.now.credit }
     requires within { IsGivenWithin outgoing.now.wanted }
-    ensures value { IfOk result (λ o. opened_at now o ≡ opened_by_user terms.now outgoing.now.ssn outgoing.now.tag (seen_outgoing terms.now outgoing.now) answer.now refs.now) }
+    ensures value { let w = seen_outgoing terms.now outgoing.now in
+        IfOk result (λ o. opened_at now o ≡
+        opened_by_user terms.now outgoing.now.ssn outgoing.now.tag w answer.now refs.now) }
     ensures sound { IfOk result OpensSound }
 {
     match answer {
         Answer::Refused { cause, .. } => not_made(alloc, outgoing, refusal_cause(*cause)),
-        Answer::Local(_) => not_made(alloc, outgoing, UNQUALIFIED),
+        Answer::Local(_) => not_made(alloc, outgoing, REFUSAL_UNQUALIFIED),
         Answer::Forward { dpc, rewrite, .. } => match refs.first() {
-            None => not_made(alloc, outgoing, NO_REFERENCE),
+            None => not_made(alloc, outgoing, REFUSAL_NOT_AVAILABLE),
             Some(mine) => open_out(alloc, terms, now, outgoing, *dpc, rewrite, *mine),
         },
     }
@@ -515,19 +539,20 @@ fn by_user(
 fn begin_by_cr(
     alloc: Global,
     terms: &Terms,
-    now: u64,
+    now: Taken,
     incoming: &Incoming<'_>,
     asked: Option<&Answer>,
     refs: &[Ref24],
 ) -> Result<Opening, Memory>
-    requires now { now ≤ 4_294_967_296 }
     requires credit { IsCredit terms.now.credit }
-    ensures value { IfOk result (λ o. opened_at now o ≡ opened terms.now (by_cr (seen_incoming terms.now incoming.now)) (option_map (λ a. a.now) asked.entry) refs.now) }
+    ensures value { let wish = by_cr (seen_incoming terms.now incoming.now) in
+        let answer = option_map (λ a. a.now) asked.entry in
+        IfOk result (λ o. opened_at now o ≡ opened terms.now wish answer refs.now) }
     ensures sound { IfOk result OpensSound }
 {
     match asked {
         Some(answer) => by_cr(alloc, terms, now, incoming, answer, refs),
-        None => Opening::refused(alloc, incoming, UNQUALIFIED),
+        None => Opening::refused(alloc, incoming, REFUSAL_UNQUALIFIED),
     }
 }
 
@@ -536,15 +561,17 @@ fn begin_by_cr(
 fn begin_by_user(
     alloc: Global,
     terms: &Terms,
-    now: u64,
+    now: Taken,
     outgoing: &Outgoing<'_>,
     asked: Option<&Answer>,
     refs: &[Ref24],
 ) -> Result<Opening, Memory>
-    requires now { now ≤ 4_294_967_296 }
     requires credit { IsCredit terms.now.credit }
     requires within { IsGivenWithin outgoing.now.wanted }
-    ensures value { IfOk result (λ o. opened_at now o ≡ opened terms.now (by_user outgoing.now.ssn outgoing.now.tag (seen_outgoing terms.now outgoing.now)) (option_map (λ a. a.now) asked.entry) refs.now) }
+    ensures value { let w = seen_outgoing terms.now outgoing.now in
+        let wish = by_user outgoing.now.ssn outgoing.now.tag w in
+        let answer = option_map (λ a. a.now) asked.entry in
+        IfOk result (λ o. opened_at now o ≡ opened terms.now wish answer refs.now) }
     ensures sound { IfOk result OpensSound }
 {
     match asked {
@@ -560,14 +587,15 @@ fn begin_by_user(
 pub fn begin(
     alloc: Global,
     terms: &Terms,
-    now: u64,
+    now: Taken,
     event: &Event,
     asked: Option<&Answer>,
     refs: &[Ref24],
 ) -> Result<Opening, Memory>
-    requires now { now ≤ 4_294_967_296 }
     requires credit { IsCredit terms.now.credit }
-    ensures value { IfOk result (λ o. opened terms.now (wish_of terms.now event.now) (option_map (λ a. a.now) asked.entry) refs.now ≡ record { connection = option_map (connection_at now) o.pair; outs = o.outs }) }
+    ensures value { let answer = option_map (λ a. a.now) asked.entry in
+        IfOk result (λ o. opened terms.now (wish_of terms.now event.now) answer refs.now ≡
+        record { connection = option_map (connection_at now) o.pair; outs = o.outs }) }
     ensures sound { IfOk result (λ o. IfSome o.pair SoundPair) }
 {
     match wish_of(event) {

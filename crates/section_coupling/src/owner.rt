@@ -63,7 +63,8 @@ impl Owner {
     pub fn ask(self, alloc: Global, cell: Cell, event: &Event) -> Result<(Owner, Acted), Memory>
         requires sound { SoundOwner self }
         requires range { IsRequestInRange event.now }
-        ensures asks { IfOk result (λ r. user_hears_event cell event.now (user_at self) ≡ (user_at r.0, r.1)) }
+        ensures asks { IfOk result (λ r.
+            user_hears_event cell event.now (user_at self) ≡ (user_at r.0, r.1)) }
         ensures sound { IfOk result (λ r. SoundOwner r.0 × SoundActed r.1) }
     {
         let given = Mark::after(&Asking {
@@ -80,7 +81,8 @@ impl Owner {
     pub fn take(self, alloc: Global, cell: Cell, hand: &Hand) -> Result<(Owner, Acted), Memory>
         requires sound { SoundOwner self }
         requires granted { IsGranted hand.now }
-        ensures takes { IfOk result (λ r. user_takes cell hand.now (user_at self) ≡ (user_at r.0, r.1)) }
+        ensures takes { IfOk result (λ r.
+            user_takes cell hand.now (user_at self) ≡ (user_at r.0, r.1)) }
         ensures sound { IfOk result (λ r. SoundOwner r.0 × SoundActed r.1) }
     {
         let given = Mark::after(&Taking {

@@ -1,12 +1,34 @@
 //! The two ends of a connection.
-ghost use Rattle.std.specs.Prelude.{◌≡◌, ℕ, Some, IfOk};
-ghost use Rattle.section_model.specs.Ends.{turned};
+ghost use Rattle.std.specs.Prelude.{◌≡◌, ◌<◌, ℕ, Some, IfOk};
+ghost use Rattle.section_model.specs.Ends.{Connection, turned};
 ghost use Rattle.section_model.specs.Step.{names};
+ghost use Rattle.section_coupling.specs.Duos.{end_named, end_numbered};
 ghost use Rattle.section_coupling.specs.Views.{connection_at};
 ghost use Rattle.section_coupling.specs.Sound.{SoundPair};
 
 use crate::side::Side;
 use relay_base::{Memory, Ref24};
+
+/// One of the two ends of a connection.
+#[derive(Clone, Copy)]
+pub enum EndName {
+    This,
+    That,
+}
+
+impl EndName {
+    /// The end of a number, 0 or 1.
+    pub fn numbered(side: u8) -> EndName
+        requires { side < 2 }
+        ensures { (c : Connection) → end_named result c ≡ end_numbered side c }
+    {
+        if side == 0 {
+            EndName::This
+        } else {
+            EndName::That
+        }
+    }
+}
 
 /// A connection, seen from one of its ends.
 #[derive(Drop)]

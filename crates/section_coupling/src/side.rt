@@ -6,7 +6,7 @@ ghost use Rattle.section_model.specs.Ends.{owner};
 ghost use Rattle.section_model.specs.UserEnd.{user_takes};
 ghost use Rattle.section_model.specs.Lane.{reference_of};
 ghost use Rattle.section_model.specs.Step.{end_is_gone, is_named};
-ghost use Rattle.section_coupling.specs.Views.{end_at, section_at, user_at};
+ghost use Rattle.section_coupling.specs.Views.{end_at, end_by, section_by, user_at, IsEndAct};
 ghost use Rattle.section_coupling.specs.Sound.{SoundSide, SoundWire, SoundOwner, IsGranted, SoundActed};
 ghost use Rattle.section_model.specs.Lengths.{HandWithin};
 
@@ -67,11 +67,12 @@ fn wire_takes(
     wire: Wire,
     hand: &Hand,
 ) -> Result<(Side, Acted), Memory>
-    requires clock { clock.now.taken ≤ 4_294_967_296 }
     requires section { SoundWire wire }
     requires granted { IsGranted hand.now }
     requires within { HandWithin hand.now }
-    ensures takes { IfOk result (λ r. section_takes clock.now.ticks (section_takes_by (section_of wire.head).state hand.now) hand.now (section_at clock.now.taken wire) ≡ (end_at clock.now.taken r.0, r.1)) }
+    ensures takes { let cell = section_takes_by (section_of wire.head).state hand.now in
+        IfOk result (IsEndAct clock.now
+        (section_takes clock.now.ticks cell hand.now (section_by clock.now wire))) }
     ensures sound { IfOk result (λ r. SoundSide r.0 × SoundActed r.1) }
 {
     let cell = section_takes_by(wire.head.state(), hand);
@@ -83,8 +84,11 @@ fn wire_takes(
 fn user_takes(alloc: Global, user: Owner, hand: &Hand) -> Result<(Side, Acted), Memory>
     requires user { SoundOwner user }
     requires granted { IsGranted hand.now }
-    ensures takes { IfOk result (λ r. (now : ℕ) → owner (user_takes (user_takes_by user.side.state hand.now) hand.now (user_at user)).0 ≡ end_at now r.0) }
-    ensures does { IfOk result (λ r. (user_takes (user_takes_by user.side.state hand.now) hand.now (user_at user)).1 ≡ r.1) }
+    ensures takes { let cell = user_takes_by user.side.state hand.now in
+        let done = user_takes cell hand.now (user_at user) in
+        IfOk result (λ r. (now : ℕ) → owner done.0 ≡ end_at now r.0) }
+    ensures does { let cell = user_takes_by user.side.state hand.now in
+        let done = user_takes cell hand.now (user_at user) in IfOk result (λ r. done.1 ≡ r.1) }
     ensures sound { IfOk result (λ r. SoundSide r.0 × SoundActed r.1) }
 {
     let cell = user_takes_by(user.side.state, hand);
@@ -95,11 +99,11 @@ fn user_takes(alloc: Global, user: Owner, hand: &Hand) -> Result<(Side, Acted), 
 impl Side {
     /// Takes an effect of the other end.
     pub fn take(self, alloc: Global, clock: &Clock, hand: &Hand) -> Result<(Side, Acted), Memory>
-        requires clock { clock.now.taken ≤ 4_294_967_296 }
         requires end { SoundSide self }
         requires granted { IsGranted hand.now }
         requires within { HandWithin hand.now }
-        ensures takes { IfOk result (λ r. end_takes clock.now.ticks hand.now (end_at clock.now.taken self) ≡ (end_at clock.now.taken r.0, r.1)) }
+        ensures takes { IfOk result (IsEndAct clock.now
+            (end_takes clock.now.ticks hand.now (end_by clock.now self))) }
         ensures sound { IfOk result (λ r. SoundSide r.0 × SoundActed r.1) }
     {
         match self {

@@ -12,12 +12,15 @@ ghost use Rattle.section_coupling.specs.Openings.{seen_calling, seen_wanted, see
 
 use crate::wish::{Calling, WantedView, WishView, wish_of};
 use plant_core::{Answer, Rewrite};
+use q713_codec::LONGEST;
 use relay_base::Event;
 use sccp_address::{Address, Selector, Title, parse};
+use section_model::limits::LONGEST_DATA;
 
 /// Whether CR as it goes on can be written, and has at most 268 octets.
 pub fn fits(wanted: &WantedView<'_>, rewrite: &Rewrite, hop: Option<u8>) -> bool
-    ensures { (terms : Terms) (point slr : ℕ) → result ≡ fits (seen_wanted terms point slr wanted.now) rewrite.now hop }
+    ensures { (terms : Terms) (point slr : ℕ) →
+        result ≡ fits (seen_wanted terms point slr wanted.now) rewrite.now hop }
 {
     let called = onward_length(wanted.called, rewrite);
     has_lengths(wanted) && are_fitting(called, options_size(wanted, hop))
@@ -25,13 +28,11 @@ pub fn fits(wanted: &WantedView<'_>, rewrite: &Rewrite, hop: Option<u8>) -> bool
 
 /// Whether the calling address and the data have lengths that they may have.
 fn has_lengths(wanted: &WantedView<'_>) -> bool
-    ensures { result ≡ (is_option 0x04 (seen_calling wanted.now.calling) && is_option 0x0F (option_map (λ b. b.now) wanted.now.body)) }
+    ensures { let body = option_map (λ b. b.now) wanted.now.body in
+        result ≡ (is_option 0x04 (seen_calling wanted.now.calling) && is_option 0x0F body) }
 {
     is_calling(&wanted.calling) && is_data(wanted.body)
 }
-
-/// The longest CR, in octets.
-const LONGEST: usize = 268;
 
 /// The octets of CR beside its called address and its optional parameters: the type, the reference, the class, the two pointers, the
 /// length of the called address, and the end of the optional part.
@@ -66,15 +67,17 @@ fn is_data(body: Option<&[u8]>) -> bool
     ensures { result ≡ is_option 0x0F (option_map (λ b. b.now) body.entry) }
 {
     match body {
-        Some(octets) => 1 <= octets.len() && octets.len() <= 128,
+        Some(octets) => 1 <= octets.len() && octets.len() <= LONGEST_DATA,
         None => true,
     }
 }
 
 /// How many octets the optional parameters of CR take, each with its name and its length.
 fn options_size(wanted: &WantedView<'_>, hop: Option<u8>) -> usize
-    requires { IsTrue (is_option 0x04 (seen_calling wanted.now.calling) && is_option 0x0F (option_map (λ b. b.now) wanted.now.body)) }
-    ensures value { (terms : Terms) (point slr : ℕ) → result ≡ options_size (seen_wanted terms point slr wanted.now) hop }
+    requires { let body = option_map (λ b. b.now) wanted.now.body in
+        IsTrue (is_option 0x04 (seen_calling wanted.now.calling) && is_option 0x0F body) }
+    ensures value { (terms : Terms) (point slr : ℕ) →
+        result ≡ options_size (seen_wanted terms point slr wanted.now) hop }
     ensures few { result ≤ 1_000 }
 {
     let credit = if wanted.class == 3 { 3 } else { 0 };
@@ -176,7 +179,8 @@ fn lead_length(selector: &Selector) -> usize
 /// How many references CR takes by the answer of routing control.
 #[tactic(auto, unfolding(section_model::specs::Opening::slots_needed))]
 fn needed_by_cr(wanted: &WantedView<'_>, answer: &Answer) -> u8
-    ensures { (terms : Terms) (point slr : ℕ) → result ≡ slots_needed (by_cr (seen_wanted terms point slr wanted.now)) (Some answer.now) }
+    ensures { (terms : Terms) (point slr : ℕ) →
+        result ≡ slots_needed (by_cr (seen_wanted terms point slr wanted.now)) (Some answer.now) }
 {
     match answer {
         Answer::Local(_) => 1,
@@ -188,7 +192,8 @@ fn needed_by_cr(wanted: &WantedView<'_>, answer: &Answer) -> u8
 /// How many references a user's connection takes by the answer of routing control.
 #[tactic(auto, unfolding(section_model::specs::Opening::slots_needed))]
 fn needed_by_user(answer: &Answer) -> u8
-    ensures { (wish : Wanted) (ssn tag : ℕ) → result ≡ slots_needed (by_user ssn tag wish) (Some answer.now) }
+    ensures { (wish : Wanted) (ssn tag : ℕ) →
+        result ≡ slots_needed (by_user ssn tag wish) (Some answer.now) }
 {
     match answer {
         Answer::Forward { .. } => 1,

@@ -4,15 +4,16 @@ ghost use Rattle.section_model.specs.Timing.{firing, firing_order, rearmed};
 ghost use Rattle.section_model.specs.Ends.{wire};
 ghost use Rattle.section_model.specs.Acting.{section_fires};
 ghost use Rattle.section_model.specs.Step.{is_due_at, fires, fires_next, fires_due, ticks_by};
-ghost use Rattle.section_coupling.specs.Views.{section_at, end_at, connection_at, left_at};
+ghost use Rattle.section_coupling.specs.Views.{section_by, end_at, end_by, connection_at, connection_by, left_at, IsStep, IsAct};
 ghost use Rattle.section_coupling.specs.Duos.{timer_placed, left_of_timer, fewer, fewest_of, fewest_left};
 ghost use Rattle.section_coupling.specs.Sound.{SoundWire, SoundSide, SoundPair, SoundActed};
 ghost use Rattle.section_model.specs.Table.{section_cell};
 
 use crate::clock::Clock;
-use crate::coupling::{append, settle};
+use crate::coupling::settle;
 use crate::pair::Pair;
 use crate::side::Side;
+use crate::taken::Taken;
 use crate::wire::Wire;
 use relay_base::{Memory, Outs};
 use section_grid::{Acted, Input, Occasion, Timer, section_cell};
@@ -63,9 +64,10 @@ impl Wire {
     /// A timer fires.
     #[tactic(auto, unfolding(section_model::specs::Acting::section_fires), using(crate::proofs::ByTable::sets_up_once))]
     fn fire(self, alloc: Global, clock: &Clock, timer: Timer) -> Result<(Wire, Acted), Memory>
-        requires clock { clock.now.taken ≤ 4_294_967_296 }
         requires section { SoundWire self }
-        ensures fires { IfOk result (λ r. section_fires clock.now.ticks (section_cell (section_at clock.now.taken self).head.state (firing timer)) (record (section_at clock.now.taken self) { timers = rearmed clock.now.ticks timer (section_at clock.now.taken self).timers }) ≡ (wire (section_at clock.now.taken r.0), r.1)) }
+        ensures fires { let x = section_by clock.now self in IfOk result (IsAct clock.now
+            (section_fires clock.now.ticks (section_cell x.head.state (firing timer))
+            (record x { timers = rearmed clock.now.ticks timer x.timers }))) }
         ensures sound { IfOk result (λ r. SoundWire r.0 × SoundActed r.1) }
     {
         let cell = section_cell(self.head.state(), firing(timer));
@@ -118,7 +120,7 @@ impl Side {
     }
 
     /// Whether a timer of this end fires at this tick; a user's end has none.
-    fn is_due(&self, now: u64, timer: Timer) -> bool
+    fn is_due(&self, now: Taken, timer: Timer) -> bool
         ensures { result ≡ is_due_at timer (end_at now self.now) }
     {
         match self {
@@ -135,9 +137,9 @@ fn fire_if_due(
     timer: Timer,
     pair: Pair,
 ) -> Result<(Pair, Outs), Memory>
-    requires clock { clock.now.taken ≤ 4_294_967_296 }
     requires pair { SoundPair pair }
-    ensures fires { IfOk result (λ r. fires clock.now.ticks timer (end_at clock.now.taken pair.this) (end_at clock.now.taken pair.that) ≡ (connection_at clock.now.taken r.0, r.1)) }
+    ensures fires { IfOk result (IsStep clock.now
+        (fires clock.now.ticks timer (end_by clock.now pair.this) (end_by clock.now pair.that))) }
     ensures sound { IfOk result (λ r. SoundPair r.0) }
 {
     if !pair.this.is_due(clock.taken, timer) {
@@ -160,16 +162,16 @@ fn fire_each(
     timers: &[Timer],
     pair: Pair,
 ) -> Result<(Pair, Outs), Memory>
-    requires clock { clock.now.taken ≤ 4_294_967_296 }
     requires pair { SoundPair pair }
-    ensures fires { IfOk result (λ r. fold (fires_next clock.now.ticks) (connection_at clock.now.taken pair, []) timers.now ≡ (connection_at clock.now.taken r.0, r.1)) }
+    ensures fires { IfOk result (IsStep clock.now
+        (fold (fires_next clock.now.ticks) (connection_by clock.now pair, []) timers.now)) }
     ensures sound { IfOk result (λ r. SoundPair r.0) }
 {
     let mut pair = pair;
     let mut outs = Outs::new(alloc);
     for timer in timers {
         let (next, more) = fire_if_due(alloc, clock, *timer, pair)?;
-        append(alloc, &mut outs, more)?;
+        outs.append(more)?;
         pair = next;
     }
     Ok((pair, outs))
@@ -178,9 +180,9 @@ fn fire_each(
 /// The timers of this end that are due fire in their order.
 #[tactic(auto, unfolding(section_model::specs::Step::fires_due))]
 fn fire_due(alloc: Global, clock: &Clock, pair: Pair) -> Result<(Pair, Outs), Memory>
-    requires clock { clock.now.taken ≤ 4_294_967_296 }
     requires pair { SoundPair pair }
-    ensures fires { IfOk result (λ r. fires_due clock.now.ticks (connection_at clock.now.taken pair) ≡ (connection_at clock.now.taken r.0, r.1)) }
+    ensures fires { IfOk result (IsStep clock.now
+        (fires_due clock.now.ticks (connection_by clock.now pair))) }
     ensures sound { IfOk result (λ r. SoundPair r.0) }
 {
     fire_each(alloc, clock, &FIRING_ORDER, pair)
@@ -188,15 +190,15 @@ fn fire_due(alloc: Global, clock: &Clock, pair: Pair) -> Result<(Pair, Outs), Me
 
 /// A tick: first the timers of this end, then those of the other one. The clock has the tick already.
 #[tactic(auto, using(crate::proofs::LaterTimers::ticked_pair))]
-pub fn tick(alloc: Global, clock: &Clock, before: u64, pair: Pair) -> Result<(Pair, Outs), Memory>
-    requires clock { clock.now.taken ≤ 4_294_967_296 }
+pub fn tick(alloc: Global, clock: &Clock, before: u32, pair: Pair) -> Result<(Pair, Outs), Memory>
     requires before { before + 1 ≡ clock.now.taken }
     requires pair { SoundPair pair }
-    ensures ticks { IfOk result (λ r. ticks_by clock.now.ticks (connection_at before pair) ≡ (connection_at clock.now.taken r.0, r.1)) }
+    ensures ticks { IfOk result (IsStep clock.now
+        (ticks_by clock.now.ticks (connection_at before pair))) }
     ensures sound { IfOk result (λ r. SoundPair r.0) }
 {
     let (pair, mut outs) = fire_due(alloc, clock, pair)?;
     let (pair, more) = fire_due(alloc, clock, pair.turned())?;
-    append(alloc, &mut outs, more)?;
+    outs.append(more)?;
     Ok((pair.turned(), outs))
 }

@@ -2,13 +2,14 @@
 ghost use Rattle.std.specs.Prelude.{◌≡◌, ◌≤◌, ◌+◌, ℕ, Bool, true, false, if◌then◌else◌};
 ghost use Rattle.section_model.specs.Ends.{no_timers};
 ghost use Rattle.section_model.specs.Timing.{entered, timers_after, in_new_state, again, sent_again, heard_again, rearmed, is_due, timer_in, same_state};
-ghost use Rattle.section_coupling.specs.Views.{timers_at, left_at};
+ghost use Rattle.section_coupling.specs.Views.{timers_at, timers_by, left_at};
 
 use crate::clock::Clock;
+use crate::taken::Taken;
 use section_model::{SectionState, Timer};
 
 /// For each timer that runs, the number of the lane's tick at which it fires.
-#[derive(Clone, Copy, Debug, PartialEq, Eq)]
+#[derive(Clone, Copy)]
 pub struct Timers {
     pub connect: Option<u64>,
     pub reset: Option<u64>,
@@ -37,8 +38,8 @@ impl Timers {
 
     /// The timers when a section comes into a state.
     pub fn entered(self, clock: &Clock, state: SectionState) -> Timers
-        requires { clock.now.taken ≤ 4_294_967_296 }
-        ensures { timers_at clock.now.taken result ≡ entered clock.now.ticks state (timers_at clock.now.taken self) }
+        ensures { timers_by clock.now result ≡
+            entered clock.now.ticks state (timers_by clock.now self) }
     {
         let ticks = &clock.ticks;
         match state {
@@ -70,8 +71,8 @@ impl Timers {
     }
 
     fn in_new_state(self, clock: &Clock, old: SectionState, new: SectionState) -> Timers
-        requires { clock.now.taken ≤ 4_294_967_296 }
-        ensures { timers_at clock.now.taken result ≡ in_new_state clock.now.ticks old new (timers_at clock.now.taken self) }
+        ensures { timers_by clock.now result ≡
+            in_new_state clock.now.ticks old new (timers_by clock.now self) }
     {
         if is_same(old, new) {
             self
@@ -83,8 +84,8 @@ impl Timers {
     /// The timers after an act that may have changed the state and sent a message.
     #[tactic(auto, unfolding(section_model::specs::Timing::timers_after))]
     pub fn after(self, clock: &Clock, old: SectionState, new: SectionState, is_sent: bool) -> Timers
-        requires { clock.now.taken ≤ 4_294_967_296 }
-        ensures { timers_at clock.now.taken result ≡ timers_after clock.now.ticks old new is_sent (timers_at clock.now.taken self) }
+        ensures { timers_by clock.now result ≡
+            timers_after clock.now.ticks old new is_sent (timers_by clock.now self) }
     {
         let timers = self.in_new_state(clock, old, new);
         if is_sent {
@@ -96,8 +97,8 @@ impl Timers {
 
     /// Send inactivity starts again where it is watched.
     fn sent_again(self, clock: &Clock) -> Timers
-        requires { clock.now.taken ≤ 4_294_967_296 }
-        ensures { timers_at clock.now.taken result ≡ sent_again clock.now.ticks (timers_at clock.now.taken self) }
+        ensures { timers_by clock.now result ≡
+            sent_again clock.now.ticks (timers_by clock.now self) }
     {
         Timers {
             ias: again(clock, clock.ticks.ias, self.ias),
@@ -107,8 +108,8 @@ impl Timers {
 
     /// Receive inactivity starts again where it is watched.
     pub fn heard_again(self, clock: &Clock) -> Timers
-        requires { clock.now.taken ≤ 4_294_967_296 }
-        ensures { timers_at clock.now.taken result ≡ heard_again clock.now.ticks (timers_at clock.now.taken self) }
+        ensures { timers_by clock.now result ≡
+            heard_again clock.now.ticks (timers_by clock.now self) }
     {
         Timers {
             iar: again(clock, clock.ticks.iar, self.iar),
@@ -118,8 +119,8 @@ impl Timers {
 
     /// The timers once one has fired.
     pub fn rearmed(self, clock: &Clock, timer: Timer) -> Timers
-        requires { clock.now.taken ≤ 4_294_967_296 }
-        ensures { timers_at clock.now.taken result ≡ rearmed clock.now.ticks timer (timers_at clock.now.taken self) }
+        ensures { timers_by clock.now result ≡
+            rearmed clock.now.ticks timer (timers_by clock.now self) }
     {
         match timer {
             Timer::Rel => Timers {
@@ -152,11 +153,11 @@ impl Timers {
     }
 
     /// Whether a timer fires at this tick.
-    pub fn is_due(&self, now: u64, timer: Timer) -> bool
+    pub fn is_due(&self, now: Taken, timer: Timer) -> bool
         ensures { result ≡ is_due timer (timers_at now self.now) }
     {
         match self.deadline(timer) {
-            Some(tick) => tick <= now,
+            Some(tick) => tick <= now.number(),
             None => false,
         }
     }
@@ -164,7 +165,6 @@ impl Timers {
 
 /// A timer starts again where it runs.
 fn again(clock: &Clock, ticks: u32, deadline: Option<u64>) -> Option<u64>
-    requires { clock.now.taken ≤ 4_294_967_296 }
     ensures { left_at clock.now.taken result ≡ again ticks (left_at clock.now.taken deadline) }
 {
     match deadline {

@@ -39,7 +39,9 @@ pub fn is_in_range(request: &Request) -> bool
             credit,
             body,
             ..
-        } => (*class == 2 || *class == 3) && *credit <= GREATEST_CREDIT && body.len() <= LONGEST_DATA,
+        } => (*class == 2 || *class == 3)
+            && *credit <= GREATEST_CREDIT
+            && body.len() <= LONGEST_DATA,
         Request::Refuse { body, .. } | Request::Disc { body, .. } => body.len() <= LONGEST_DATA,
         Request::Send { body, .. } => 0 < body.len() && body.len() <= LONGEST_TEXT,
         Request::Expedite { body, .. } => 0 < body.len() && body.len() <= LONGEST_EXPEDITED,
@@ -59,12 +61,7 @@ pub fn sent(alloc: Global, point: Pc, sls: Sls, message: Message) -> Result<Outp
 }
 
 /// What is answered to a message for a connection that no connection hears.
-fn answer(
-    alloc: Global,
-    point: Pc,
-    sls: Sls,
-    arrival: &ArrivalView<'_>,
-) -> Result<Output, Memory>
+fn answer(alloc: Global, point: Pc, sls: Sls, arrival: &ArrivalView<'_>) -> Result<Output, Memory>
     ensures { IfOk result (λ output. output ≡
         stray_output point sls arrival.now.occasion (seen_parameters arrival.now.parameters)) }
 {

@@ -8,7 +8,7 @@ ghost use Rattle.section_model.specs.Views.{section_of};
 ghost use Rattle.section_model.specs.Acting.{is_sent, is_windowed, is_by_class, in_windows, by_line, by_windows, timed};
 ghost use Rattle.section_model.specs.Timing.{timers_after};
 ghost use Rattle.section_model.specs.declared.input.Input.TheVariants as input;
-ghost use Rattle.section_coupling.specs.Views.{section_at, timers_at};
+ghost use Rattle.section_coupling.specs.Views.{section_at, section_by, IsAct};
 ghost use Rattle.section_coupling.specs.Sound.{IsCredit, SoundWire, SoundInput, SoundActed};
 ghost use Rattle.section_coupling.specs.Acts.{untimed_acts, section_acts, windows_begun, SetsUpOnce, TakesData};
 
@@ -111,18 +111,13 @@ impl Wire {
 
     /// An act of the line; the timers stay.
     #[tactic(auto, using(crate::proofs::SoundLines::line_acts_granted))]
-    fn by_line(
-        self,
-        alloc: Global,
-        now: u64,
-        cell: Cell,
-        input: &Input<'_>,
-    ) -> Result<(Wire, Acted), Memory>
+    fn by_line(self, alloc: Global, cell: Cell, input: &Input<'_>) -> Result<(Wire, Acted), Memory>
         requires sound { SoundWire self }
         requires input { SoundInput input.now }
         requires sets_up { SetsUpOnce cell (section_of self.head).state }
         requires data { TakesData cell input.now }
-        ensures acts { IfOk result (λ r. by_line (line_acts cell input.now) (section_at now self) ≡ (section_at now r.0, r.1)) }
+        ensures acts { IfOk result (λ r. (now : ℕ) →
+            by_line (line_acts cell input.now) (section_at now self) ≡ (section_at now r.0, r.1)) }
         ensures sound { IfOk result (λ r. SoundWire r.0 × SoundActed r.1) }
     {
         let Wire {
@@ -148,14 +143,14 @@ impl Wire {
     fn by_windows(
         self,
         alloc: Global,
-        now: u64,
         cell: Cell,
         input: &Input<'_>,
     ) -> Result<(Wire, Acted), Memory>
         requires sound { SoundWire self }
         requires input { SoundInput input.now }
         requires data { TakesData cell input.now }
-        ensures acts { IfOk result (λ r. by_windows (windows_act cell input.now) (section_at now self) ≡ (section_at now r.0, r.1)) }
+        ensures acts { let act = windows_act cell input.now in IfOk result (λ r. (now : ℕ) →
+            by_windows act (section_at now self) ≡ (section_at now r.0, r.1)) }
         ensures sound { IfOk result (λ r. SoundWire r.0 × SoundActed r.1) }
     {
         let Wire {
@@ -175,31 +170,29 @@ impl Wire {
     }
 
     /// An act, but for the timers.
-    fn act_untimed(
-        self,
-        alloc: Global,
-        now: u64,
-        cell: Cell,
-        input: &Input<'_>,
-    ) -> Result<(Wire, Acted), Memory>
+    fn untimed(self, alloc: Global, cell: Cell, input: &Input<'_>) -> Result<(Wire, Acted), Memory>
         requires sound { SoundWire self }
         requires input { SoundInput input.now }
         requires sets_up { SetsUpOnce cell (section_of self.head).state }
         requires data { TakesData cell input.now }
-        ensures acts { IfOk result (λ r. untimed_acts cell input.now (section_at now self) ≡ (section_at now r.0, r.1)) }
+        ensures acts { IfOk result (λ r. (now : ℕ) →
+            untimed_acts cell input.now (section_at now self) ≡ (section_at now r.0, r.1)) }
         ensures sound { IfOk result (λ r. SoundWire r.0 × SoundActed r.1) }
     {
         if self.in_windows(cell) {
-            self.by_windows(alloc, now, cell, input)
+            self.by_windows(alloc, cell, input)
         } else {
-            self.by_line(alloc, now, cell, input)
+            self.by_line(alloc, cell, input)
         }
     }
 
     /// The section with its timers, after an act in which it was in this state before and gave these outputs.
     fn timed(self, clock: &Clock, old: SectionState, outs: &Outs) -> Wire
-        requires { clock.now.taken ≤ 4_294_967_296 }
-        ensures timers { section_at clock.now.taken result ≡ record (section_at clock.now.taken self) { timers = timers_after clock.now.ticks old (section_of self.head).state (list_any is_sent outs.now) (timers_at clock.now.taken self.timers) } }
+        ensures timers { let x = section_by clock.now self in
+            let sent = list_any is_sent outs.now in
+            section_by clock.now result ≡ record x {
+              timers = timers_after clock.now.ticks old x.head.state sent x.timers;
+            } }
         ensures sound { SoundWire self → SoundWire result }
     {
         let timers = self
@@ -216,16 +209,16 @@ impl Wire {
         cell: Cell,
         input: &Input<'_>,
     ) -> Result<(Wire, Acted), Memory>
-        requires clock { clock.now.taken ≤ 4_294_967_296 }
         requires sound { SoundWire self }
         requires input { SoundInput input.now }
         requires sets_up { SetsUpOnce cell (section_of self.head).state }
         requires data { TakesData cell input.now }
-        ensures acts { IfOk result (λ r. section_acts clock.now.ticks cell input.now (section_at clock.now.taken self) ≡ (wire (section_at clock.now.taken r.0), r.1)) }
+        ensures acts { IfOk result (IsAct clock.now
+            (section_acts clock.now.ticks cell input.now (section_by clock.now self))) }
         ensures sound { IfOk result (λ r. SoundWire r.0 × SoundActed r.1) }
     {
         let old = self.head.state();
-        let (wire, acted) = self.act_untimed(alloc, clock.taken, cell, input)?;
+        let (wire, acted) = self.untimed(alloc, cell, input)?;
         let wire = wire.timed(clock, old, &acted.outs);
         Ok((wire, acted))
     }
@@ -237,13 +230,14 @@ impl Wire {
         clock: &Clock,
         cell: Cell,
     ) -> Result<(Wire, Acted), Memory>
-        requires clock { clock.now.taken ≤ 4_294_967_296 }
         requires sound { SoundWire self }
-        ensures acts { IfOk result (λ r. timed clock.now.ticks (section_at clock.now.taken self) (by_windows (windows_act cell input.Turn) (section_at clock.now.taken self)) ≡ (wire (section_at clock.now.taken r.0), r.1)) }
+        ensures acts { let x = section_by clock.now self in
+            let turn = by_windows (windows_act cell input.Turn) x in
+            IfOk result (IsAct clock.now (timed clock.now.ticks x turn)) }
         ensures sound { IfOk result (λ r. SoundWire r.0 × SoundActed r.1) }
     {
         let old = self.head.state();
-        let (wire, acted) = self.by_windows(alloc, clock.taken, cell, &Input::Turn)?;
+        let (wire, acted) = self.by_windows(alloc, cell, &Input::Turn)?;
         let wire = wire.timed(clock, old, &acted.outs);
         Ok((wire, acted))
     }

@@ -1,4 +1,4 @@
-//! What an event wants of a connection (Q.714, connection establishment): CR from the network, or a user's request.
+//! What an event wants of a connection (Q.714, 3.1): CR from the network, or a user's request.
 ghost use Rattle.std.specs.Prelude.{◌≡◌, ◌%◌, ℕ};
 ghost use Rattle.std.specs.Option.{option_map};
 ghost use Rattle.plant_core.specs.declared.terms.Terms.{Terms};
@@ -13,9 +13,10 @@ use plant_core::{Ask, Origin};
 use q713_codec::{View, read};
 use relay_base::{Event, Octets, Pc, Ref24, Request, Sls, Ssn};
 use sccp_address::parse;
+use section_model::limits::{GREATEST_CREDIT, LONGEST_DATA};
 
 /// A calling address: none, one that came in a message, or that of a subsystem of this node.
-#[derive(Clone, Copy, Debug)]
+#[derive(Clone, Copy)]
 pub enum Calling<'a> {
     Absent,
     Given(&'a [u8]),
@@ -23,7 +24,7 @@ pub enum Calling<'a> {
 }
 
 /// What is wanted of a connection. The class is 0 to 15, and the credit is the one that is asked for, before the node's greatest.
-#[derive(Clone, Copy, Debug)]
+#[derive(Clone, Copy)]
 pub struct WantedView<'a> {
     pub sls: Sls,
     pub class: u8,
@@ -36,7 +37,7 @@ pub struct WantedView<'a> {
 }
 
 /// A connection that CR wants: the point that it came from, and its reference there.
-#[derive(Clone, Copy, Debug)]
+#[derive(Clone, Copy)]
 pub struct Incoming<'a> {
     pub point: Pc,
     pub slr: Ref24,
@@ -44,7 +45,7 @@ pub struct Incoming<'a> {
 }
 
 /// A connection that a user wants: its subsystem, and the tag of its request.
-#[derive(Clone, Copy, Debug)]
+#[derive(Clone, Copy)]
 pub struct Outgoing<'a> {
     pub ssn: Ssn,
     pub tag: u16,
@@ -52,7 +53,7 @@ pub struct Outgoing<'a> {
 }
 
 /// What an event wants.
-#[derive(Clone, Copy, Debug)]
+#[derive(Clone, Copy)]
 pub enum WishView<'a> {
     ByCr(Incoming<'a>),
     ByUser(Outgoing<'a>),
@@ -61,7 +62,8 @@ pub enum WishView<'a> {
 
 /// What a message wants.
 fn wish_of_message<'a>(point: Pc, sls: Sls, view: &View<'a>) -> WishView<'a>
-    ensures value { (terms : Terms) → seen_wish terms result ≡ wish_of_message terms point sls (seen view.now) }
+    ensures value { (terms : Terms) →
+        seen_wish terms result ≡ wish_of_message terms point sls (seen view.now) }
     ensures within { UserWithin result }
 {
     let View::Cr {
@@ -104,10 +106,10 @@ fn may_be_wanted(class: u8, credit: u8, called: &[u8], body: &[u8]) -> bool
     ensures { result ≡ may_be_wanted class credit called.now body.now }
 {
     (class == 2 || class == 3)
-        && credit <= 127
+        && credit <= GREATEST_CREDIT
         && called.len() <= 40
         && parse(called).is_ok()
-        && body.len() <= 128
+        && body.len() <= LONGEST_DATA
 }
 
 /// The data that a request gives: no octets are no data.
@@ -122,7 +124,8 @@ fn given(body: &Octets) -> Option<&[u8]>
 
 /// What a request of a subsystem wants.
 fn wish_of_request(ssn: Ssn, request: &Request) -> WishView<'_>
-    ensures value { (terms : Terms) → seen_wish terms result ≡ wish_of_request terms ssn request.now }
+    ensures value { (terms : Terms) →
+        seen_wish terms result ≡ wish_of_request terms ssn request.now }
     ensures within { UserWithin result }
 {
     let Request::Conn {
@@ -195,7 +198,8 @@ fn asked_for(hop: Option<u8>, origin: Origin, called: &[u8]) -> Option<Ask<'_>>
 /// What routing is asked for a CR: nothing for one of a class other than 2 and 3.
 #[tactic(auto, unfolding(section_model::specs::Opening::question_of))]
 fn ask_of_incoming<'a>(wanted: &WantedView<'a>) -> Option<Ask<'a>>
-    ensures { (terms : Terms) (point slr : ℕ) → option_map seen_ask result ≡ question_of (by_cr (seen_wanted terms point slr wanted.now)) }
+    ensures { (terms : Terms) (point slr : ℕ) →
+        option_map seen_ask result ≡ question_of (by_cr (seen_wanted terms point slr wanted.now)) }
 {
     if wanted.class == 2 || wanted.class == 3 {
         asked_for(wanted.hop, Origin::Network, wanted.called)

@@ -1,14 +1,6 @@
-use Rattle.capture_form.specs.Events.{all_events}
-use Rattle.node_engine.proofs.RightLemmas.{first-can, first-served, right-done}
+use Rattle.node_engine.proofs.RightLemmas.{right-done}
 use Rattle.node_engine.proofs.run.book_after.Goals as goal
-
-pub run_phases-requires-clause-able : goal.run_phases-requires-clause-able
-run_phases-requires-clause-able g c = λ lifetimes bounds.
-    first-can c.args.capture.now.head (all_events c.args.capture.now.phases) c.in_ok-node.node c.requires.few c.in_ok-node.ensures
-
-pub run_phases-requires-clause-served : goal.run_phases-requires-clause-served
-run_phases-requires-clause-served g c = λ lifetimes bounds. first-served c.args.capture.now.head c.in_ok-node.node c.in_ok-node.ensures
 
 pub returns : goal.returns
 returns g c =
-    right-done c.args.capture.now.head c.args.capture.now.phases c.run_phases.new.node c.book_of.result c.in_ok-run_phases.ensures.lanes c.in_ok-run_phases.ensures.served c.book_of.ensures.legal c.book_of.ensures.value
+    right-done c.args.capture.now.head c.args.capture.now.phases c.in_ok-node.node c.book_of.result c.in_ok-node.ensures.lanes c.in_ok-node.ensures.served c.book_of.ensures.legal c.book_of.ensures.value

@@ -1,6 +1,6 @@
 use Rattle.std.proofs.Common.{[], sym, subst, take_all}
 use Rattle.conn_lane.specs.Index.{IsIndexOf}
-use Rattle.conn_lane.specs.Views.{keeping_all}
+use Rattle.conn_lane.specs.Views.{remnants_at}
 use Rattle.conn_lane.proofs.Indexed.{indexed_none, indexed_next}
 use Rattle.conn_lane.proofs.index.Index.of.Goals as goal
 
@@ -13,5 +13,5 @@ loop-place-preserved c =
 
 pub returns : goal.returns
 returns c =
-    subst (IsIndexOf (keeping_all c.args.now c.args.kept.now)) (sym c.advance.ensures)
-    (subst (λ xs. IsIndexOf (keeping_all c.args.now xs) c.loop-place.index) (take_all c.loop-place.place c.args.kept.now c.loop-place-test.false) c.loop-place.invariant)
+    subst (IsIndexOf (remnants_at c.args.now c.args.kept.now)) (sym c.advance.ensures)
+    (subst (λ xs. IsIndexOf (remnants_at c.args.now xs) c.loop-place.index) (take_all c.loop-place.place c.args.kept.now c.loop-place-test.false) c.loop-place.invariant)

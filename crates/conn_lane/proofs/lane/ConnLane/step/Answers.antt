@@ -1,7 +1,7 @@
 use Rattle.std.proofs.Common.{◌≡◌, sym, subst, ap, ◌∙◌, refl}
 use Rattle.relay_base.specs.declared.errors.Memory.{Memory}
 use Rattle.std.specs.Prelude.{Some, None}
-use Rattle.conn_lane.specs.Lanes.{ConnLaneState, Takes, conn_asked_of}
+use Rattle.conn_lane.specs.Lanes.{ConnLaneState, ConnLaneTakes, conn_asked_of}
 use Rattle.conn_lane.specs.Turns.{IsConnLane}
 use Rattle.conn_lane.proofs.LaneGrows.{lane_spent, lane_grows, on_err}
 use Rattle.conn_lane.proofs.lane.ConnLane.step.Goals as goal
@@ -28,7 +28,7 @@ pub returns-clause-ok : goal.returns-clause-ok
 returns-clause-ok c =
     let S : Type 0 = ConnLaneState in
     let old : S = record { head = c.self.inside.head; number = c.self.inside.number; journal = c.self.inside.journal } in
-    subst (λ v. Takes c.args.plant.now c.args.stamp c.args.event.now v (record { head = c.self.inside.head; number = c.self.inside.number; journal = c.push.new.self })) c.self.view_is
+    subst (λ v. ConnLaneTakes c.args.plant.now c.args.stamp c.args.event.now v (record { head = c.self.inside.head; number = c.self.inside.number; journal = c.push.new.self })) c.self.view_is
     (record {
       entry = c.in_ok-openings.entry;
       journal = c.in_ok-push.ensures.ok;

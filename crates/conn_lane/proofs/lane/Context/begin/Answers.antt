@@ -3,7 +3,7 @@ use Rattle.std.specs.Option.{option_map}
 use Rattle.section_model.specs.Opening.{wish_of, opened}
 use Rattle.section_coupling.specs.Duos.{duo_at}
 use Rattle.plant_core.specs.Asking.{answer_in}
-use Rattle.conn_lane.specs.Lanes.{lane_of}
+use Rattle.conn_lane.specs.Journals.{lane_of}
 use Rattle.conn_lane.proofs.LaneGrows.{opens_so}
 use Rattle.conn_lane.proofs.lane.Context.begin.Goals as goal
 

@@ -1,7 +1,7 @@
-use Rattle.std.proofs.Common.{refl, subst, ap, ◌∙◌, ◌++◌}
+use Rattle.std.proofs.Common.{refl, subst, map}
 use Rattle.plant_core.specs.Asking.{answer_in}
+use Rattle.conn_lane.specs.Remnants.{remnant_after}
 use Rattle.conn_lane.specs.Seated.{AreOrderly}
-use Rattle.conn_lane.specs.Views.{news}
 use Rattle.conn_lane.proofs.LaneGrows.{opens_answered, open_untimed, open_orderly, open_comes}
 use Rattle.conn_lane.proofs.lane.Context.open.Goals as goal
 
@@ -9,16 +9,15 @@ pub begin-requires-clause-answered : goal.begin-requires-clause-answered
 begin-requires-clause-answered c =
     opens_answered c.args.self.now.head c.args.plant.now c.args.event.now c.asked_by-asked.result _ (c.asked_by-asked.ensures c.args.self.now.head) refl
 
-pub hear-requires-clause-event : goal.hear-requires-clause-event
-hear-requires-clause-event c = open_untimed c.args.self.now.head.terms c.args.event.now c.requires.wish
+pub joined-requires-clause-event : goal.joined-requires-clause-event
+joined-requires-clause-event c = open_untimed c.args.self.now.head.terms c.args.event.now c.requires.wish
 
-pub with-requires-clause-orderly : goal.with-requires-clause-orderly
-with-requires-clause-orderly c =
-    open_orderly c.args.self.now.head c.args.self.now.number c.args.event.now c.args.openings (answer_in c.asked_by-asked.result) c.in_ok-begun.begun.duo c.in_ok-begun.begun.outs c.in_ok-openings.openings c.requires.number
-    (subst (λ v. AreOrderly v.keeps) c.openings.view_is c.openings.invariant.0) c.in_ok-begun.ensures.opened c.in_ok-begun.ensures.ticks c.in_ok-openings.ensures.keeps
+pub joined-requires-clause-orderly : goal.joined-requires-clause-orderly
+joined-requires-clause-orderly c =
+    open_orderly c.args.self.now.head c.args.self.now.number c.args.event.now c.args.openings (answer_in c.asked_by-asked.result) c.in_ok-begun.begun.duo c.in_ok-begun.begun.outs
+    c.requires.number (subst (λ v. AreOrderly v.keeps) c.openings.view_is c.openings.invariant.0) c.in_ok-begun.ensures.opened c.in_ok-begun.ensures.ticks
 
 pub returns : goal.returns
 returns c =
-    open_comes c.args.plant.now c.args.self.now.head c.args.self.now.number c.args.event.now c.args.openings c.in_ok-openings-2.openings c.asked_by-asked.result c.in_ok-begun.begun.duo c.in_ok-begun.begun.outs c.requires.wish
-    (c.asked_by-asked.ensures c.args.self.now.head) c.in_ok-begun.ensures.opened c.in_ok-begun.ensures.ticks
-    (c.in_ok-openings-2.ensures ∙ ap (λ o. record { taken = o.taken; keeps = o.keeps ++ news o.taken c.in_ok-begun.begun.duo }) c.in_ok-openings.ensures.keeps)
+    open_comes c.args.plant.now c.args.self.now.head c.args.self.now.number c.args.event.now c.args.openings c.in_ok-openings.openings c.asked_by-asked.result c.in_ok-begun.begun.duo c.in_ok-begun.begun.outs c.requires.wish
+    (c.asked_by-asked.ensures c.args.self.now.head) c.in_ok-begun.ensures.opened c.in_ok-begun.ensures.ticks c.in_ok-openings.ensures

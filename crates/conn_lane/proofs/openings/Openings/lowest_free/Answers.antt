@@ -1,11 +1,11 @@
 use Rattle.std.proofs.Common.{◌≡◌, subst}
 use Rattle.std.specs.Result.{IfOk}
-use Rattle.conn_lane.specs.Keeping.{lowest_in}
-use Rattle.conn_lane.specs.Views.{keeping_all}
+use Rattle.conn_lane.specs.Remnants.{lowest_in}
+use Rattle.conn_lane.specs.Views.{remnants_at}
 use Rattle.conn_lane.proofs.openings.Openings.lowest_free.Goals as goal
 
 pub returns : goal.returns
 returns c =
     λ lane same.
     subst (λ v. IfOk c.lowest_free.result (λ refs. refs ≡ lowest_in lane v.keeps c.args.count)) c.self.view_is
-    (c.lowest_free.ensures lane (keeping_all c.self.inside.taken c.self.inside.kept.items) same c.self.invariant.1)
+    (c.lowest_free.ensures lane (remnants_at c.self.inside.taken c.self.inside.kept.items) same c.self.invariant.1)

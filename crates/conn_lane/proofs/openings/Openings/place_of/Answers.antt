@@ -1,6 +1,6 @@
 use Rattle.std.proofs.Common.{◌≡◌, ◌<◌, length, arith, sym, subst, ◌∙◌, true, false}
 use Rattle.conn_lane.specs.Finding.{IsFoundAt, IsHeardAt, IsUnheard}
-use Rattle.conn_lane.specs.Views.{keeping_all}
+use Rattle.conn_lane.specs.Views.{remnants_at}
 use Rattle.conn_lane.proofs.Found.{found_unnamed, found_free, found_within, found_heard, found_deaf}
 use Rattle.conn_lane.proofs.openings.Openings.place_of.Goals as goal
 
@@ -8,13 +8,13 @@ pub returns-in_err-mine : goal.returns-in_err-mine
 returns-in_err-mine c =
     subst (IsFoundAt c.args.event.now c.args.self.now.keeps) (sym c.from_residual.ensures)
     (subst (λ v. IsUnheard c.args.event.now v.keeps) c.self.view_is
-    (found_unnamed c.args.event.now (keeping_all c.self.inside.taken c.self.inside.kept.items) c.requires c.self.invariant.0 (sym c.reference_in.ensures ∙ c.in_err-mine.was)))
+    (found_unnamed c.args.event.now (remnants_at c.self.inside.taken c.self.inside.kept.items) c.requires c.self.invariant.0 (sym c.reference_in.ensures ∙ c.in_err-mine.was)))
 
 pub returns-in_err-place : goal.returns-in_err-place
 returns-in_err-place c =
     subst (IsFoundAt c.args.event.now c.args.self.now.keeps) (sym c.from_residual-in_err-place.ensures)
     (subst (λ v. IsUnheard c.args.event.now v.keeps) c.self.view_is
-    (found_free c.args.event.now (keeping_all c.self.inside.taken c.self.inside.kept.items) c.self.inside.index c.in_ok-mine.mine c.requires c.self.invariant.0 c.self.invariant.1
+    (found_free c.args.event.now (remnants_at c.self.inside.taken c.self.inside.kept.items) c.self.inside.index c.in_ok-mine.mine c.requires c.self.invariant.0 c.self.invariant.1
     (sym c.reference_in.ensures ∙ c.in_ok-mine.was) (sym c.place.ensures.value ∙ c.in_err-place.was)))
 
 pub index-requires : goal.index-requires

@@ -1,7 +1,7 @@
-use Rattle.node_engine.specs.Running.{ConnTakes}
+use Rattle.node_engine.specs.Running.{taking_of, ConnTakes}
 use Rattle.node_engine.proofs.LoopLemmas.{SoFar}
 use Rattle.node_engine.proofs.taking.Turn.conns_take.Given as goal
 
 -- the lanes so far took the event
 abbrev pub invariant-loop-number : goal.invariant-loop-number
-invariant-loop-number l = SoFar (ConnTakes l.self.plant.now.edition l.self.plant.now.routing l.self.place l.self.stamp l.self.event.now) l.number l.initial.lanes l.lanes
+invariant-loop-number l = SoFar (ConnTakes (taking_of l.self)) l.number l.initial.lanes l.lanes

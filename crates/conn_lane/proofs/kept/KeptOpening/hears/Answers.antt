@@ -3,7 +3,7 @@ use Rattle.std.specs.Prelude.{option_map}
 use Rattle.section_model.specs.Step.{hears}
 use Rattle.section_coupling.specs.Duos.{duo_at}
 use Rattle.conn_lane.proofs.Holds.{hears_so}
-use Rattle.conn_lane.proofs.kept.Kept.hears.Goals as goal
+use Rattle.conn_lane.proofs.kept.KeptOpening.hears.Goals as goal
 
 pub returns-in-Some : goal.returns-in-Some
 returns-in-Some c =

@@ -1,4 +1,5 @@
--- What a connection lane keeps of each of its openings: the connection while it isn't over, and the local references that it took.
+-- What a connection lane keeps of each of its openings: the connection while it isn't over, and the local references that it took, which
+-- stay frozen for a while once their ends are gone (Q.714, 3.3.2).
 use Rattle.std.specs.Prelude.{ℕ, ◌-◌, ◌==◌, ◌&&◌, ◌||◌, not, Bool, true, false, List, [], ◌∷◌, take, filter, if◌then◌else◌, Option, Some, None, option_map, is_some}
 use Rattle.std.specs.List.{list_any, range_with_len, flat_map}
 use Rattle.relay_base.specs.declared.words.Event.{Event}
@@ -19,7 +20,7 @@ pub record Seat : Type 0 where
   pub left : Option ℕ
 
 -- an opening: its connection until that is over, and the seat of each of its ends
-pub record Keeping : Type 0 where
+pub record Remnant : Type 0 where
   pub live : Option Live
   pub this : Option Seat
   pub that : Option Seat
@@ -37,8 +38,8 @@ seat_by freeze gone mine = option_map (λ m. record { mine = m; left = frozen_by
 abbrev pub seat_of : Ticks → (Connection → End) → Opening → Option Seat
 seat_of ticks end o = seat_by ticks.freeze (gone_for ticks end o.first o.since) (reference_of (end o.first))
 
-abbrev pub keeping_of : Ticks → Opening → Keeping
-keeping_of ticks o = record {
+abbrev pub remnant_of : Ticks → Opening → Remnant
+remnant_of ticks o = record {
   live = live_of ticks (connection_of ticks o);
   this = seat_of ticks (λ c. c.this) o;
   that = seat_of ticks (λ c. c.that) o;
@@ -57,7 +58,7 @@ left_after freeze event is_gone (Some left) = Some (left - ticks_in event)
 abbrev pub seat_after : ℕ → Event → Bool → Option Seat → Option Seat
 seat_after freeze event is_gone seat = option_map (λ s. record { mine = s.mine; left = left_after freeze event is_gone s.left }) seat
 
-abbrev pub live_after : Event → Live → Keeping → Keeping
+abbrev pub live_after : Event → Live → Remnant → Remnant
 live_after event l k =
     let c = fed l.ticks l.connection event in
     record {
@@ -66,11 +67,11 @@ live_after event l k =
       that = seat_after l.ticks.freeze event (end_is_gone c.that) k.that;
     }
 
-abbrev pub over_after : Event → Keeping → Keeping
+abbrev pub over_after : Event → Remnant → Remnant
 over_after event k = record { live = None; this = seat_after 0 event false k.this; that = seat_after 0 event false k.that }
 
-abbrev pub keeping_after : Event → Keeping → Keeping
-keeping_after event k = elim k.live [ Some l ↦ live_after event l k | None ↦ over_after event k ]
+abbrev pub remnant_after : Event → Remnant → Remnant
+remnant_after event k = elim k.live [ Some l ↦ live_after event l k | None ↦ over_after event k ]
 
 -- What comes of an event.
 
@@ -87,7 +88,7 @@ abbrev pub first_of : Option (List Output) → Option (List Output) → Option (
 first_of None later = later
 first_of (Some outs) later = Some outs
 
-abbrev pub first_part : Event → List Keeping → Option (List Output)
+abbrev pub first_part : Event → List Remnant → Option (List Output)
 first_part event [] = None
 first_part event (k ∷ more) = first_of (part_at event k.live) (first_part event more)
 
@@ -95,7 +96,7 @@ abbrev pub or_none : Option (List Output) → List Output
 or_none None = []
 or_none (Some outs) = outs
 
-abbrev pub all_parts : Event → List Keeping → List Output
+abbrev pub all_parts : Event → List Remnant → List Output
 all_parts event keeps = flat_map (λ k. or_none (part_at event k.live)) keeps
 
 -- The local references.
@@ -109,14 +110,14 @@ abbrev pub sits : ℕ → Option Seat → Bool
 sits slot None = false
 sits slot (Some s) = slot_of s.mine == slot && not (is_frozen_out s.left)
 
-abbrev pub takes_slot : ℕ → Keeping → Bool
+abbrev pub takes_slot : ℕ → Remnant → Bool
 takes_slot slot k = sits slot k.this || sits slot k.that
 
-abbrev pub free_in : List Keeping → List ℕ
+abbrev pub free_in : List Remnant → List ℕ
 free_in keeps = filter (λ slot. not (list_any (takes_slot slot) keeps)) (range_with_len 1 4095)
 
 -- the references of so many lowest free slots, or none where there are too few
-abbrev pub lowest_in : Lane → List Keeping → ℕ → List ℕ
+abbrev pub lowest_in : Lane → List Remnant → ℕ → List ℕ
 lowest_in lane keeps count = enough lane count (take count (free_in keeps))
 
 -- An opening does nothing more once its connection is over and no reference of it is held or frozen.
@@ -125,10 +126,10 @@ abbrev pub holds_out : Option Seat → Bool
 holds_out None = false
 holds_out (Some s) = not (is_frozen_out s.left)
 
-abbrev pub is_needed : Keeping → Bool
+abbrev pub is_needed : Remnant → Bool
 is_needed k = is_some k.live || holds_out k.this || holds_out k.that
 
-abbrev pub needed : List Keeping → List Keeping
+abbrev pub needed : List Remnant → List Remnant
 needed keeps = filter is_needed keeps
 
 -- a reference of it is free again
@@ -136,5 +137,5 @@ abbrev pub is_freed : Option Seat → Bool
 is_freed None = false
 is_freed (Some s) = is_frozen_out s.left
 
-abbrev pub has_freed : Keeping → Bool
+abbrev pub has_freed : Remnant → Bool
 has_freed k = is_freed k.this || is_freed k.that

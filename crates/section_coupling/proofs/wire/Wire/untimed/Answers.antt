@@ -1,0 +1,13 @@
+use Rattle.std.proofs.Common.{sym, ◌∙◌}
+use Rattle.section_coupling.specs.Views.{section_at}
+use Rattle.section_coupling.proofs.Composed.{if-ok}
+use Rattle.section_coupling.proofs.Arriving.{acts-windowed, acts-lined}
+use Rattle.section_coupling.proofs.wire.Wire.untimed.Goals as goal
+
+pub returns-then-in_windows-clause-acts : goal.returns-then-in_windows-clause-acts
+returns-then-in_windows-clause-acts c =
+    if-ok c.by_windows.result (λ r e now. acts-windowed c.args.cell c.args.input.now (section_at now c.args.self) (sym (c.in_windows.ensures now) ∙ c.if-in_windows.true) ∙ e now) c.by_windows.ensures.acts
+
+pub returns-else-in_windows-clause-acts : goal.returns-else-in_windows-clause-acts
+returns-else-in_windows-clause-acts c =
+    if-ok c.by_line.result (λ r e now. acts-lined c.args.cell c.args.input.now (section_at now c.args.self) (sym (c.in_windows.ensures now) ∙ c.if-in_windows.false) ∙ e now) c.by_line.ensures.acts
