@@ -3,8 +3,6 @@ use Rattle.std.specs.Prelude.{ℕ, ◌&&◌, nat_lt, not, Bool, List, [], ◌∷
 use Rattle.std.specs.declared.result.Result.{Result}
 use Rattle.relay_base.specs.declared.words.Event.{Event}
 use Rattle.relay_base.specs.declared.words.Event.TheVariants.{Message as Arrived, Asked as Requested, Tick}
-use Rattle.relay_base.specs.declared.words.Request.{Request}
-use Rattle.relay_base.specs.declared.words.Request.TheVariants.{Unit as UnitRequest}
 use Rattle.relay_base.specs.declared.words.Lost.{Lost}
 use Rattle.relay_base.specs.declared.words.Lost.TheVariants.{Long, Read, Address, Class}
 use Rattle.relay_base.specs.declared.words.ReadFault.{ReadFault}
@@ -19,7 +17,7 @@ use Rattle.q713_codec.specs.Longest.{is_too_long}
 use Rattle.q713_codec.specs.declared.message.Message.{Message}
 use Rattle.q713_codec.specs.Reading.{reading_of}
 use Rattle.connectionless.specs.Unitdata.{Unitdata, unitdata_of, class_of}
-use Rattle.connectionless.specs.Given.{is_unit_request}
+use Rattle.connectionless.specs.Given.{Given, given_of}
 
 -- a unit whose class is above 1
 abbrev pub is_of_wrong_class : Unitdata → Bool
@@ -41,61 +39,44 @@ message_by (Err fault) = Err (Read fault)
 unfoldable pub message_in : List ℕ → Result Message Lost
 message_in bytes = if is_too_long bytes then Err Long else message_by (reading_of bytes)
 
--- what a message asks, if it is of the connectionless service, or why it is lost
-abbrev pub some_question : Result Question Lost → Result (Option Question) Lost
-some_question (Ok question) = Ok (Some question)
-some_question (Err lost) = Err lost
-
-abbrev pub unit_question : Option Unitdata → Result (Option Question) Lost
-unit_question None = Ok None
-unit_question (Some x) = some_question (question_of x)
-
-unfoldable pub message_question : Message → Result (Option Question) Lost
-message_question message = unit_question (unitdata_of message)
-
--- what a user's unit asks
-abbrev pub user_question_by : Result Form AddressFault → Option Question
-user_question_by (Err fault) = None
-user_question_by (Ok a) = Some (record { called = a; hop = None; origin = FromUser })
-
-abbrev pub request_question : Request → Option Question
-request_question (UnitRequest sls class ret called calling body) = user_question_by (address_of called)
-request_question _ = None
-
-unfoldable pub user_question : Request → Option Question
-user_question request = if is_unit_request request then request_question request else None
-
--- What an event is to the connectionless service: a message with its question, a user's unit with its question, outputs that no
--- routing decides, or a tick.
+-- What an event is to the connectionless service: a unit or a service message from the network with its question, a user's unit with
+-- its question, outputs that no routing decides, or a tick.
 pub data Matter : Type 0 where
-  from_network : ℕ → ℕ → Message → Question → Matter
-  from_user : ℕ → Request → Question → Matter
+  from_network : ℕ → ℕ → Unitdata → Question → Matter
+  from_user : Given → Question → Matter
   settled : List Output → Matter
   of_tick : Matter
 
+abbrev pub matter_by_question : ℕ → ℕ → Unitdata → Result Question Lost → Matter
+matter_by_question opc sls x (Ok question) = from_network opc sls x question
+matter_by_question opc sls x (Err lost) = settled (Dropped lost ∷ [])
+
 -- a message of another service has no outputs
-abbrev pub matter_by_question : ℕ → ℕ → Message → Result (Option Question) Lost → Matter
-matter_by_question opc sls message (Ok (Some question)) = from_network opc sls message question
-matter_by_question opc sls message (Ok None) = settled []
-matter_by_question opc sls message (Err lost) = settled (Dropped lost ∷ [])
+abbrev pub matter_by_unit : ℕ → ℕ → Option Unitdata → Matter
+matter_by_unit opc sls None = settled []
+matter_by_unit opc sls (Some x) = matter_by_question opc sls x (question_of x)
 
 abbrev pub matter_by_message : ℕ → ℕ → Result Message Lost → Matter
-matter_by_message opc sls (Ok message) = matter_by_question opc sls message (message_question message)
+matter_by_message opc sls (Ok message) = matter_by_unit opc sls (unitdata_of message)
 matter_by_message opc sls (Err lost) = settled (Dropped lost ∷ [])
 
+abbrev pub matter_by_address : Given → Result Form AddressFault → Matter
+matter_by_address g (Ok a) = from_user g (record { called = a; hop = None; origin = FromUser })
+matter_by_address g (Err fault) = settled []
+
 -- a request that isn't a unit in its ranges has no outputs
-abbrev pub matter_by_request : ℕ → Request → Option Question → Matter
-matter_by_request ssn request None = settled []
-matter_by_request ssn request (Some question) = from_user ssn request question
+abbrev pub matter_by_given : Option Given → Matter
+matter_by_given None = settled []
+matter_by_given (Some g) = matter_by_address g (address_of g.called)
 
 unfoldable pub matter_of : Event → Matter
 matter_of (Arrived opc sls bytes) = matter_by_message opc sls (message_in bytes)
-matter_of (Requested ssn request) = matter_by_request ssn request (user_question request)
+matter_of (Requested ssn request) = matter_by_given (given_of ssn request)
 matter_of Tick = of_tick
 
 -- the question that an event asks, if it asks one
 abbrev pub question_in : Matter → Option Question
-question_in (from_network opc sls message question) = Some question
-question_in (from_user ssn request question) = Some question
+question_in (from_network opc sls x question) = Some question
+question_in (from_user g question) = Some question
 question_in (settled outs) = None
 question_in of_tick = None

@@ -4,3 +4,4 @@ pub mod Returning
 pub mod Routed
 pub mod Given
 pub mod Asking
+pub mod Questions

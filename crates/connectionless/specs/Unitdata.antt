@@ -1,4 +1,4 @@
--- The six messages of the connectionless service (Q.713, UDT to LUDTS), as one record of their parameters.
+-- The six messages of the connectionless service (Q.713, 4.10, 4.11 and 4.18 to 4.21), as one record of their parameters.
 use Rattle.std.specs.Prelude.{ℕ, ◌%◌, Bool, true, false, List, Option, Some, None, unwrap_or}
 use Rattle.q713_codec.specs.declared.message.Message.{Message}
 use Rattle.q713_codec.specs.declared.message.Message.TheVariants.{Udt, Udts, Xudt, Xudts, Ludt, Ludts}

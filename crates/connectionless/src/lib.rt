@@ -1,4 +1,4 @@
-//! The connectionless service (Q.714): what comes of units and service messages, and of the units that users give.
+//! The connectionless service (Q.714, 4.1): what comes of units and service messages, and of the units that users give.
 #![tactic(auto)]
 
 mod asking;

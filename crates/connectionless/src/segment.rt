@@ -1,7 +1,7 @@
 //! What is left to do with a unit.
 use relay_base::{Octets, Pc, Sls, Ssn};
 
-/// A segment of a message, as it came: its origin and its parameters (Q.713, XUDT).
+/// A segment of a message, as it came: its origin and its parameters (Q.713, 4.18).
 #[derive(Drop)]
 pub struct Segment {
     pub opc: Pc,

@@ -1,4 +1,4 @@
-//! The messages of the connectionless service (Q.713, UDT to LUDTS), as one view of their parameters.
+//! The messages of the connectionless service (Q.713, 4.10, 4.11 and 4.18 to 4.21), as one view of their parameters.
 ghost use Rattle.std.specs.Prelude.{◌≡◌, IfOk};
 ghost use Rattle.std.specs.Option.{option_map};
 ghost use Rattle.q713_codec.specs.Reading.{seen};

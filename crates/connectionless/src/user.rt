@@ -111,9 +111,11 @@ pub fn user_outs(
     outs: &mut Outs,
 ) -> Result<bool, Memory>
     requires { IsTrue (is_unit_request request.now) }
-    ensures ok { let sending = sending_of (given_of ssn request.now) answer.now (reference_after lane count)
+    ensures ok { let reference = reference_after lane count in
+        let sending = sending_of (given_of ssn request.now) answer.now reference
         in OnOk result (outs.new ≡ outs.old ++ sending.outs) }
-    ensures cut { let sending = sending_of (given_of ssn request.now) answer.now (reference_after lane count)
+    ensures cut { let reference = reference_after lane count in
+        let sending = sending_of (given_of ssn request.now) answer.now reference
         in IfOk result (λ cut. cut ≡ sending.is_cut) }
     ensures err { OnErr result (outs.new ≡ outs.old) }
 {

@@ -1,3 +1,4 @@
 pub mod CountLemmas
 pub mod LegalLemmas
 pub mod TakingLemmas
+pub mod MatterLemmas

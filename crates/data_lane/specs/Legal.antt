@@ -22,10 +22,9 @@ use Rattle.reassembly.specs.declared.process.Process.{Process}
 use Rattle.connectionless.specs.declared.segment.Segment.{Segment}
 use Rattle.connectionless.specs.declared.segment.Next.{Next}
 use Rattle.connectionless.specs.declared.segment.Next.TheVariants.{Done, Gather}
-use Rattle.connectionless.specs.Unitdata.{unitdata_of}
 use Rattle.connectionless.specs.Returning.{refusal_output, unit_in}
-use Rattle.connectionless.specs.Routed.{Outcome, outcome_of}
-use Rattle.connectionless.specs.Given.{Sending, given_of, sending_of, reference_after}
+use Rattle.connectionless.specs.Routed.{Outcome, unit_outcome}
+use Rattle.connectionless.specs.Given.{Sending, given_outcome, reference_after}
 use Rattle.connectionless.specs.Asking.{Matter, from_network, from_user, settled, of_tick, matter_of, question_in}
 use Rattle.data_lane.specs.declared.effect.Effect.{Effect}
 use Rattle.data_lane.specs.declared.effect.Work.{Work}
@@ -70,12 +69,12 @@ of_sending x = record { outs = x.outs; is_cut = x.is_cut; work = work.Nothing }
 
 -- by the answer to what was asked, in the lane of this number after so many users' units that were cut
 abbrev pub effect_by : LaneHead → ℕ → ℕ → Matter → Option Answer → Effect
-effect_by head number cut (from_network opc sls message q) (Some answer) = of_outcome (outcome_of head.terms.own opc sls (unitdata_of message) answer)
-effect_by head number cut (from_user ssn request q) (Some answer) = of_sending (sending_of (given_of ssn request) answer (reference_after number cut))
+effect_by head number cut (from_network opc sls x q) (Some answer) = of_outcome (unit_outcome head.terms.own opc sls x answer)
+effect_by head number cut (from_user g q) (Some answer) = of_sending (given_outcome g answer (reference_after number cut))
 effect_by head number cut (settled outs) answer = effect_with outs work.Nothing
 effect_by head number cut of_tick answer = effect_with [] work.Tick
-effect_by head number cut (from_network opc sls message q) None = effect_with [] work.Nothing
-effect_by head number cut (from_user ssn request q) None = effect_with [] work.Nothing
+effect_by head number cut (from_network opc sls x q) None = effect_with [] work.Nothing
+effect_by head number cut (from_user g q) None = effect_with [] work.Nothing
 
 -- What comes of the reassemblies (Q.714, 4.1.1): a failed one is returned, and so is one without room.
 

@@ -2,7 +2,9 @@
 ghost use Rattle.std.specs.Prelude.{◌≡◌, [], ◌∷◌, IfOk};
 ghost use Rattle.relay_base.specs.declared.words.Output.TheVariants.{Lost as Dropped};
 ghost use Rattle.q713_codec.specs.Reading.{seen};
-ghost use Rattle.connectionless.specs.Asking.{matter_by_question, matter_by_message, matter_by_request, message_question, message_in, user_question, question_in, matter_of};
+ghost use Rattle.connectionless.specs.Asking.{matter_by_unit, matter_by_message, matter_by_given, message_in, question_in, matter_of};
+ghost use Rattle.connectionless.specs.Given.{given_of};
+ghost use Rattle.connectionless.specs.Unitdata.{unitdata_of};
 ghost use Rattle.data_lane.specs.declared.effect.Work.TheVariants as work;
 ghost use Rattle.data_lane.specs.Legal.{asked_of, piece_of, work_of, effect_with};
 ghost use Rattle.data_lane.specs.Lane.{asked_in, effect_in};
@@ -93,9 +95,9 @@ pub struct Context<'a> {
 impl Context<'_> {
     /// What comes of a message that was read.
     fn read(&self, opc: Pc, sls: Sls, view: &View<'_>) -> Result<(Option<Asked>, Effect), Memory>
-        ensures asked { let matter = matter_by_question opc sls (seen view.now) (message_question (seen view.now))
+        ensures asked { let matter = matter_by_unit opc sls (unitdata_of (seen view.now))
             in IfOk result (λ x. x.0 ≡ asked_in self.now (question_in matter)) }
-        ensures effect { let matter = matter_by_question opc sls (seen view.now) (message_question (seen view.now))
+        ensures effect { let matter = matter_by_unit opc sls (unitdata_of (seen view.now))
             in IfOk result (λ x. x.1 ≡ effect_in self.now matter x.0) }
     {
         let ask = match message_ask(view) {
@@ -125,9 +127,9 @@ impl Context<'_> {
 
     /// What comes of a user's request.
     fn request(&self, ssn: Ssn, request: &Request) -> Result<(Option<Asked>, Effect), Memory>
-        ensures asked { let matter = matter_by_request ssn request.now (user_question request.now)
+        ensures asked { let matter = matter_by_given (given_of ssn request.now)
             in IfOk result (λ x. x.0 ≡ asked_in self.now (question_in matter)) }
-        ensures effect { let matter = matter_by_request ssn request.now (user_question request.now)
+        ensures effect { let matter = matter_by_given (given_of ssn request.now)
             in IfOk result (λ x. x.1 ≡ effect_in self.now matter x.0) }
     {
         let mut outs = Outs::new(self.alloc);

@@ -1,4 +1,4 @@
-//! The rows of global title translation (Q.714, translation function), and the search among them.
+//! The rows of global title translation (Q.714, 2.4), and the search among them.
 #![tactic(auto)]
 
 mod row;

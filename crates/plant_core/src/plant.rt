@@ -320,8 +320,8 @@ impl Plant {
         requires { self.old.edition + 1 < 2 ^ 64 }
         ensures routing { OnOk result (self.new.routing ≡ plant_after self.old.routing change.now) }
         ensures edition { OnOk result (self.new.edition ≡ self.old.edition + 1) }
-        ensures err { let same = (self.new.routing ≡ self.old.routing) × (self.new.edition ≡ self.old.edition)
-            in OnErr result same }
+        ensures err { let routing = self.new.routing ≡ self.old.routing
+            in OnErr result (routing × (self.new.edition ≡ self.old.edition)) }
         ensures memory { IsTrue self.old.has_room → IsOk result }
     {
         if self.verdict(change) == Verdict::Alters {

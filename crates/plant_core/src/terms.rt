@@ -45,7 +45,7 @@ pub struct LaneHead {
     pub reassembly: u32,
 }
 
-/// A subsystem that another point has too, by which a local user may be replaced (Q.714, coordinated state change).
+/// A subsystem that another point has too, by which a local user may be replaced (Q.714, 5.3.5).
 #[derive(Clone, Copy, Debug, PartialEq, Eq)]
 pub struct Replicate {
     pub ssn: Ssn,

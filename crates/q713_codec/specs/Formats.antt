@@ -1,7 +1,8 @@
--- The formats of the messages (Q.713), as one table.
+-- The formats of the messages (Q.713, 4.2 to 4.21), as one table.
 use Rattle.std.specs.Prelude.{ℕ, true, false, List, [], ◌∷◌, ◌++◌, replicate, Option, Some, None}
 use Rattle.q713_shape.specs.declared.rules.VarRule.{VarRule}
 use Rattle.q713_shape.specs.Format.{Format}
+use Rattle.q713_codec.specs.declared.shapes.TheConstants.{LONG_DATA_OCTETS}
 
 -- the names of the parameters
 abbrev pub destination_reference : ℕ
@@ -146,7 +147,7 @@ abbrev pub xudts_format : Format
 xudts_format = narrow 0x12 (one return_cause ++ one hop_counter) (unitdata (within user_data 0 255)) (Some (segmentation ∷ importance ∷ []))
 
 abbrev pub ludt_format : Format
-ludt_format = wide 0x13 (one protocol_class ++ one hop_counter) (unitdata (within long_data 0 3_952)) (Some (segmentation ∷ importance ∷ []))
+ludt_format = wide 0x13 (one protocol_class ++ one hop_counter) (unitdata (within long_data 0 LONG_DATA_OCTETS)) (Some (segmentation ∷ importance ∷ []))
 
 abbrev pub ludts_format : Format
-ludts_format = wide 0x14 (one return_cause ++ one hop_counter) (unitdata (within long_data 0 3_952)) (Some (segmentation ∷ importance ∷ []))
+ludts_format = wide 0x14 (one return_cause ++ one hop_counter) (unitdata (within long_data 0 LONG_DATA_OCTETS)) (Some (segmentation ∷ importance ∷ []))

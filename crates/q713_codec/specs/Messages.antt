@@ -1,4 +1,4 @@
--- The message of a type with these values, and the values of a message (Q.713).
+-- The message of a type with these values, and the values of a message (Q.713, 4.2 to 4.21).
 use Rattle.std.specs.Prelude.{ℕ, ◌+◌, ◌*◌, ◌/◌, ◌%◌, List, [], ◌∷◌, ◌++◌, slice_index, slice_index_or, Option, Some, None}
 use Rattle.std.specs.Option.{option_map}
 use Rattle.q713_shape.specs.Format.{Format, Values, filled}

@@ -1,4 +1,4 @@
--- Writing a message (Q.713): the type, the fixed part, the pointers, the variable parameters and the optional part, each
+-- Writing a message (Q.713, 2.3): the type, the fixed part, the pointers, the variable parameters and the optional part, each
 -- pointer the sum of the lengths that it skips.
 use Rattle.std.specs.Prelude.{ℕ, Bool, List, IsTrue}
 use Rattle.q713_shape.specs.Writing.{octets_of, are_in_range}

@@ -36,7 +36,8 @@ pub fn variable<'a>(vars: &[&'a [u8]; 3], place: usize) -> &'a [u8]
 /// The optional parameter at a place.
 pub fn optional<'a>(options: &[Option<&'a [u8]>; 5], place: usize) -> Option<&'a [u8]>
     requires { place < 5 }
-    ensures { option_map (λ v. v.now) result ≡ slice_index_or (optional_slices options.now) place None }
+    ensures { let value = slice_index_or (optional_slices options.now) place None
+        in option_map (λ v. v.now) result ≡ value }
 {
     options[place]
 }

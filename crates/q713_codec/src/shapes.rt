@@ -37,10 +37,13 @@ const EXPEDITED: VarRule = VarRule {
     most: 32,
 };
 
+/// The most octets of long data.
+const LONG_DATA_OCTETS: u16 = 3_952;
+
 const LONG_DATA: VarRule = VarRule {
     name: 0x13,
     least: 0,
-    most: 3_952,
+    most: LONG_DATA_OCTETS,
 };
 
 /// Connection request.

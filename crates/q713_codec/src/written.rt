@@ -117,7 +117,8 @@ impl<'a> Written<'a> {
         options: [Option<&'a [u8]>; 5],
     ) -> Self
         ensures format { written_format result ≡ nameless (format_of shape.now) }
-        ensures values { written_values result ≡ values_with (octets_in fixed) vars.entry options.entry }
+        ensures values { let values = values_with (octets_in fixed) vars.entry options.entry
+            in written_values result ≡ values }
     {
         let names = shape.options;
         let rules = Rules::of(&shape.vars);

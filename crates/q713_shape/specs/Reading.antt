@@ -1,4 +1,4 @@
--- Reading a message by places in its octets, with the first fault (Q.713). Places count from 0, the type octet.
+-- Reading a message by places in its octets, with the first fault (Q.713, 2.3). Places count from 0, the type octet.
 use Rattle.std.specs.Prelude.{ℕ, zero, suc, ◌+◌, ◌*◌, ◌==◌, ◌||◌, ◌&&◌, nat_lt, nat_le, Bool, not, List, [], ◌∷◌, length, take, drop, map, slice_index, if◌then◌else◌, Option, Some, None, Ok, Err}
 use Rattle.std.specs.List.{list_any, filter}
 use Rattle.std.specs.declared.result.Result.{Result}

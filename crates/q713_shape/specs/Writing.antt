@@ -1,4 +1,4 @@
--- The octets of a message (Q.713): the type, the fixed part, the pointers, the variable parameters, and the optional part last.
+-- The octets of a message (Q.713, 2.3): the type, the fixed part, the pointers, the variable parameters, and the optional part last.
 use Rattle.std.specs.Prelude.{ℕ, ◌+◌, ◌*◌, ◌/◌, ◌%◌, ◌==◌, ◌&&◌, nat_le, Bool, true, List, [], ◌∷◌, ◌++◌, length, map, if◌then◌else◌, Option, Some, None}
 use Rattle.std.specs.List.{concat, list_all}
 use Rattle.q713_shape.specs.declared.rules.VarRule.{VarRule}

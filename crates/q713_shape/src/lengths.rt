@@ -19,7 +19,8 @@ pub fn pointer_octets(wide: bool) -> usize
 /// How many octets the pointers have: one for each variable parameter, and one for the optional part where there is one.
 pub fn pointers_len(rules: &[VarRule], options: &OptionRule, wide: bool) -> usize
     requires { length rules.now ≤ 3 }
-    ensures { result ≡ pointer_width wide * (length rules.now + option_count (names_of options.now)) }
+    ensures { let count = length rules.now + option_count (names_of options.now)
+        in result ≡ pointer_width wide * count }
 {
     pointer_octets(wide) * (rules.len() + options.count())
 }

@@ -28,7 +28,8 @@ fn are_options(rule: &OptionRule, values: &[Option<&[u8]>; 5]) -> bool
 fn optional_len(rule: &OptionRule, values: &[Option<&[u8]>; 5]) -> usize
     requires few { IsTrue (has_few_names rule.now) }
     requires options { IsTrue (are_options_of (names_of rule.now) (optional_slices values.now)) }
-    ensures value { result ≡ length (optional_part (names_of rule.now) (optional_slices values.now)) }
+    ensures value { let part = optional_part (names_of rule.now) (optional_slices values.now)
+        in result ≡ length part }
     ensures small { result ≤ 1_300 }
 {
     let OptionRule::Names(names) = rule else {
@@ -56,7 +57,8 @@ fn optional_pointer_fits(
     requires before { before ≤ 200_000 }
     requires few { IsTrue (has_few_names rule.now) }
     requires options { IsTrue (are_options_of (names_of rule.now) (optional_slices values.now)) }
-    ensures { result ≡ list_all (fits_pointer wide) (option_skip (names_of rule.now) before (optional_part (names_of rule.now) (optional_slices values.now))) }
+    ensures { let part = optional_part (names_of rule.now) (optional_slices values.now)
+        in result ≡ list_all (fits_pointer wide) (option_skip (names_of rule.now) before part) }
 {
     match rule {
         OptionRule::Absent => true,
@@ -75,7 +77,9 @@ fn put_optional_pointer(
     requires before { before ≤ 200_000 }
     requires few { IsTrue (has_few_names rule.now) }
     requires options { IsTrue (are_options_of (names_of rule.now) (optional_slices values.now)) }
-    ensures { OnOk result (out.new ≡ out.old ++ concat (map (number_octets wide) (option_skip (names_of rule.now) before (optional_part (names_of rule.now) (optional_slices values.now))))) }
+    ensures { let part = optional_part (names_of rule.now) (optional_slices values.now) in
+        let skip = option_skip (names_of rule.now) before part
+        in OnOk result (out.new ≡ out.old ++ concat (map (number_octets wide) skip)) }
 {
     if let OptionRule::Names(_) = rule {
         put_number(out, optional_skip(before, optional_len(rule, values)), wide)?;
@@ -91,7 +95,8 @@ fn put_optional_part(
 ) -> Result<(), Memory>
     requires few { IsTrue (has_few_names rule.now) }
     requires options { IsTrue (are_options_of (names_of rule.now) (optional_slices values.now)) }
-    ensures { OnOk result (out.new ≡ out.old ++ optional_part (names_of rule.now) (optional_slices values.now)) }
+    ensures { let part = optional_part (names_of rule.now) (optional_slices values.now)
+        in OnOk result (out.new ≡ out.old ++ part) }
 {
     if let OptionRule::Names(names) = rule {
         put_options(out, names, values)?;
@@ -133,7 +138,8 @@ impl Layout<'_> {
     /// with 00. What it allocates is what it gives.
     pub fn put(&self, alloc: Global) -> Result<Octets, Memory>
         requires { IsTrue (are_in_range (layout_format self.now) (layout_values self.now)) }
-        ensures { IfOk result (λ o. o ≡ octets_of (layout_format self.now) (layout_values self.now)) }
+        ensures { let octets = octets_of (layout_format self.now) (layout_values self.now)
+            in IfOk result (λ o. o ≡ octets) }
     {
         let before = variables_len(self.rules, &self.vars);
         let mut out = Octets::with_capacity(alloc, self.length())?;

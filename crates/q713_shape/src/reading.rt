@@ -84,7 +84,8 @@ fn variables<'a>(
     requires few { length rules.now ≤ 3 }
     requires inside { place + pointer_width wide * length rules.now ≤ length bytes.now }
     requires small { place ≤ 60_001 }
-    ensures { Gives (λ v. slices v.values) result (filled_variables wide bytes.now place rules.now) }
+    ensures { let values = filled_variables wide bytes.now place rules.now
+        in Gives (λ v. slices v.values) result values }
 {
     let mut values = [&bytes[..0]; 3];
     let width = pointer_octets(wide);
@@ -109,7 +110,8 @@ fn take_option<'a>(
 ) -> Result<(), ReadFault>
     requires { length names.now ≤ 5 }
     ensures room { length values.new ≡ 5 }
-    ensures taken { Gives (λ _. optional_slices values.new) result (taken_with names.now (optional_slices values.old) name value.now) }
+    ensures taken { let taken = taken_with names.now (optional_slices values.old) name value.now
+        in Gives (λ _. optional_slices values.new) result taken }
 {
     for i in 0..names.len() {
         if names[i] == name && values[i].is_none() {
@@ -149,9 +151,11 @@ fn optional_part<'a>(
     wide: bool,
 ) -> Result<Optional<'a>, ReadFault>
     requires few { IsTrue (has_few_names rule.now) }
-    requires inside { place + pointer_width wide * option_count (names_of rule.now) ≤ length bytes.now }
+    requires inside { let width = pointer_width wide * option_count (names_of rule.now)
+        in place + width ≤ length bytes.now }
     requires small { place < 65_536 }
-    ensures { Gives (λ o. optional_slices o.values) result (options_at wide bytes.now place (names_of rule.now)) }
+    ensures { let options = options_at wide bytes.now place (names_of rule.now)
+        in Gives (λ o. optional_slices o.values) result options }
 {
     let OptionRule::Names(names) = rule else {
         return Ok(Optional { values: [None; 5] });

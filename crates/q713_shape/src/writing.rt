@@ -43,7 +43,8 @@ pub fn pointers_fit(rules: &[VarRule], values: &[&[u8]], behind: usize, wide: bo
     requires behind { behind ≤ 1 }
     requires values { length rules.now ≤ length values.now }
     requires lengths { IsTrue (have_lengths rules.now (slices values.now)) }
-    ensures { result ≡ list_all (fits_pointer wide) (skips (pointer_width wide) behind 0 (variables rules.now (slices values.now))) }
+    ensures { let parts = variables rules.now (slices values.now)
+        in result ≡ list_all (fits_pointer wide) (skips (pointer_width wide) behind 0 parts) }
 {
     let mut before = 0;
     for i in 0..rules.len() {
@@ -67,7 +68,9 @@ pub fn put_pointers(
     requires behind { behind ≤ 1 }
     requires values { length rules.now ≤ length values.now }
     requires lengths { IsTrue (have_lengths rules.now (slices values.now)) }
-    ensures { OnOk result (out.new ≡ out.old ++ concat (map (number_octets wide) (skips (pointer_width wide) behind 0 (variables rules.now (slices values.now))))) }
+    ensures { let parts = variables rules.now (slices values.now) in
+        let pointers = skips (pointer_width wide) behind 0 parts
+        in OnOk result (out.new ≡ out.old ++ concat (map (number_octets wide) pointers)) }
 {
     let mut before = 0;
     for i in 0..rules.len() {

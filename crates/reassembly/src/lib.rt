@@ -1,4 +1,4 @@
-//! Reassembly of messages that came in segments (Q.714, connectionless service).
+//! Reassembly of messages that came in segments (Q.714, 4.1.1).
 #![tactic(auto)]
 
 mod bench;

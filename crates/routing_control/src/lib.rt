@@ -1,4 +1,4 @@
-//! Routing control (Q.714, SCCP routing control): where a called address leads.
+//! Routing control (Q.714, 2.3): where a called address leads.
 #![tactic(auto)]
 
 mod control;

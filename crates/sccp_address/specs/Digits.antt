@@ -1,4 +1,4 @@
--- Digits in binary coded decimal: two in an octet, the first one in its low half (Q.713, global title).
+-- Digits in binary coded decimal: two in an octet, the first one in its low half (Q.713, 3.4).
 use Rattle.std.specs.Prelude.{ℕ, ◌+◌, ◌-◌, ◌*◌, ◌/◌, ◌%◌, ◌==◌, Bool, List, [], ◌∷◌, length, take, slice_index, if◌then◌else◌}
 
 -- the halves of octets, each octet's low half first

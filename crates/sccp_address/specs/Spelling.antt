@@ -1,4 +1,4 @@
--- The octets of an address (Q.713, called and calling party address).
+-- The octets of an address (Q.713, 3.4 and 3.5).
 use Rattle.std.specs.Prelude.{ℕ, ◌+◌, ◌*◌, ◌/◌, ◌%◌, ◌==◌, is_some, Bool, List, [], ◌∷◌, ◌++◌, length, if◌then◌else◌, Option, Some, None}
 use Rattle.sccp_address.specs.declared.address.Selector.{Selector}
 use Rattle.sccp_address.specs.Digits.{digit_octets}

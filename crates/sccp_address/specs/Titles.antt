@@ -1,4 +1,4 @@
--- The global title that octets spell under an indicator (Q.713, global title), and which titles reading gives.
+-- The global title that octets spell under an indicator (Q.713, 3.4), and which titles reading gives.
 use Rattle.std.specs.Prelude.{ℕ, ◌+◌, ◌-◌, ◌/◌, ◌%◌, ◌==◌, ◌||◌, ◌&&◌, nat_lt, nat_le, not, is_some, Bool, true, false, List, length, drop, slice_index, if◌then◌else◌, Option, Some, None, Ok, Err}
 use Rattle.std.specs.declared.result.Result.{Result}
 use Rattle.sccp_address.specs.declared.address.Selector.{Selector}
