@@ -1,6 +1,7 @@
 -- What a user asks for in the words of a request, or what is wrong with them.
 use Rattle.std.specs.Prelude.{ℕ, ◌==◌, codes, Bool, false, List, [], ◌∷◌, length, if◌then◌else◌, Option, Some, None, Ok, Err}
 use Rattle.std.specs.declared.result.Result.{Result}
+use Rattle.relay_base.specs.declared.limits.TheConstants.{LONGEST_GIVEN_UNIT, LONGEST_DATA, LONGEST_EXPEDITED, LONGEST_TEXT}
 use Rattle.relay_base.specs.Giving.{◌>>=◌}
 use Rattle.relay_base.specs.declared.words.Request.{Request}
 use Rattle.relay_base.specs.declared.words.Request.TheVariants as request
@@ -18,7 +19,7 @@ unit_of sls class ret called calling body = do
   number ← below 2 class
   to ← called_of called
   from ← calling_of calling
-  octets ← body_of 2560 body
+  octets ← body_of LONGEST_GIVEN_UNIT body
   Ok (request.Unit selection number (asks_return ret) to from octets)
 
 -- what asks for a connection: tag, class, credit, called address, data
@@ -28,7 +29,7 @@ conn_of tag class credit called body = do
   number ← class_of class
   granted ← below 128 credit
   to ← called_of called
-  octets ← body_of 128 body
+  octets ← body_of LONGEST_DATA body
   Ok (request.Conn name number granted to octets)
 
 -- the form of a request, by its first word
@@ -75,23 +76,23 @@ request_of form.Accept (reference ∷ class ∷ credit ∷ body ∷ []) = do
   mine ← below 16777216 reference
   number ← class_of class
   granted ← below 128 credit
-  octets ← body_of 128 body
+  octets ← body_of LONGEST_DATA body
   Ok (request.Accept mine number granted octets)
 -- refuse <ref> <cause> <hex>
 request_of form.Refuse (reference ∷ cause ∷ body ∷ []) = do
   mine ← below 16777216 reference
   number ← below 256 cause
-  octets ← body_of 128 body
+  octets ← body_of LONGEST_DATA body
   Ok (request.Refuse mine number octets)
 -- send <ref> <hex>
 request_of form.Send (reference ∷ body ∷ []) = do
   mine ← below 16777216 reference
-  octets ← text_of 8192 body
+  octets ← text_of LONGEST_TEXT body
   Ok (request.Send mine octets)
 -- ed <ref> <hex>
 request_of form.Expedite (reference ∷ body ∷ []) = do
   mine ← below 16777216 reference
-  octets ← text_of 32 body
+  octets ← text_of LONGEST_EXPEDITED body
   Ok (request.Expedite mine octets)
 -- reset <ref>
 request_of form.Reset (reference ∷ []) = do
@@ -101,7 +102,7 @@ request_of form.Reset (reference ∷ []) = do
 request_of form.Disc (reference ∷ cause ∷ body ∷ []) = do
   mine ← below 16777216 reference
   number ← below 256 cause
-  octets ← body_of 128 body
+  octets ← body_of LONGEST_DATA body
   Ok (request.Disc mine number octets)
 -- coord
 request_of form.Coord [] = Ok request.Coord

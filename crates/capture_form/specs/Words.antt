@@ -2,6 +2,7 @@
 use Rattle.std.specs.Prelude.{ℕ, ◌==◌, ◌||◌, ◌&&◌, nat_lt, nat_le, codes, Bool, List, [], length, if◌then◌else◌, Option, Some, None, Ok, Err, is_ok}
 use Rattle.std.specs.List.{list_any}
 use Rattle.std.specs.declared.result.Result.{Result}
+use Rattle.relay_base.specs.declared.limits.TheConstants.{LONGEST_GIVEN_ADDRESS}
 use Rattle.relay_base.specs.Giving.{◌>>=◌}
 use Rattle.relay_base.specs.Decimal.{number_of}
 use Rattle.sccp_address.specs.Parsing.{address_of}
@@ -66,7 +67,7 @@ octets_of word = or_kind (hex_of word) Hex
 -- an address that parses, of at most 40 octets
 abbrev pub address_in : List ℕ → Result (List ℕ) LineKind
 address_in octets =
-    if is_ok (address_of octets) then (if nat_le (length octets) 40 then Ok octets else Err Size) else Err Address
+    if is_ok (address_of octets) then (if nat_le (length octets) LONGEST_GIVEN_ADDRESS then Ok octets else Err Size) else Err Address
 
 abbrev pub called_of : List ℕ → Result (List ℕ) LineKind
 called_of word = octets_of word >>= address_in

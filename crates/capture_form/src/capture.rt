@@ -15,6 +15,7 @@ use crate::steps::{empty_phase, take_line};
 use bstr::{ByteSlice, Lines};
 use node_head::{Head, HeadRefused, take_head};
 use relay_base::Memory;
+use relay_base::limits::MOST_BYTES;
 use std::alloc::Global;
 
 /// What a capture holds.
@@ -23,9 +24,6 @@ pub struct Capture {
     pub head: Head,
     pub phases: PhaseList,
 }
-
-/// The most bytes of an input.
-pub const MOST_BYTES: usize = 67_108_864;
 
 /// The head, how many lines stand before its mark, and the lines after it.
 fn head_part(alloc: Global, lines: &mut Lines<'_>) -> Result<(Head, usize), CaptureFault>

@@ -14,7 +14,7 @@ mod steps;
 mod text;
 mod words;
 
-pub use capture::{Capture, MOST_BYTES, read_capture};
+pub use capture::{Capture, read_capture};
 pub use fault::{CaptureFault, Limit, LineFault, LineKind};
 pub use journal_text::{Book, WriteFault, print_book, write_book};
 pub use lane_place::{LanePlace, place};

@@ -7,6 +7,7 @@ use crate::fault::LineKind;
 use crate::refused::LineRefused;
 use crate::words::{asks_return, below, body, boxed_body, called, calling, class, is_return, text};
 use relay_base::Request;
+use relay_base::limits::{LONGEST_DATA, LONGEST_EXPEDITED, LONGEST_GIVEN_UNIT, LONGEST_TEXT};
 use std::alloc::Global;
 
 /// What asks for a unit.
@@ -26,7 +27,7 @@ fn unit_of(
     let ret = asks_return(ret);
     let called = called(alloc, to)?;
     let calling = calling(alloc, from)?;
-    let body = boxed_body(alloc, 2_560, body_word)?;
+    let body = boxed_body(alloc, LONGEST_GIVEN_UNIT, body_word)?;
     Ok(Request::Unit {
         sls,
         class,
@@ -64,7 +65,7 @@ fn conn_of(
     let class = class(class_word)?;
     let credit = below::<128>(credit)?.number() as u8;
     let called = called(alloc, to)?;
-    let body = body(alloc, 128, body_word)?;
+    let body = body(alloc, LONGEST_DATA, body_word)?;
     Ok(Request::Conn {
         tag,
         class,
@@ -94,7 +95,7 @@ fn accept_asked(alloc: Global, words: &[&[u8]]) -> Result<Request, LineRefused>
     let mine = below::<16_777_216>(words[0])?;
     let class = class(words[1])?;
     let credit = below::<128>(words[2])?.number() as u8;
-    let body = body(alloc, 128, words[3])?;
+    let body = body(alloc, LONGEST_DATA, words[3])?;
     Ok(Request::Accept {
         mine,
         class,
@@ -112,7 +113,7 @@ fn refuse_asked(alloc: Global, words: &[&[u8]]) -> Result<Request, LineRefused>
     }
     let mine = below::<16_777_216>(words[0])?;
     let cause = below::<256>(words[1])?.number() as u8;
-    let body = body(alloc, 128, words[2])?;
+    let body = body(alloc, LONGEST_DATA, words[2])?;
     Ok(Request::Refuse { mine, cause, body })
 }
 
@@ -124,7 +125,7 @@ fn send_asked(alloc: Global, words: &[&[u8]]) -> Result<Request, LineRefused>
         return Err(LineRefused::Kind(LineKind::Words));
     }
     let mine = below::<16_777_216>(words[0])?;
-    let body = text(alloc, 8_192, words[1])?;
+    let body = text(alloc, LONGEST_TEXT, words[1])?;
     Ok(Request::Send { mine, body })
 }
 
@@ -136,7 +137,7 @@ fn ed_asked(alloc: Global, words: &[&[u8]]) -> Result<Request, LineRefused>
         return Err(LineRefused::Kind(LineKind::Words));
     }
     let mine = below::<16_777_216>(words[0])?;
-    let body = text(alloc, 32, words[1])?;
+    let body = text(alloc, LONGEST_EXPEDITED, words[1])?;
     Ok(Request::Expedite { mine, body })
 }
 
@@ -160,7 +161,7 @@ fn disc_asked(alloc: Global, words: &[&[u8]]) -> Result<Request, LineRefused>
     }
     let mine = below::<16_777_216>(words[0])?;
     let cause = below::<256>(words[1])?.number() as u8;
-    let body = body(alloc, 128, words[2])?;
+    let body = body(alloc, LONGEST_DATA, words[2])?;
     Ok(Request::Disc { mine, cause, body })
 }
 

@@ -10,6 +10,7 @@ use crate::refused::LineRefused;
 use crate::text::{is_dash, octets};
 use gtt_table::Entity;
 use node_head::{digits_of, entity_of};
+use relay_base::limits::LONGEST_GIVEN_ADDRESS;
 use relay_base::{Below, BoxedOctets, Digits, Octets, Pc, Ssn, number_of};
 use sccp_address::parse;
 use std::alloc::Global;
@@ -121,7 +122,7 @@ pub fn called(alloc: Global, word: &[u8]) -> Result<BoxedOctets, LineRefused>
     if !is_address(octets.as_slice()) {
         return Err(LineRefused::Kind(LineKind::Address));
     }
-    if octets.len() > 40 {
+    if octets.len() > LONGEST_GIVEN_ADDRESS {
         return Err(LineRefused::Kind(LineKind::Size));
     }
     Ok(BoxedOctets::new(alloc, octets)?)

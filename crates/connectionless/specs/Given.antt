@@ -1,6 +1,7 @@
 -- A user's unit (Q.711, N-UNITDATA request; Q.714, 4.1 and 4.1.1).
 use Rattle.std.specs.Prelude.{ℕ, ◌+◌, ◌-◌, ◌*◌, ◌/◌, ◌%◌, ◌^◌, ◌==◌, ◌&&◌, ◌≤◌, nat_le, not, is_ok, IsOk, unwrap_or, Bool, true, false, List, [], ◌∷◌, length, map, take, drop, if◌then◌else◌, Option, Some, None}
 use Rattle.std.specs.List.{range_with_len}
+use Rattle.relay_base.specs.declared.limits.TheConstants.{LONGEST_GIVEN_ADDRESS, LONGEST_GIVEN_UNIT}
 use Rattle.relay_base.specs.declared.words.Output.{Output}
 use Rattle.relay_base.specs.declared.words.Output.TheVariants.{Sent, Told, Lost as Dropped}
 use Rattle.relay_base.specs.declared.words.Lost.TheVariants.{Cause}
@@ -38,7 +39,7 @@ seen_given g = record { ssn = g.ssn; sls = g.sls; class = g.class; ret = g.ret; 
 
 -- an address that a user may give
 abbrev pub is_address : List ℕ → Bool
-is_address octets = nat_le (length octets) 40 && is_ok (address_of octets)
+is_address octets = nat_le (length octets) LONGEST_GIVEN_ADDRESS && is_ok (address_of octets)
 
 abbrev pub is_optional_address : Option (List ℕ) → Bool
 is_optional_address None = true
@@ -47,7 +48,7 @@ is_optional_address (Some octets) = is_address octets
 -- a request that is a unit in its ranges: class 0 or 1, at most 40 octets of an address, and at most 2,560 of data
 abbrev pub is_unit_request : Request → Bool
 is_unit_request (UnitRequest sls class ret called calling body) =
-    nat_le class 1 && is_address called && is_optional_address calling && nat_le (length body) 2560
+    nat_le class 1 && is_address called && is_optional_address calling && nat_le (length body) LONGEST_GIVEN_UNIT
 is_unit_request _ = false
 
 -- the unit that a request gives; where no calling address is given, it is that of the user's subsystem
@@ -64,9 +65,9 @@ given_of ssn request = if is_unit_request request then given_in ssn request else
 pub record IsInRange (g : Given) : Type 0 where
   pub class : g.class ≤ 1
   pub called : IsOk (address_of g.called)
-  pub called_size : length g.called ≤ 40
-  pub calling_size : length g.calling ≤ 40
-  pub body_size : length g.body ≤ 2560
+  pub called_size : length g.called ≤ LONGEST_GIVEN_ADDRESS
+  pub calling_size : length g.calling ≤ LONGEST_GIVEN_ADDRESS
+  pub body_size : length g.body ≤ LONGEST_GIVEN_UNIT
 
 -- A unit that goes to another point: its called address as it goes on, the point, and the reference that its segments have.
 pub record Outgoing : Type 0 where
@@ -82,7 +83,7 @@ seen_outgoing u = record { given = seen_given u.given.now; called = u.called.now
 pub record IsShort (u : Outgoing) : Type 0 where
   pub class : u.given.class ≤ 1
   pub addresses : length u.called + length u.given.calling ≤ 81
-  pub body_size : length u.given.body ≤ 2560
+  pub body_size : length u.given.body ≤ LONGEST_GIVEN_UNIT
 
 -- bit 8 of the class octet
 abbrev pub return_bit : Bool → ℕ

@@ -3,6 +3,7 @@ ghost use Rattle.std.specs.Prelude.{◌≡◌, IsTrue, Some, unwrap_or};
 ghost use Rattle.connectionless.specs.Given.{is_address, is_optional_address, is_unit_request, given_of, seen_given, IsInRange};
 ghost use Rattle.sccp_address.specs.Subsystems.{subsystem_address};
 
+use relay_base::limits::{LONGEST_GIVEN_ADDRESS, LONGEST_GIVEN_UNIT};
 use relay_base::{BoxedOctets, Request, Sls, Ssn};
 use sccp_address::parse;
 
@@ -24,7 +25,7 @@ pub struct GivenView<'a> {
 fn is_address(octets: &[u8]) -> bool
     ensures { result ≡ is_address octets.now }
 {
-    octets.len() <= 40 && parse(octets).is_ok()
+    octets.len() <= LONGEST_GIVEN_ADDRESS && parse(octets).is_ok()
 }
 
 fn is_optional_address(octets: &Option<BoxedOctets>) -> bool
@@ -53,7 +54,7 @@ pub fn is_unit_request(request: &Request) -> bool
     *class <= 1
         && is_address(called.as_slice())
         && is_optional_address(calling)
-        && body.as_slice().len() <= 2_560
+        && body.as_slice().len() <= LONGEST_GIVEN_UNIT
 }
 
 /// The calling address that is given, else the user's own one.

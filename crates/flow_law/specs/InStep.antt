@@ -1,6 +1,6 @@
 -- What keeps the two ends of a connection in step, from its opening on (Q.714, 3.5.2).
 use Rattle.std.specs.Prelude.{◌≡◌, ℕ, ◌+◌, ◌≤◌, List, [], length, drop}
-use Rattle.section_model.specs.declared.limits.TheConstants.{GREATEST_CREDIT}
+use Rattle.relay_base.specs.declared.limits.TheConstants.{GREATEST_CREDIT}
 use Rattle.section_model.specs.declared.cell.SectionState.{SectionState}
 use Rattle.section_model.specs.declared.cell.SectionState.TheVariants.{Asked, Asking, Waning, Up, Resetting, Ending, Gone}
 use Rattle.section_model.specs.declared.cell.UserState.{UserState}

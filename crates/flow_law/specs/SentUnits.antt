@@ -4,7 +4,7 @@ use Rattle.relay_base.specs.declared.words.Event.{Event}
 use Rattle.plant_core.specs.declared.answer.Answer.{Answer}
 use Rattle.plant_core.specs.declared.terms.Terms.{Terms}
 use Rattle.plant_core.specs.declared.terms.Ticks.{Ticks}
-use Rattle.section_model.specs.declared.limits.TheConstants.{GREATEST_CREDIT}
+use Rattle.relay_base.specs.declared.limits.TheConstants.{GREATEST_CREDIT}
 use Rattle.section_model.specs.declared.hand.Unit.{Unit as DataUnit}
 use Rattle.section_model.specs.Ends.{End, wire, owner, Connection, is_up}
 use Rattle.section_model.specs.Windowed.{may_leave, leaves}

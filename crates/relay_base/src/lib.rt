@@ -5,6 +5,7 @@ pub mod causes;
 mod decimal;
 mod digits;
 mod errors;
+pub mod limits;
 mod lists;
 mod numbers;
 mod octets;

@@ -5,6 +5,7 @@ ghost use Rattle.relay_base.specs.Causes.{HasCause, Rose};
 ghost use Rattle.relay_base.specs.Streams.{ReadWhole, TookMore, TookWithin, AppendedPart};
 
 use crate::errors::{Failed, ReadAllFault};
+use crate::limits::MOST_BYTES;
 use crate::octets::Octets;
 use crate::outside::{Sink, Source};
 use std::alloc::Global;
@@ -17,10 +18,13 @@ pub fn read_all<S: Source>(
     source: &mut S,
     most: usize,
 ) -> Result<Octets, ReadAllFault>
-    requires { most ≤ 67108864 }
-    ensures ok { IfOk result (λ bytes. ReadWhole (S.left source.old) (S.left source.new) most bytes) }
-    ensures too_long { result ≡ Err ReadAllFault.TooLong → TookMore (S.left source.old) (S.left source.new) most }
-    ensures fault { result ≡ Err ReadAllFault.Fault → Rose (S.faults source.old) (S.faults source.new) × TookWithin (S.left source.old) (S.left source.new) most }
+    requires { most ≤ MOST_BYTES }
+    ensures ok { IfOk result (ReadWhole (S.left source.old) (S.left source.new) most) }
+    ensures too_long { result ≡ Err ReadAllFault.TooLong
+        → TookMore (S.left source.old) (S.left source.new) most }
+    ensures fault { result ≡ Err ReadAllFault.Fault → Rose (S.faults source.old) (S.faults source.new) }
+    ensures within { result ≡ Err ReadAllFault.Fault
+        → TookWithin (S.left source.old) (S.left source.new) most }
     ensures kept { result ≢ Err ReadAllFault.Fault → S.faults source.new ≡ S.faults source.old }
 {
     let mut bytes = Octets::new(alloc);

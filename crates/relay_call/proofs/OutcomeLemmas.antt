@@ -3,6 +3,7 @@ use Rattle.std.proofs.Common.{◌≡◌, ◌⊎◌, ℕ, ◌+◌, ◌<◌, List,
 use Rattle.std.specs.Prelude.{Option}
 use Rattle.std.proofs.lemmas.List.{take_all}
 use Rattle.std.proofs.KnownBytes.{Consumes-whole}
+use Rattle.relay_base.specs.declared.limits.TheConstants.{MOST_BYTES}
 use Rattle.relay_base.specs.Causes.{HasCause}
 use Rattle.relay_base.specs.declared.errors.Failed.{Failed}
 use Rattle.journal_text.specs.declared.book.Book.{Book}
@@ -26,16 +27,16 @@ Says-written (Ok u) noted before after text ok err cause = record {
 Says-written (Err e) noted before after text ok err cause = record { part = err; whole = λ calm. absurd (calm cause.failed) }
 
 -- bytes that pass the limit of an input are no capture
-long-refused : (bytes : List ℕ) → 67108864 < length bytes → capture_of bytes ≡ Err (refused.TooLong limit.Bytes)
+long-refused : (bytes : List ℕ) → MOST_BYTES < length bytes → capture_of bytes ≡ Err (refused.TooLong limit.Bytes)
 unfolding capture_of
-long-refused bytes h = rw (lt-ltb 67108864 (length bytes) h) refl
+long-refused bytes h = rw (lt-ltb MOST_BYTES (length bytes) h) refl
 
 more-due : (left rest : Option (List ℕ)) → ReadTooMuch (bytes left rest) → IfSome left (IsDue 4)
 more-due None rest h = tt
 more-due (Some xs) None h = absurd h.1
 more-due (Some xs) (Some ys) h =
     let size : length xs ≡ length h.0 + length ys = ap length h.1 ∙ length-append h.0 ys in
-    let taken : length h.0 ≡ 67108864 + 1 = h.2 in
+    let taken : length h.0 ≡ MOST_BYTES + 1 = h.2 in
     inl (sym (ap due_status (long-refused xs (omega (arith, size, taken)))))
 
 memory-due : (left : Option (List ℕ)) → IfSome left (IsDue 7)

@@ -10,7 +10,7 @@ use Rattle.capture_form.specs.declared.fault.CaptureFault.TheVariants as refused
 use Rattle.capture_form.specs.declared.fault.LineFault.{LineFault}
 use Rattle.capture_form.specs.declared.fault.Limit.{Limit}
 use Rattle.capture_form.specs.declared.capture.Capture.{Capture}
-use Rattle.capture_form.specs.declared.capture.TheConstants.{MOST_BYTES}
+use Rattle.relay_base.specs.declared.limits.TheConstants.{MOST_BYTES}
 use Rattle.journal_text.specs.declared.book.Book.{Book}
 use Rattle.journal_text.specs.Book.{IsEmpty}
 use Rattle.capture_form.specs.Capture.{capture_of}

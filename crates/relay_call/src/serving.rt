@@ -13,10 +13,11 @@ ghost use Rattle.relay_call.specs.Outcome.{bytes, ReadAs, Wrote, WrotePart, Fill
 ghost use Rattle.relay_call.specs.Inner.Stops.{TakesNone, StoppedLate, Stopped};
 
 use crate::stop::{Stop, refusal};
-use capture_form::{Book, Capture, MOST_BYTES, WriteFault, read_capture, write_book};
+use capture_form::{Book, Capture, WriteFault, read_capture, write_book};
 use capture_generator::{counts_line, generated};
 use command_words::{Command, command_of};
 use node_engine::run_capture;
+use relay_base::limits::MOST_BYTES;
 use relay_base::{Pace, ReadAllFault, Sink, Source, read_all, write_all};
 use std::alloc::Global;
 use std::sync::Wait;

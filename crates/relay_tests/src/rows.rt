@@ -4,7 +4,7 @@ use crate::running::{Device, SOUND, assert_left, assert_run, call};
 use crate::texts::{
     RESET, RESET_PRINTED, STATUS, STATUS_PRINTED, UNITS, UNITS_PRINTED, WINDOWS, WINDOWS_PRINTED,
 };
-use capture_form::MOST_BYTES;
+use relay_base::limits::MOST_BYTES;
 use std::test::Fail;
 
 /// The head with own point 100 and user 8, and a UDT for that user.

@@ -3,7 +3,7 @@ ghost use Rattle.std.specs.Prelude.{◌≡◌, ◌≤◌, IfOk, OnErr, length, i
 ghost use Rattle.section_model.specs.Ends.{cleared};
 ghost use Rattle.section_model.specs.Lengths.{ActedWithin, InputWithin, WindowsWithin};
 ghost use Rattle.section_model.specs.Windowed.{windowed_fires};
-ghost use Rattle.section_model.specs.declared.limits.TheConstants.{GREATEST_CREDIT};
+ghost use Rattle.relay_base.specs.declared.limits.TheConstants.{GREATEST_CREDIT};
 ghost use Rattle.section_flow.specs.Held.{IsWithinWindows};
 ghost use Rattle.section_class3.specs.Windows.{windowed_of, counts_of, TakesItsData, windows_act};
 

@@ -5,7 +5,7 @@ use Rattle.section_model.specs.declared.hand.Hand.TheVariants as hand
 use Rattle.section_model.specs.declared.hand.Acted.{Acted}
 use Rattle.section_model.specs.declared.input.Input.{Input}
 use Rattle.section_model.specs.declared.input.Input.TheVariants as input
-use Rattle.section_model.specs.declared.limits.TheConstants.{GREATEST_CREDIT}
+use Rattle.relay_base.specs.declared.limits.TheConstants.{GREATEST_CREDIT}
 use Rattle.section_model.specs.Lengths.{HandsWithin, InputWithin, KeptWithin, WindowsWithin}
 use Rattle.section_coupling.specs.declared.wire.Wire.{Wire}
 use Rattle.section_coupling.specs.declared.owner.Owner.{Owner}

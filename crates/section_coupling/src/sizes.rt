@@ -14,8 +14,8 @@ use crate::wish::{Calling, WantedView, WishView, wish_of};
 use plant_core::{Answer, Rewrite};
 use q713_codec::LONGEST;
 use relay_base::Event;
+use relay_base::limits::LONGEST_DATA;
 use sccp_address::{Address, Selector, Title, parse};
-use section_model::limits::LONGEST_DATA;
 
 /// Whether CR as it goes on can be written, and has at most 268 octets.
 pub fn fits(wanted: &WantedView<'_>, rewrite: &Rewrite, hop: Option<u8>) -> bool

@@ -8,8 +8,8 @@ ghost use Rattle.section_model.specs.Views.{seen_parameters};
 
 use q713_codec::{Message, write};
 use relay_base::causes::ERROR_UNASSIGNED_REFERENCE;
+use relay_base::limits::{GREATEST_CREDIT, LONGEST_DATA, LONGEST_EXPEDITED, LONGEST_TEXT};
 use relay_base::{Event, Lost, Memory, Output, Outs, Pc, Reason, Ref24, Request, Sls, Tell};
-use section_model::limits::{GREATEST_CREDIT, LONGEST_DATA, LONGEST_EXPEDITED, LONGEST_TEXT};
 use section_model::{ArrivalView, Occasion, arrival_in};
 use std::alloc::Global;
 

@@ -11,9 +11,9 @@ ghost use Rattle.section_coupling.specs.Openings.{is_wish, seen_calling, seen_wa
 
 use plant_core::{Ask, Origin};
 use q713_codec::{View, read};
+use relay_base::limits::{GREATEST_CREDIT, LONGEST_DATA};
 use relay_base::{Event, Octets, Pc, Ref24, Request, Sls, Ssn};
 use sccp_address::parse;
-use section_model::limits::{GREATEST_CREDIT, LONGEST_DATA};
 
 /// A calling address: none, one that came in a message, or that of a subsystem of this node.
 #[derive(Clone, Copy)]

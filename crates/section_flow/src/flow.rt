@@ -11,8 +11,9 @@ use relay_base::causes::{
     RESET_INCORRECT_FIRST_NUMBER, RESET_INCORRECT_RECEIVE_NUMBER, RESET_INCORRECT_SEND_NUMBER,
     RESET_OUT_OF_WINDOW,
 };
+use relay_base::limits::GREATEST_CREDIT;
 use section_model::Unit;
-use section_model::limits::{GREATEST_CREDIT, SEQUENCE_NUMBERS};
+use section_model::limits::SEQUENCE_NUMBERS;
 use std::alloc::Global;
 use std::collections::VecDeque;
 use std::marker::Model;

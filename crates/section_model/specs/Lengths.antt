@@ -11,7 +11,8 @@ use Rattle.section_model.specs.declared.hand.Acted.{Acted}
 use Rattle.section_model.specs.declared.hand.KeptRelease.{KeptRelease}
 use Rattle.section_model.specs.declared.input.Input.{Input}
 use Rattle.section_model.specs.declared.input.Input.TheVariants as input
-use Rattle.section_model.specs.declared.limits.TheConstants.{LONGEST_ADDRESS, LONGEST_DATA, LONGEST_EXPEDITED, LONGEST_UNIT}
+use Rattle.relay_base.specs.declared.limits.TheConstants.{LONGEST_DATA, LONGEST_EXPEDITED}
+use Rattle.section_model.specs.declared.limits.TheConstants.{LONGEST_ADDRESS, LONGEST_UNIT}
 use Rattle.section_model.specs.Parameters.{Arrival, arrival_in}
 use Rattle.section_model.specs.Ends.{DataUnit, Windows}
 use Rattle.q713_codec.specs.Writing.{InRange}

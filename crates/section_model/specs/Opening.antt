@@ -30,7 +30,7 @@ use Rattle.q713_codec.specs.Writing.{spelling_of, is_in_range}
 use Rattle.plant_core.specs.Asking.{Question}
 use Rattle.plant_core.specs.Rewriting.{called_onward}
 use Rattle.scmg_messages.specs.Messages.{status_outputs}
-use Rattle.section_model.specs.declared.limits.TheConstants.{GREATEST_CREDIT, LONGEST_DATA}
+use Rattle.relay_base.specs.declared.limits.TheConstants.{GREATEST_CREDIT, LONGEST_DATA}
 use Rattle.section_model.specs.declared.cell.SectionState.{SectionState}
 use Rattle.section_model.specs.declared.cell.SectionState.TheVariants as section
 use Rattle.section_model.specs.declared.cell.UserState.{UserState}

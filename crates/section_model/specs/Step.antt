@@ -11,7 +11,8 @@ use Rattle.relay_base.specs.declared.words.Request.{Request}
 use Rattle.relay_base.specs.declared.words.Request.TheVariants as request
 use Rattle.relay_base.specs.declared.words.Event.{Event}
 use Rattle.relay_base.specs.declared.words.Event.TheVariants.{Message as Arrived, Asked as Requested, Tick}
-use Rattle.section_model.specs.declared.limits.TheConstants.{GREATEST_CREDIT, MOST_WAITING, LONGEST_DATA, LONGEST_EXPEDITED, LONGEST_TEXT}
+use Rattle.relay_base.specs.declared.limits.TheConstants.{GREATEST_CREDIT, LONGEST_DATA, LONGEST_EXPEDITED, LONGEST_TEXT}
+use Rattle.section_model.specs.declared.limits.TheConstants.{MOST_WAITING}
 use Rattle.section_model.specs.declared.cell.Timer.{Timer}
 use Rattle.section_model.specs.declared.cell.Cell.{Cell}
 use Rattle.section_model.specs.declared.cell.Cell.TheVariants as cell

@@ -10,7 +10,8 @@ use Rattle.relay_base.specs.declared.words.Request.TheVariants as request
 use Rattle.section_model.specs.declared.hand.Hand.TheVariants as hand
 use Rattle.section_model.specs.declared.cell.Cell.{Cell}
 use Rattle.section_model.specs.declared.cell.Cell.TheVariants as cell
-use Rattle.section_model.specs.declared.limits.TheConstants.{LONGEST_TEXT, LONGEST_UNIT}
+use Rattle.relay_base.specs.declared.limits.TheConstants.{LONGEST_TEXT}
+use Rattle.section_model.specs.declared.limits.TheConstants.{LONGEST_UNIT}
 use Rattle.section_model.specs.declared.cell.UserState.TheVariants.{Ready, Renewing, Gone}
 use Rattle.section_model.specs.declared.hand.Unit.{Unit as DataUnit}
 use Rattle.section_model.specs.declared.hand.Acted.{Acted}

@@ -7,7 +7,8 @@ use Rattle.relay_base.specs.declared.words.Lost.TheVariants as lost
 use Rattle.section_model.specs.declared.hand.Hand.TheVariants as hand
 use Rattle.section_model.specs.declared.cell.Cell.{Cell}
 use Rattle.section_model.specs.declared.cell.Cell.TheVariants as cell
-use Rattle.section_model.specs.declared.limits.TheConstants.{GREATEST_CREDIT, SEQUENCE_NUMBERS}
+use Rattle.relay_base.specs.declared.limits.TheConstants.{GREATEST_CREDIT}
+use Rattle.section_model.specs.declared.limits.TheConstants.{SEQUENCE_NUMBERS}
 use Rattle.section_model.specs.declared.cell.SectionState.TheVariants.{Up, Resetting}
 use Rattle.q713_codec.specs.declared.message.Message.TheVariants.{Dt2, Ak, Ed, Ea, Rsr, Rsc, It}
 use Rattle.section_model.specs.Parameters.{Parameters}

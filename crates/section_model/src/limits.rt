@@ -1,8 +1,5 @@
 //! The sizes and the limits of connections.
 
-/// The greatest credit (Q.713, 3.10), and the most units that are sent beyond the last P(R) received (Q.714, 3.5.2).
-pub const GREATEST_CREDIT: u8 = 127;
-
 /// What sequence numbers are counted modulo (Q.713, 3.8 and 3.9).
 pub const SEQUENCE_NUMBERS: u8 = 128;
 
@@ -14,15 +11,6 @@ pub const LONGEST_ADDRESS: usize = 255;
 
 /// The most octets of data in DT1 and DT2 (Q.713, 4.7 and 4.8).
 pub const LONGEST_UNIT: usize = 255;
-
-/// The most octets of data in CR, CC, CREF and RLSD (Q.713, 4.2 to 4.5).
-pub const LONGEST_DATA: usize = 128;
-
-/// The most octets of data in ED (Q.713, 4.12).
-pub const LONGEST_EXPEDITED: usize = 32;
-
-/// The most octets of a text that is cut into units, or put together of them.
-pub const LONGEST_TEXT: usize = 8_192;
 
 /// The slots of a lane's local references: 1 to this.
 pub const SLOTS: u16 = 4_095;

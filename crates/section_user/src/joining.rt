@@ -6,8 +6,8 @@ ghost use Rattle.section_user.specs.Side.{ActsAs};
 use crate::side::UserSide;
 use crate::units::copied;
 use relay_base::causes::RELEASE_ACCESS_CONGESTION;
+use relay_base::limits::LONGEST_TEXT;
 use relay_base::{Memory, Octets, Outs, Tell};
-use section_model::limits::LONGEST_TEXT;
 use section_model::{Acted, Hand, HandList, UserState};
 use std::alloc::Global;
 
