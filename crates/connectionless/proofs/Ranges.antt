@@ -4,7 +4,8 @@ use Rattle.std.specs.Prelude.{◌&&◌, not, nat_le, IsTrue, Some, None}
 use Rattle.std.proofs.lemmas.Bool.{leb-true}
 use Rattle.std.proofs.lemmas.Bool.Decides.{nat_tests}
 use Rattle.plant_core.specs.Rewriting.{called_onward}
-use Rattle.connectionless.specs.Given.{Given, Outgoing, IsInRange, IsShort, is_cut}
+use Rattle.connectionless.specs.Given.{Given, Outgoing, is_cut}
+use Rattle.connectionless.specs.Inner.Units.{IsInRange, IsShort}
 use Rattle.plant_core.proofs.AddressLengths.{length-called_onward}
 use Rattle.plant_core.specs.declared.answer.Rewrite.{Rewrite}
 use Rattle.q713_shape.specs.Writing.{are_in_range}

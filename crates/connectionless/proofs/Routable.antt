@@ -4,7 +4,7 @@ use Rattle.std.specs.Prelude.{Option, Some, IsOk, IsSome, IfSome}
 use Rattle.sccp_address.specs.Parsing.{address_of}
 use Rattle.q713_codec.specs.declared.message.Message.{Message}
 use Rattle.connectionless.specs.Unitdata.{Unitdata, unitdata_of}
-use Rattle.connectionless.specs.Routed.{IsRoutable}
+use Rattle.connectionless.specs.Calls.{IsRoutable}
 
 abbrev IsReadable : Option Unitdata → Type 0
 IsReadable unit = IsSome unit × IfSome unit (λ x. IsOk (address_of x.called))

@@ -1,5 +1,5 @@
 -- A user's unit (Q.711, N-UNITDATA request; Q.714, 4.1 and 4.1.1).
-use Rattle.std.specs.Prelude.{ℕ, ◌+◌, ◌-◌, ◌*◌, ◌/◌, ◌%◌, ◌^◌, ◌==◌, ◌&&◌, ◌≤◌, nat_le, not, is_ok, IsOk, unwrap_or, Bool, true, false, List, [], ◌∷◌, length, map, take, drop, if◌then◌else◌, Option, Some, None}
+use Rattle.std.specs.Prelude.{ℕ, ◌+◌, ◌-◌, ◌*◌, ◌/◌, ◌%◌, ◌^◌, ◌==◌, ◌&&◌, nat_le, not, is_ok, unwrap_or, Bool, true, false, List, [], ◌∷◌, length, map, take, drop, if◌then◌else◌, Option, Some, None}
 use Rattle.std.specs.List.{range_with_len}
 use Rattle.relay_base.specs.declared.limits.TheConstants.{LONGEST_GIVEN_ADDRESS, LONGEST_GIVEN_UNIT}
 use Rattle.relay_base.specs.declared.words.Output.{Output}
@@ -18,8 +18,6 @@ use Rattle.plant_core.specs.Causes.{return_code}
 use Rattle.q713_codec.specs.Messages.{octets3}
 use Rattle.q713_codec.specs.declared.longest.TheConstants.{LONGEST}
 use Rattle.connectionless.specs.declared.unitdata.Kind.TheVariants.{Extended}
-use Rattle.connectionless.specs.declared.given.GivenView.{GivenView}
-use Rattle.connectionless.specs.declared.outgoing.OutgoingUnit.{OutgoingUnit}
 use Rattle.connectionless.specs.Unitdata.{Unitdata, basic, with_hop}
 use Rattle.connectionless.specs.Leaving.{unit_octets}
 use Rattle.plant_core.specs.Rewriting.{called_onward}
@@ -33,9 +31,6 @@ pub record Given : Type 0 where
   pub called : List ℕ
   pub calling : List ℕ
   pub body : List ℕ
-
-abbrev pub seen_given : GivenView → Given
-seen_given g = record { ssn = g.ssn; sls = g.sls; class = g.class; ret = g.ret; called = g.called.now; calling = g.calling.now; body = g.body.now }
 
 -- an address that a user may give
 abbrev pub is_address : List ℕ → Bool
@@ -61,29 +56,12 @@ given_in ssn _ = None
 unfoldable pub given_of : ℕ → Request → Option Given
 given_of ssn request = if is_unit_request request then given_in ssn request else None
 
--- the ranges of a unit that a user gives
-pub record IsInRange (g : Given) : Type 0 where
-  pub class : g.class ≤ 1
-  pub called : IsOk (address_of g.called)
-  pub called_size : length g.called ≤ LONGEST_GIVEN_ADDRESS
-  pub calling_size : length g.calling ≤ LONGEST_GIVEN_ADDRESS
-  pub body_size : length g.body ≤ LONGEST_GIVEN_UNIT
-
 -- A unit that goes to another point: its called address as it goes on, the point, and the reference that its segments have.
 pub record Outgoing : Type 0 where
   pub given : Given
   pub called : List ℕ
   pub point : ℕ
   pub reference : ℕ
-
-abbrev pub seen_outgoing : OutgoingUnit → Outgoing
-seen_outgoing u = record { given = seen_given u.given.now; called = u.called.now; point = u.point; reference = u.reference }
-
--- its lengths: its called address can have one octet more than that which was given
-pub record IsShort (u : Outgoing) : Type 0 where
-  pub class : u.given.class ≤ 1
-  pub addresses : length u.called + length u.given.calling ≤ 81
-  pub body_size : length u.given.body ≤ LONGEST_GIVEN_UNIT
 
 -- bit 8 of the class octet
 abbrev pub return_bit : Bool → ℕ
@@ -165,8 +143,3 @@ given_outcome g (Refused cause local) reference = uncut (refused_by g.ret (retur
 -- the reference of the segments after so many units that were cut in this lane
 abbrev pub reference_after : ℕ → ℕ → ℕ
 reference_after lane count = (count * 16 + lane) % 2 ^ 24
-
--- a request that isn't a unit in its ranges has no outputs
-abbrev pub sending_of : Option Given → Answer → ℕ → Sending
-sending_of None answer reference = record { outs = []; is_cut = false }
-sending_of (Some g) answer reference = given_outcome g answer reference

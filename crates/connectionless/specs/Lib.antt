@@ -4,4 +4,5 @@ pub mod Returning
 pub mod Routed
 pub mod Given
 pub mod Asking
-pub mod Questions
+pub mod Calls
+pub mod Inner

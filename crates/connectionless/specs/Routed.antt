@@ -1,5 +1,5 @@
 -- What comes of a unit once routing has answered (Q.714, 4.1).
-use Rattle.std.specs.Prelude.{ℕ, ◌&&◌, is_none, Bool, true, false, List, [], ◌∷◌, if◌then◌else◌, Option, Some, None, Ok, Err, IsSome, IfSome, IsOk}
+use Rattle.std.specs.Prelude.{ℕ, ◌&&◌, is_none, Bool, true, false, List, [], ◌∷◌, if◌then◌else◌, Option, Some, None, Ok, Err}
 use Rattle.std.specs.declared.result.Result.{Result}
 use Rattle.relay_base.specs.declared.causes.TheConstants.{RETURN_UNQUALIFIED}
 use Rattle.relay_base.specs.declared.words.Output.{Output}
@@ -20,8 +20,7 @@ use Rattle.connectionless.specs.declared.unitdata.Kind.TheVariants.{Basic, Exten
 use Rattle.connectionless.specs.declared.segment.Next.{Next}
 use Rattle.connectionless.specs.declared.segment.Next.TheVariants.{Done, Gather}
 use Rattle.connectionless.specs.declared.segment.Segment.{Segment}
-use Rattle.q713_codec.specs.declared.message.Message.{Message}
-use Rattle.connectionless.specs.Unitdata.{Unitdata, unitdata_of, class_of}
+use Rattle.connectionless.specs.Unitdata.{Unitdata, class_of}
 use Rattle.connectionless.specs.Leaving.{leaving_octets, sent_or}
 use Rattle.connectionless.specs.Returning.{refusal_output}
 use Rattle.scmg_messages.specs.Messages.{status_outputs}
@@ -97,13 +96,3 @@ unit_outcome own opc sls x (Local ssn) = delivery opc sls ssn x
 unit_outcome own opc sls x (Forward point rewrite hop) = done (forward_output own opc sls point rewrite hop x ∷ [])
 unit_outcome own opc sls x (Refused cause local) =
     done (refusal_output own opc sls (return_code cause) x ∷ status_outputs own opc sls local)
-
--- a message that isn't of the connectionless service has no outputs
-abbrev pub outcome_of : ℕ → ℕ → ℕ → Option Unitdata → Answer → Outcome
-outcome_of own opc sls None answer = done []
-outcome_of own opc sls (Some x) answer = unit_outcome own opc sls x answer
-
--- a unit or a service message whose called address reads
-pub record IsRoutable (message : Message) : Type 0 where
-  pub unit : IsSome (unitdata_of message)
-  pub address : IfSome (unitdata_of message) (λ x. IsOk (address_of x.called))

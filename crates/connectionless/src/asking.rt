@@ -5,10 +5,10 @@ ghost use Rattle.relay_base.specs.Giving.{Gives};
 ghost use Rattle.sccp_address.specs.Parsing.{address_of};
 ghost use Rattle.q713_codec.specs.Reading.{seen};
 ghost use Rattle.connectionless.specs.Unitdata.{seen_unit};
-ghost use Rattle.connectionless.specs.Routed.{IsRoutable};
+ghost use Rattle.connectionless.specs.Calls.{IsRoutable};
 ghost use Rattle.connectionless.specs.Given.{is_unit_request};
 ghost use Rattle.connectionless.specs.Asking.{question_of, message_in};
-ghost use Rattle.connectionless.specs.Questions.{message_question, user_question};
+ghost use Rattle.connectionless.specs.Calls.{message_question, user_question};
 ghost use Rattle.plant_core.specs.Asking.{seen_ask};
 
 use crate::given::is_unit_request;
@@ -37,7 +37,7 @@ fn asked<'a>(unit: &UnitView<'a>) -> Result<Ask<'a>, Lost>
 
 /// What a message asks of routing where it is of the connectionless service (Q.714); None where it is of another one. `Address`: its
 /// called address doesn't read; else `Class`: it is a unit whose class is above 1.
-#[tactic(auto, using(crate::proofs::Routable::routable), unfolding(crate::specs::Questions::message_question))]
+#[tactic(auto, using(crate::proofs::Routable::routable), unfolding(crate::specs::Calls::message_question))]
 pub fn message_ask<'a>(view: &View<'a>) -> Result<Option<Ask<'a>>, Lost>
     ensures value { Gives (option_map seen_ask) result (message_question (seen view.now)) }
     ensures routable { IfOk result (λ ask. OnSome ask (IsRoutable (seen view.now))) }
@@ -67,7 +67,7 @@ pub fn message_in(bytes: &[u8]) -> Result<View<'_>, Lost>
 }
 
 /// What a user's unit asks of routing; None where the request isn't a unit in its ranges.
-#[tactic(auto, unfolding(crate::specs::Questions::user_question))]
+#[tactic(auto, unfolding(crate::specs::Calls::user_question))]
 pub fn user_ask(request: &Request) -> Option<Ask<'_>>
     ensures value { option_map seen_ask result ≡ user_question request.now }
     ensures unit { is_some result ≡ is_unit_request request.now }

@@ -1,6 +1,7 @@
 //! The unit that a user gives (Q.711, N-UNITDATA request).
 ghost use Rattle.std.specs.Prelude.{◌≡◌, IsTrue, Some, unwrap_or};
-ghost use Rattle.connectionless.specs.Given.{is_address, is_optional_address, is_unit_request, given_of, seen_given, IsInRange};
+ghost use Rattle.connectionless.specs.Given.{is_address, is_optional_address, is_unit_request, given_of};
+ghost use Rattle.connectionless.specs.Inner.Units.{seen_given, IsInRange};
 ghost use Rattle.sccp_address.specs.Subsystems.{subsystem_address};
 
 use relay_base::limits::{LONGEST_GIVEN_ADDRESS, LONGEST_GIVEN_UNIT};

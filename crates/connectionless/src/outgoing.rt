@@ -1,6 +1,7 @@
 //! A user's unit that goes to another point, as one UDT or cut into segments (Q.714, 4.1.1).
 ghost use Rattle.std.specs.Prelude.{◌≡◌, ◌≤◌, ◌<◌, false, length, take, drop, IfOk};
-ghost use Rattle.connectionless.specs.Given.{seen_outgoing, IsShort, return_bit, is_cut, segment_size, segment_count, segmentation_octets, whole_output, segment_output, segment_outputs, sent_outputs};
+ghost use Rattle.connectionless.specs.Given.{return_bit, is_cut, segment_size, segment_count, segmentation_octets, whole_output, segment_output, segment_outputs, sent_outputs};
+ghost use Rattle.connectionless.specs.Inner.Units.{seen_outgoing, IsShort};
 
 use crate::given::GivenView;
 use crate::leaving::octets_of;

@@ -3,7 +3,8 @@ ghost use Rattle.std.specs.Prelude.{◌≡◌, ◌++◌, IfOk, IsOk, OnOk, OnErr
 ghost use Rattle.sccp_address.specs.Parsing.{address_of};
 ghost use Rattle.q713_codec.specs.Reading.{seen};
 ghost use Rattle.connectionless.specs.Unitdata.{seen_unit, unitdata_of};
-ghost use Rattle.connectionless.specs.Routed.{unit_outcome, outcome_of, IsRoutable};
+ghost use Rattle.connectionless.specs.Routed.{unit_outcome};
+ghost use Rattle.connectionless.specs.Calls.{outcome_of, IsRoutable};
 
 use crate::delivery::deliver;
 use crate::forwarding::{Onward, forward_output};

@@ -1,6 +1,8 @@
 //! What comes of a unit that a user gives.
 ghost use Rattle.std.specs.Prelude.{◌≡◌, ◌++◌, IfOk, IsTrue, OnOk, OnErr};
-ghost use Rattle.connectionless.specs.Given.{is_unit_request, given_of, given_outcome, refused_by, sending_of, sending, outgoing, told_output, reference_after, seen_given, IsInRange};
+ghost use Rattle.connectionless.specs.Given.{is_unit_request, given_of, given_outcome, refused_by, sending, outgoing, told_output, reference_after};
+ghost use Rattle.connectionless.specs.Calls.{sending_of};
+ghost use Rattle.connectionless.specs.Inner.Units.{seen_given, IsInRange};
 
 use crate::given::{GivenView, given_in};
 use crate::outgoing::OutgoingUnit;

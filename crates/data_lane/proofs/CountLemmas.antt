@@ -5,7 +5,7 @@ use Rattle.plant_core.specs.declared.terms.LaneHead.{LaneHead}
 use Rattle.connectionless.specs.Given.{reference_after, given_outcome}
 use Rattle.connectionless.specs.Asking.{Matter, from_network, from_user, settled, of_tick}
 use Rattle.data_lane.specs.Legal.{effect_by, of_sending}
-use Rattle.data_lane.specs.Lane.{reduced}
+use Rattle.data_lane.specs.Inner.Lane.{reduced}
 
 pub reference-reduced : (number n : ℕ) → reference_after number (reduced n) ≡ reference_after number n
 reference-reduced number n = omega arith

@@ -13,7 +13,7 @@ use Rattle.connectionless.specs.Asking.{matter_of}
 use Rattle.plant_core.specs.Asking.{Question, asked_at, answer_in}
 use Rattle.data_lane.specs.declared.effect.Effect.{Effect}
 use Rattle.data_lane.specs.Legal.{State, at_first, Step, step_of, step_by, joined, worked, effect_by, ticks_of, IsLegalEntry, LegalFrom, entry_after, state_after, question_of, asked_of}
-use Rattle.data_lane.specs.Lane.{reduced, IsLane}
+use Rattle.data_lane.specs.Inner.Lane.{reduced, IsLane}
 use Rattle.data_lane.proofs.CountLemmas.{reduced-add, effect-reduced}
 
 legal-push : (head : LaneHead) (number : ℕ) (s : State) (journal : List Entry) (entry : Entry) → LegalFrom head number s journal → IsLegalEntry head number (state_after head number s journal) entry

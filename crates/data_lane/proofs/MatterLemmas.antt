@@ -16,10 +16,11 @@ use Rattle.plant_core.specs.declared.terms.LaneHead.{LaneHead}
 use Rattle.q713_codec.specs.declared.message.Message.{Message}
 use Rattle.connectionless.specs.Unitdata.{Unitdata, unitdata_of}
 use Rattle.connectionless.specs.declared.segment.Next.{Next}
-use Rattle.connectionless.specs.Given.{Given, given_of, given_in, is_unit_request, sending_of, reference_after}
-use Rattle.connectionless.specs.Routed.{outcome_of}
+use Rattle.connectionless.specs.Given.{Given, given_of, given_in, is_unit_request, reference_after}
+use Rattle.connectionless.specs.Calls.{sending_of}
+use Rattle.connectionless.specs.Calls.{outcome_of}
 use Rattle.connectionless.specs.Asking.{Matter, from_network, from_user, settled, question_of, matter_by_question, matter_by_unit, matter_by_address, matter_by_given}
-use Rattle.connectionless.specs.Questions.{some_question, unit_question, message_question, user_question_by, request_question, user_question}
+use Rattle.connectionless.specs.Calls.{some_question, unit_question, message_question, user_question_by, request_question, user_question}
 use Rattle.data_lane.specs.declared.effect.Effect.{Effect}
 use Rattle.data_lane.specs.declared.effect.Work.{Work}
 use Rattle.data_lane.specs.declared.effect.Work.TheVariants as work

@@ -1,2 +1,2 @@
 pub mod Legal
-pub mod Lane
+pub mod Inner

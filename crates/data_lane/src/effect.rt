@@ -7,7 +7,7 @@ ghost use Rattle.connectionless.specs.Given.{given_of};
 ghost use Rattle.connectionless.specs.Unitdata.{unitdata_of};
 ghost use Rattle.data_lane.specs.declared.effect.Work.TheVariants as work;
 ghost use Rattle.data_lane.specs.Legal.{asked_of, piece_of, work_of, effect_with};
-ghost use Rattle.data_lane.specs.Lane.{asked_in, effect_in};
+ghost use Rattle.data_lane.specs.Inner.Lane.{asked_in, effect_in};
 
 use connectionless::{Next, Segment, message_ask, message_in, unit_outs, user_ask, user_outs};
 use plant_core::{Asked, LaneHead, Plant};

@@ -2,7 +2,7 @@
 ghost use Rattle.std.specs.Prelude.{◌≡◌, ◌+◌, ◌++◌, ◌∷◌, [], if◌then◌else◌, IfOk, OnOk, OnErr};
 ghost use Rattle.reassembly.specs.Laws.{IsWithinBounds};
 ghost use Rattle.data_lane.specs.Legal.{ticks_of, worked};
-ghost use Rattle.data_lane.specs.Lane.{reduced};
+ghost use Rattle.data_lane.specs.Inner.Lane.{reduced};
 
 use crate::effect::{Context, Work};
 use crate::gathering::work_off;
@@ -30,7 +30,7 @@ pub struct DataLane {
 
 impl Model for DataLane {
     ghost use Rattle.data_lane.specs.Legal.{LaneState};
-    ghost use Rattle.data_lane.specs.Lane.{IsLane};
+    ghost use Rattle.data_lane.specs.Inner.Lane.{IsLane};
 
     ghost Value = { LaneState };
 

@@ -1,6 +1,6 @@
 //! The messages of each type as they are written: what part of its shape each field of the message is.
 ghost use Rattle.q713_codec.specs.Names.{Cr, Cc, Cref, Rlsd, Rlc, Dt1, Dt2, Ak, Udt, Udts, Ed, Ea, Rsr, Rsc, Error, It, Xudt, Xudts, Ludt, Ludts};
-ghost use Rattle.q713_codec.specs.Written.{IsWritten};
+ghost use Rattle.q713_codec.specs.Inner.Written.{IsWritten};
 
 use crate::shapes::{
     ak_shape, cc_shape, cr_shape, cref_shape, dt1_shape, dt2_shape, ea_shape, ed_shape, err_shape,

@@ -2,7 +2,7 @@
 ghost use Rattle.std.specs.Prelude.{◌≡◌, length, IfOk, IsTrue, Ok};
 ghost use Rattle.q713_codec.specs.Reading.{reading_of};
 ghost use Rattle.q713_codec.specs.Writing.{spelling_of, is_in_range, InRange};
-ghost use Rattle.q713_codec.specs.Written.{IsWritten};
+ghost use Rattle.q713_codec.specs.Inner.Written.{IsWritten};
 
 use crate::message::Message;
 use crate::parts::{

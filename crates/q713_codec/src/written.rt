@@ -16,7 +16,7 @@ pub struct FixedPart {
 
 impl FixedPart {
     ghost use Rattle.q713_codec.specs.Messages.{octets3};
-    ghost use Rattle.q713_codec.specs.Written.{octets_in};
+    ghost use Rattle.q713_codec.specs.Inner.Written.{octets_in};
 
     /// No octets.
     pub fn new() -> Self
@@ -67,7 +67,7 @@ struct Rules {
 }
 
 impl Rules {
-    ghost use Rattle.q713_codec.specs.Written.{rules_in};
+    ghost use Rattle.q713_codec.specs.Inner.Written.{rules_in};
 
     fn of(rules: &[VarRule]) -> Self
         requires { length rules.now ≤ 3 }
@@ -107,7 +107,7 @@ pub struct Written<'a> {
 impl<'a> Written<'a> {
     ghost use Rattle.q713_shape.specs.Format.{nameless};
     ghost use Rattle.q713_shape.specs.Parts.{format_of, layout_format, layout_values};
-    ghost use Rattle.q713_codec.specs.Written.{octets_in, written_format, written_values, values_with};
+    ghost use Rattle.q713_codec.specs.Inner.Written.{octets_in, written_format, written_values, values_with};
 
     /// A message of this shape with these parts.
     pub fn of<const F: usize, const V: usize>(

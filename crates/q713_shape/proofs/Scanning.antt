@@ -17,7 +17,7 @@ use Rattle.std.specs.Prelude.{IsTrue, nat_le}
 use Rattle.q713_shape.specs.declared.rules.OptionRule.{OptionRule}
 use Rattle.q713_shape.specs.declared.rules.OptionRule.TheVariants.{Names}
 use Rattle.q713_shape.specs.Rules.{names_of, has_few_names}
-use Rattle.q713_shape.specs.Taking.{taken_with, names_left, found_with}
+use Rattle.q713_shape.specs.Inner.Taking.{taken_with, names_left, found_with}
 
 -- the values found and those of the items to come
 abbrev merged : List ℕ → List (Option (List ℕ)) → List Item → List (Option (List ℕ))

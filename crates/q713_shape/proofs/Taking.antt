@@ -9,7 +9,7 @@ use Rattle.std.proofs.lemmas.Bool.{eq-eqb}
 use Rattle.std.proofs.lemmas.List.{take_more, take_more_set, map-set, drop-set-lt, length-map, drop_all}
 use Rattle.std.specs.declared.result.Result.{Result}
 use Rattle.q713_shape.specs.Parts.{optional_slices}
-use Rattle.q713_shape.specs.Taking.{taken_with, names_left, found_with}
+use Rattle.q713_shape.specs.Inner.Taking.{taken_with, names_left, found_with}
 use Rattle.q713_shape.specs.Format.{is_option_length}
 use Rattle.relay_base.specs.declared.words.ReadFault.TheVariants.{ValueLength}
 use Rattle.std.specs.List.{list_any}

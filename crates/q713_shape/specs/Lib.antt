@@ -3,4 +3,4 @@ pub mod Format
 pub mod Reading
 pub mod Writing
 pub mod Parts
-pub mod Taking
+pub mod Inner

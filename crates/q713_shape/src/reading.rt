@@ -5,7 +5,7 @@ ghost use Rattle.q713_shape.specs.Format.{pointer_width, pointer_count, option_c
 ghost use Rattle.q713_shape.specs.Reading.{number_at, value_at, variable_at, filled_variables, options_in, options_at, values_of};
 ghost use Rattle.q713_shape.specs.Rules.{names_of, has_few_names};
 ghost use Rattle.q713_shape.specs.Parts.{slices, optional_slices, format_of, values_seen};
-ghost use Rattle.q713_shape.specs.Taking.{taken_with};
+ghost use Rattle.q713_shape.specs.Inner.Taking.{taken_with};
 
 use crate::lengths::{is_option_len, pointer_octets, pointers_len};
 use crate::parts::Parts;

@@ -5,7 +5,7 @@ use Rattle.std.specs.List.{All}
 use Rattle.plant_core.specs.declared.terms.Ticks.{Ticks}
 use Rattle.scmg.specs.declared.timed.StatusTest.{StatusTest}
 use Rattle.scmg.specs.Control.{is_due_test, is_test_of, next_interval, test_after_tick}
-use Rattle.scmg.specs.Tests.{after_quiet, armed}
+use Rattle.scmg.specs.Inner.Tests.{after_quiet, armed}
 
 -- a test with no fewer ticks than these
 abbrev pub waits : ℕ → StatusTest → Type 0

@@ -1,3 +1,3 @@
 pub mod Control
 pub mod Lane
-pub mod Tests
+pub mod Inner

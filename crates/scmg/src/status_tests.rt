@@ -3,7 +3,7 @@ ghost use Rattle.std.specs.Prelude.{◌≡◌, ◌≤◌, ◌++◌, ◌∷◌, [
 ghost use Rattle.std.specs.List.{All};
 ghost use Rattle.std.specs.Vec.{vec_capacity};
 ghost use Rattle.scmg.specs.Control.{is_due_test, is_test_of, test_begun, test_after_tick};
-ghost use Rattle.scmg.specs.Tests.{after_quiet, armed};
+ghost use Rattle.scmg.specs.Inner.Tests.{after_quiet, armed};
 
 use crate::timed::StatusTest;
 use plant_core::Ticks;
@@ -26,7 +26,7 @@ impl Model for StatusTests {
     ghost use Rattle.std.specs.Prelude.{◌≤◌, map, nat_lt, vec_len};
     ghost use Rattle.std.specs.List.{All};
     ghost use Rattle.std.specs.Vec.{vec_capacity};
-    ghost use Rattle.scmg.specs.Tests.{TestsState, after_quiet};
+    ghost use Rattle.scmg.specs.Inner.Tests.{TestsState, after_quiet};
 
     ghost Value = { TestsState };
 

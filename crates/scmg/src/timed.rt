@@ -2,7 +2,7 @@
 ghost use Rattle.std.specs.Prelude.{◌≡◌, ◌<◌, ◌≤◌, map, filter, not, position, vec_len, IsOk, OnOk, OnErr};
 ghost use Rattle.std.specs.Vec.{vec_capacity};
 ghost use Rattle.scmg.specs.Control.{is_due_test, is_due_coordination, test_after_tick, is_coordination_before, with_coordination, without_coordination, lowered, coordinations_after_tick};
-ghost use Rattle.scmg.specs.Tests.{after_quiet, armed};
+ghost use Rattle.scmg.specs.Inner.Tests.{after_quiet, armed};
 
 use plant_core::Ticks;
 use relay_base::{Memory, Pc, Ssn};

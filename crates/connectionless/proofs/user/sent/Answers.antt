@@ -1,5 +1,5 @@
 use Rattle.std.proofs.Common.{◌∙◌, refl}
-use Rattle.connectionless.specs.Given.{seen_given}
+use Rattle.connectionless.specs.Inner.Units.{seen_given}
 use Rattle.connectionless.proofs.Ranges.{short}
 use Rattle.connectionless.proofs.user.sent.Goals as goal
 

@@ -1,6 +1,6 @@
 use Rattle.std.proofs.Common.{◌<◌, length, arith}
 use Rattle.std.proofs.lemmas.List.Edits.{map_over_more}
-use Rattle.scmg.specs.Tests.{armed}
+use Rattle.scmg.specs.Inner.Tests.{armed}
 use Rattle.scmg.proofs.status_tests.arm.Goals as goal
 
 pub loop-place-preserved : goal.loop-place-preserved

@@ -1,5 +1,5 @@
 use Rattle.std.proofs.Common.{◌≡◌, ◌++◌, map, take, drop}
-use Rattle.scmg.specs.Tests.{armed}
+use Rattle.scmg.specs.Inner.Tests.{armed}
 use Rattle.scmg.proofs.status_tests.arm.Given as goal
 
 abbrev pub invariant-loop-place : goal.invariant-loop-place

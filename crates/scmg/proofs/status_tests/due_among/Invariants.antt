@@ -1,6 +1,6 @@
 use Rattle.std.proofs.Common.{◌≡◌, ◌++◌, map, filter, drop}
 use Rattle.scmg.specs.Control.{is_due_test}
-use Rattle.scmg.specs.Tests.{after_quiet}
+use Rattle.scmg.specs.Inner.Tests.{after_quiet}
 use Rattle.scmg.proofs.status_tests.due_among.Given as goal
 
 -- with those to come, they are all that are due

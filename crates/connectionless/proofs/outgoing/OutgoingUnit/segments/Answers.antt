@@ -1,6 +1,7 @@
 use Rattle.std.proofs.Common.{arith}
 use Rattle.std.proofs.lemmas.List.FromFn.{map-range_with_len_more}
-use Rattle.connectionless.specs.Given.{seen_outgoing, segment_output}
+use Rattle.connectionless.specs.Given.{segment_output}
+use Rattle.connectionless.specs.Inner.Units.{seen_outgoing}
 use Rattle.connectionless.proofs.outgoing.OutgoingUnit.segments.Goals as goal
 
 pub loop-place-preserved : goal.loop-place-preserved

@@ -1,6 +1,7 @@
 use Rattle.std.proofs.Common.{◌≡◌, map}
 use Rattle.std.specs.List.{range_with_len}
-use Rattle.connectionless.specs.Given.{seen_outgoing, segment_output}
+use Rattle.connectionless.specs.Given.{segment_output}
+use Rattle.connectionless.specs.Inner.Units.{seen_outgoing}
 use Rattle.connectionless.proofs.outgoing.OutgoingUnit.segments.Given as goal
 
 abbrev pub invariant-loop-place : goal.invariant-loop-place

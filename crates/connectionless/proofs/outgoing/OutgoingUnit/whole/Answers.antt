@@ -1,5 +1,5 @@
 use Rattle.std.proofs.Common.{arith}
-use Rattle.connectionless.specs.Given.{seen_outgoing}
+use Rattle.connectionless.specs.Inner.Units.{seen_outgoing}
 use Rattle.connectionless.specs.Unitdata.{message_of}
 use Rattle.connectionless.proofs.Ranges.{whole-in_range, uncut-body}
 use Rattle.connectionless.proofs.outgoing.OutgoingUnit.whole.Goals as goal

@@ -8,10 +8,10 @@ use Rattle.plant_core.specs.Asking.{Question, seen_ask}
 use Rattle.q713_codec.specs.Reading.{seen}
 use Rattle.connectionless.specs.Unitdata.{unitdata_of}
 use Rattle.connectionless.specs.Asking.{Matter, settled, matter_by_unit, question_in}
-use Rattle.connectionless.specs.Questions.{message_question}
+use Rattle.connectionless.specs.Calls.{message_question}
 use Rattle.data_lane.specs.declared.effect.Work.TheVariants as work
 use Rattle.data_lane.specs.Legal.{effect_with}
-use Rattle.data_lane.specs.Lane.{asked_in, effect_in}
+use Rattle.data_lane.specs.Inner.Lane.{asked_in, effect_in}
 use Rattle.data_lane.proofs.MatterLemmas.{Asks, matter-lost, matter-none, matter-asked, effect-outcome}
 use Rattle.data_lane.proofs.effect.Context.read.Goals as goal
 

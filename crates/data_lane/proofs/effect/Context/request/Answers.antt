@@ -3,7 +3,7 @@ use Rattle.std.specs.Prelude.{Some}
 use Rattle.plant_core.specs.Asking.{seen_ask}
 use Rattle.connectionless.specs.Given.{given_of}
 use Rattle.connectionless.specs.Asking.{Matter, question_in}
-use Rattle.data_lane.specs.Lane.{asked_in}
+use Rattle.data_lane.specs.Inner.Lane.{asked_in}
 use Rattle.data_lane.proofs.MatterLemmas.{AsksAsUser, matter-unasked, matter-user, effect-sending}
 use Rattle.data_lane.proofs.effect.Context.request.Goals as goal
 

@@ -1,6 +1,6 @@
 use Rattle.std.proofs.Common.{◌≡◌, ◌+◌, ◌∙◌, ◌++◌, ◌∷◌, [], if◌then◌else◌, sym, ap, subst, refl}
 use Rattle.data_lane.specs.Legal.{LaneState}
-use Rattle.data_lane.specs.Lane.{IsLane, reduced}
+use Rattle.data_lane.specs.Inner.Lane.{IsLane, reduced}
 use Rattle.data_lane.proofs.LegalLemmas.{entry_with, IsWritten, lane-goes}
 use Rattle.data_lane.proofs.lane.DataLane.step.Goals as goal
 

@@ -1,6 +1,6 @@
 use Rattle.std.proofs.Common.{◌+◌, ◌<◌, ap, sym, filter, arith, ◌∙◌}
 use Rattle.scmg.specs.Control.{is_due_test}
-use Rattle.scmg.specs.Tests.{TestsState}
+use Rattle.scmg.specs.Inner.Tests.{TestsState}
 use Rattle.scmg.proofs.TestLemmas.{none-due}
 use Rattle.scmg.proofs.status_tests.StatusTests.due.Goals as goal
 

@@ -2,7 +2,7 @@ use Rattle.std.proofs.Common.{rules, ◌≡◌, ap, subst, sym, map, filter, ◌
 use Rattle.std.proofs.lemmas.Fn.{filter_same}
 use Rattle.std.proofs.lemmas.List.Elements.{All-filter}
 use Rattle.std.specs.List.{All}
-use Rattle.scmg.specs.Tests.{TestsState, after_quiet}
+use Rattle.scmg.specs.Inner.Tests.{TestsState, after_quiet}
 use Rattle.scmg.proofs.TestLemmas.{waits, is_other, ended}
 use Rattle.scmg.proofs.status_tests.StatusTests.end.Goals as goal
 

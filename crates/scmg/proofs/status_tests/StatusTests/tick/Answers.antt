@@ -1,6 +1,6 @@
 use Rattle.std.proofs.Common.{◌+◌, ◌<◌, ap, map, arith, ◌∙◌}
 use Rattle.scmg.specs.Control.{test_after_tick}
-use Rattle.scmg.specs.Tests.{TestsState}
+use Rattle.scmg.specs.Inner.Tests.{TestsState}
 use Rattle.scmg.proofs.TestLemmas.{none-passed, quiet-tick, all-armed}
 use Rattle.scmg.proofs.status_tests.StatusTests.tick.Goals as goal
 

@@ -1,0 +1,27 @@
+-- The units that a user gives as the code has them, and their lengths.
+use Rattle.std.specs.Prelude.{ℕ, ◌+◌, ◌≤◌, length, IsOk}
+use Rattle.relay_base.specs.declared.limits.TheConstants.{LONGEST_GIVEN_ADDRESS, LONGEST_GIVEN_UNIT}
+use Rattle.sccp_address.specs.Parsing.{address_of}
+use Rattle.connectionless.specs.declared.given.GivenView.{GivenView}
+use Rattle.connectionless.specs.declared.outgoing.OutgoingUnit.{OutgoingUnit}
+use Rattle.connectionless.specs.Given.{Given, Outgoing}
+
+abbrev pub seen_given : GivenView → Given
+seen_given g = record { ssn = g.ssn; sls = g.sls; class = g.class; ret = g.ret; called = g.called.now; calling = g.calling.now; body = g.body.now }
+
+-- the ranges of a unit that a user gives
+pub record IsInRange (g : Given) : Type 0 where
+  pub class : g.class ≤ 1
+  pub called : IsOk (address_of g.called)
+  pub called_size : length g.called ≤ LONGEST_GIVEN_ADDRESS
+  pub calling_size : length g.calling ≤ LONGEST_GIVEN_ADDRESS
+  pub body_size : length g.body ≤ LONGEST_GIVEN_UNIT
+
+abbrev pub seen_outgoing : OutgoingUnit → Outgoing
+seen_outgoing u = record { given = seen_given u.given.now; called = u.called.now; point = u.point; reference = u.reference }
+
+-- its lengths: its called address can have one octet more than that which was given
+pub record IsShort (u : Outgoing) : Type 0 where
+  pub class : u.given.class ≤ 1
+  pub addresses : length u.called + length u.given.calling ≤ 81
+  pub body_size : length u.given.body ≤ LONGEST_GIVEN_UNIT
