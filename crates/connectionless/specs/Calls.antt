@@ -1,5 +1,5 @@
 -- What a message and a request ask of routing, and what comes of them, as the calls tell it.
-use Rattle.std.specs.Prelude.{ℕ, List, [], false, if◌then◌else◌, Option, Some, None, Ok, Err, IsSome, IfSome, IsOk}
+use Rattle.std.specs.Prelude.{ℕ, [], false, if◌then◌else◌, Option, Some, None, Ok, Err, IsSome, IfSome, IsOk}
 use Rattle.std.specs.declared.result.Result.{Result}
 use Rattle.relay_base.specs.declared.words.Request.{Request}
 use Rattle.relay_base.specs.declared.words.Request.TheVariants.{Unit as UnitRequest}

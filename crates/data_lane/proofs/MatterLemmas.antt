@@ -19,7 +19,7 @@ use Rattle.connectionless.specs.declared.segment.Next.{Next}
 use Rattle.connectionless.specs.Given.{Given, given_of, given_in, is_unit_request, reference_after}
 use Rattle.connectionless.specs.Calls.{sending_of}
 use Rattle.connectionless.specs.Calls.{outcome_of}
-use Rattle.connectionless.specs.Asking.{Matter, from_network, from_user, settled, question_of, matter_by_question, matter_by_unit, matter_by_address, matter_by_given}
+use Rattle.connectionless.specs.Asking.{from_network, from_user, settled, question_of, matter_by_question, matter_by_unit, matter_by_address, matter_by_given}
 use Rattle.connectionless.specs.Calls.{some_question, unit_question, message_question, user_question_by, request_question, user_question}
 use Rattle.data_lane.specs.declared.effect.Effect.{Effect}
 use Rattle.data_lane.specs.declared.effect.Work.{Work}

@@ -1,5 +1,5 @@
 -- The units that a user gives as the code has them, and their lengths.
-use Rattle.std.specs.Prelude.{ℕ, ◌+◌, ◌≤◌, length, IsOk}
+use Rattle.std.specs.Prelude.{◌+◌, ◌≤◌, length, IsOk}
 use Rattle.relay_base.specs.declared.limits.TheConstants.{LONGEST_GIVEN_ADDRESS, LONGEST_GIVEN_UNIT}
 use Rattle.sccp_address.specs.Parsing.{address_of}
 use Rattle.connectionless.specs.declared.given.GivenView.{GivenView}

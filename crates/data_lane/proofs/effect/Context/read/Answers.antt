@@ -1,4 +1,4 @@
-use Rattle.std.proofs.Common.{◌≡◌, ◌∙◌, List, [], sym, ap, Ok}
+use Rattle.std.proofs.Common.{◌≡◌, ◌∙◌, [], sym, ap, Ok}
 use Rattle.std.specs.Prelude.{Option, Some, None}
 use Rattle.std.specs.Option.{option_map}
 use Rattle.std.specs.declared.result.Result.{Result}
@@ -8,7 +8,6 @@ use Rattle.plant_core.specs.Asking.{Question, seen_ask}
 use Rattle.q713_codec.specs.Reading.{seen}
 use Rattle.connectionless.specs.Unitdata.{unitdata_of}
 use Rattle.connectionless.specs.Asking.{Matter, settled, matter_by_unit, question_in}
-use Rattle.connectionless.specs.Calls.{message_question}
 use Rattle.data_lane.specs.declared.effect.Work.TheVariants as work
 use Rattle.data_lane.specs.Legal.{effect_with}
 use Rattle.data_lane.specs.Inner.Lane.{asked_in, effect_in}

@@ -1,4 +1,4 @@
-use Rattle.std.proofs.Common.{◌≡◌, ◌∙◌, sym, ap}
+use Rattle.std.proofs.Common.{◌∙◌, sym, ap}
 use Rattle.std.specs.Prelude.{Some}
 use Rattle.plant_core.specs.Asking.{seen_ask}
 use Rattle.connectionless.specs.Given.{given_of}
