@@ -7,8 +7,8 @@ use Rattle.section_model.specs.Ends.{End, Connection}
 use Rattle.section_model.specs.Step.{hears, end_is_gone, is_over}
 use Rattle.section_model.specs.Lane.{Opening, with_event, connection_of, next, fed, gone_for, reference_of}
 use Rattle.section_model.proofs.Following.{one_more}
-use Rattle.conn_lane.specs.Remnants.{Remnant, Live, live_of, seat_by, seat_of, seat_after, remnant_of, remnant_after, ticks_in}
-use Rattle.conn_lane.specs.Remnants.{Seat}
+use Rattle.conn_lane.specs.Inner.Remnants.{Remnant, Live, live_of, seat_by, seat_of, seat_after, remnant_of, remnant_after, ticks_in}
+use Rattle.conn_lane.specs.Inner.Remnants.{Seat}
 use Rattle.conn_lane.proofs.Gone.{gone_after, gone_next, gone_is_some}
 use Rattle.conn_lane.proofs.Over.{over_is_deaf, over_this, over_that}
 

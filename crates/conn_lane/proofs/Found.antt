@@ -11,12 +11,12 @@ use Rattle.relay_base.specs.declared.words.Output.{Output}
 use Rattle.section_model.specs.Step.{hears, connection_step}
 use Rattle.section_model.specs.Lane.{is_tick, slot_of}
 use Rattle.section_coupling.specs.Duos.{DuoState, duo_at, taken_after}
-use Rattle.conn_lane.specs.Remnants.{Remnant, takes_slot, part_at, first_part, remnant_after, has_freed}
-use Rattle.conn_lane.specs.Index.{place_at, IsIndexOf}
-use Rattle.conn_lane.specs.Seated.{IsSeated, AreOrderly, reference_in}
-use Rattle.conn_lane.specs.Views.{KeptOpeningState, HearsAt, live_at, remnant_at, remnants_at}
-use Rattle.conn_lane.specs.Finding.{IsUnheard, IsHeardAt, IsFoundAt}
-use Rattle.conn_lane.specs.Views.{OpeningsState}
+use Rattle.conn_lane.specs.Inner.Remnants.{Remnant, takes_slot, part_at, first_part, remnant_after, has_freed}
+use Rattle.conn_lane.specs.Inner.Index.{place_at, IsIndexOf}
+use Rattle.conn_lane.specs.Inner.Seated.{IsSeated, AreOrderly, reference_in}
+use Rattle.conn_lane.specs.Inner.Views.{KeptOpeningState, HearsAt, live_at, remnant_at, remnants_at}
+use Rattle.conn_lane.specs.Inner.Finding.{IsUnheard, IsHeardAt, IsFoundAt}
+use Rattle.conn_lane.specs.Inner.Views.{OpeningsState}
 use Rattle.conn_lane.proofs.Indexed.{indexed_set, takes_on}
 use Rattle.conn_lane.proofs.HeardAt.{nobody_named, nobody_past, nobody_there, somebody, deaf_stays}
 

@@ -5,7 +5,7 @@ use Rattle.plant_core.specs.declared.terms.Ticks.{Ticks}
 use Rattle.section_model.specs.Ends.{End, Connection}
 use Rattle.section_model.specs.Step.{hears, end_is_gone}
 use Rattle.section_model.specs.Lane.{next, fed, heard, follow, gone_for, is_tick}
-use Rattle.conn_lane.specs.Remnants.{ticks_in}
+use Rattle.conn_lane.specs.Inner.Remnants.{ticks_in}
 
 -- what a connection is after the events of its lane
 abbrev pub led : Ticks → Connection → List Event → Connection

@@ -7,7 +7,7 @@ use Rattle.plant_core.specs.declared.terms.Ticks.{Ticks}
 use Rattle.section_model.specs.Ends.{Connection}
 use Rattle.section_model.specs.Step.{hears, is_over, connection_step}
 use Rattle.section_model.specs.Lane.{Opening, connection_of, part_by, part_of, outputs_of_hearing, hearing, stray_answer}
-use Rattle.conn_lane.specs.Remnants.{remnant_of, live_of, part_at, first_of, first_part, or_none, all_parts}
+use Rattle.conn_lane.specs.Inner.Remnants.{remnant_of, live_of, part_at, first_of, first_part, or_none, all_parts}
 use Rattle.conn_lane.specs.Laws.{unheard}
 use Rattle.conn_lane.proofs.Over.{over_is_deaf}
 

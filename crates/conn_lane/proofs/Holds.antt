@@ -12,9 +12,9 @@ use Rattle.section_coupling.specs.declared.side.Side.TheVariants as side
 use Rattle.section_coupling.specs.Views.{end_at}
 use Rattle.section_coupling.specs.Duos.{DuoState, duo_at, taken_after}
 use Rattle.conn_lane.specs.declared.kept.Hold.{Hold}
-use Rattle.conn_lane.specs.Remnants.{Live, Seat, Remnant, ticks_in, left_after, seat_after, frozen_by, remnant_after, live_of, part_at, or_none}
-use Rattle.conn_lane.specs.Seated.{SeatIs, IsSeated}
-use Rattle.conn_lane.specs.Views.{KeptOpeningState, IsAlive, IsIdle, IsAsleep, HearsAt, live_at, seat_at, until_after, remnant_at}
+use Rattle.conn_lane.specs.Inner.Remnants.{Live, Seat, Remnant, ticks_in, left_after, seat_after, frozen_by, remnant_after, live_of, part_at, or_none}
+use Rattle.conn_lane.specs.Inner.Seated.{SeatIs, IsSeated}
+use Rattle.conn_lane.specs.Inner.Views.{KeptOpeningState, IsAlive, IsIdle, IsAsleep, HearsAt, live_at, seat_at, until_after, remnant_at}
 
 begins : (now freeze : ℕ) → now + freeze - now ≡ freeze
 begins now freeze = omega arith

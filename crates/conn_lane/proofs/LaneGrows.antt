@@ -21,15 +21,15 @@ use Rattle.section_model.proofs.Growing.{grows}
 use Rattle.plant_core.specs.declared.terms.Ticks.{Ticks}
 use Rattle.section_coupling.specs.Duos.{DuoState, duo_at, taken_after}
 use Rattle.section_coupling.specs.Openings.{is_wish, IsAnswered}
-use Rattle.conn_lane.specs.Remnants.{Remnant, remnant_of, remnant_after, first_part, all_parts, lowest_in, is_needed, needed}
+use Rattle.conn_lane.specs.Inner.Remnants.{Remnant, remnant_of, remnant_after, first_part, all_parts, lowest_in, is_needed, needed}
 use Rattle.conn_lane.specs.Laws.{unheard}
-use Rattle.conn_lane.specs.Seated.{AreOrderly}
-use Rattle.conn_lane.specs.Views.{news}
+use Rattle.conn_lane.specs.Inner.Seated.{AreOrderly}
+use Rattle.conn_lane.specs.Inner.Views.{news}
 use Rattle.conn_lane.specs.Journals.{lane_of}
 use Rattle.conn_lane.specs.Lanes.{conn_asked_of}
-use Rattle.conn_lane.specs.Views.{OpeningsState}
-use Rattle.conn_lane.specs.Turns.{opened_in, other_outs_in, outs_in, new_remnant, keeps_in, IsConnLane}
-use Rattle.conn_lane.specs.Grown.{Comes, Grows}
+use Rattle.conn_lane.specs.Inner.Views.{OpeningsState}
+use Rattle.conn_lane.specs.Inner.Turns.{opened_in, other_outs_in, outs_in, new_remnant, keeps_in, IsConnLane}
+use Rattle.conn_lane.specs.Inner.Grown.{Comes, Grows}
 use Rattle.conn_lane.proofs.Keeps.{keeps_all}
 use Rattle.conn_lane.proofs.Needless.{outs_needed, keeps_needed}
 use Rattle.conn_lane.proofs.NewSeats.{orderly_keeps}

@@ -7,8 +7,8 @@ use Rattle.std.specs.List.{list_any, range_with_len, position_from}
 use Rattle.std.proofs.lemmas.List.{take-append-le, map-append, length-map, get_or_default}
 use Rattle.std.proofs.lemmas.List.Elements.{filter-append}
 use Rattle.section_model.specs.Lane.{Lane, reference_at, enough}
-use Rattle.conn_lane.specs.Remnants.{Remnant, takes_slot}
-use Rattle.conn_lane.specs.Index.{marked, IsIndexOf, is_marked, unmarked, lowest_unmarked}
+use Rattle.conn_lane.specs.Inner.Remnants.{Remnant, takes_slot}
+use Rattle.conn_lane.specs.Inner.Index.{marked, IsIndexOf, is_marked, unmarked, lowest_unmarked}
 
 -- a range in two parts
 range_in_parts : (a n m : ℕ) → range_with_len a (n + m) ≡ range_with_len a n ++ range_with_len (a + n) m

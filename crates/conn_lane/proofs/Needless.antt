@@ -10,11 +10,11 @@ use Rattle.relay_base.specs.declared.words.Event.TheVariants.{Message as Arrived
 use Rattle.plant_core.specs.declared.answer.Answer.{Answer}
 use Rattle.section_model.specs.Opening.{Wish, by_cr, by_user, no_wish, slots_needed, opened}
 use Rattle.section_model.specs.Lane.{Lane, slot_of, enough, stray_answer}
-use Rattle.conn_lane.specs.Remnants.{Seat}
-use Rattle.conn_lane.specs.Remnants.{Live, Remnant, ticks_in, seat_after, remnant_after, part_at, first_of, first_part, or_none, all_parts, sits, takes_slot, lowest_in, holds_out, is_needed, needed}
-use Rattle.conn_lane.specs.Views.{KeptOpeningState, remnant_at, remnants_at}
+use Rattle.conn_lane.specs.Inner.Remnants.{Seat}
+use Rattle.conn_lane.specs.Inner.Remnants.{Live, Remnant, ticks_in, seat_after, remnant_after, part_at, first_of, first_part, or_none, all_parts, sits, takes_slot, lowest_in, holds_out, is_needed, needed}
+use Rattle.conn_lane.specs.Inner.Views.{KeptOpeningState, remnant_at, remnants_at}
 use Rattle.conn_lane.specs.Laws.{unheard}
-use Rattle.conn_lane.specs.Turns.{opened_in, other_outs_in, outs_in, new_remnant, keeps_in}
+use Rattle.conn_lane.specs.Inner.Turns.{opened_in, other_outs_in, outs_in, new_remnant, keeps_in}
 use Rattle.conn_lane.proofs.Free.{filter_alike}
 
 -- its parts

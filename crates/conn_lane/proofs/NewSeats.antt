@@ -14,9 +14,9 @@ use Rattle.section_model.specs.Ends.{End, Connection}
 use Rattle.section_model.specs.Opening.{Wanted, Wish, by_cr, by_user, no_wish, fits, slots_needed, opened_by_cr, opened_by_user, opened, opened_through, not_opened, cref_to}
 use Rattle.section_model.specs.Step.{end_is_gone}
 use Rattle.section_model.specs.Lane.{Lane, heard, follow, gone_for, reference_of, slot_of, reference_at}
-use Rattle.conn_lane.specs.Remnants.{Remnant, frozen_by, seat_by, remnant_of, remnant_after, sits, takes_slot, is_frozen_out, free_in, lowest_in, needed}
-use Rattle.conn_lane.specs.Seated.{SeatIs, IsInLane, IsSeated, AreOrderly}
-use Rattle.conn_lane.specs.Turns.{opened_in, new_remnant, keeps_in}
+use Rattle.conn_lane.specs.Inner.Remnants.{Remnant, frozen_by, seat_by, remnant_of, remnant_after, sits, takes_slot, is_frozen_out, free_in, lowest_in, needed}
+use Rattle.conn_lane.specs.Inner.Seated.{SeatIs, IsInLane, IsSeated, AreOrderly}
+use Rattle.conn_lane.specs.Inner.Turns.{opened_in, new_remnant, keeps_in}
 use Rattle.conn_lane.proofs.Seated.{seated_live, all_seated_after, all_seated_needed}
 use Rattle.conn_lane.proofs.Apart.{free_after, apart_after, apart_needed, apart_with}
 

@@ -2,10 +2,10 @@
 use Rattle.std.proofs.Common.{◌≡◌, List, [], ◌∷◌, ◌++◌, map, sym, ap, ap₂, ◌∙◌, append_assoc, append-nil}
 use Rattle.std.specs.Prelude.{ℕ, option_map}
 use Rattle.std.proofs.lemmas.List.{map-append}
-use Rattle.conn_lane.specs.Views.{KeptOpeningState, live_at, remnant_at, remnants_at}
+use Rattle.conn_lane.specs.Inner.Views.{KeptOpeningState, live_at, remnant_at, remnants_at}
 use Rattle.relay_base.specs.declared.words.Event.{Event}
 use Rattle.relay_base.specs.declared.words.Output.{Output}
-use Rattle.conn_lane.specs.Remnants.{Remnant, remnant_after, part_at, or_none, all_parts}
+use Rattle.conn_lane.specs.Inner.Remnants.{Remnant, remnant_after, part_at, or_none, all_parts}
 
 pub all_more : (event : Event) (keeps : List Remnant) (k : Remnant) → all_parts event (keeps ++ k ∷ []) ≡ all_parts event keeps ++ or_none (part_at event k.live)
 all_more event [] k = append-nil (or_none (part_at event k.live))

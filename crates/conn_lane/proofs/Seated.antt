@@ -8,8 +8,8 @@ use Rattle.section_model.specs.Step.{end_is_gone, is_over}
 use Rattle.section_model.specs.Lane.{fed}
 use Rattle.reference_law.specs.ReferenceLaw.{Stays, BothStay}
 use Rattle.reference_law.proofs.Following.{fed_stays}
-use Rattle.conn_lane.specs.Remnants.{Live, Seat, Remnant, live_of, left_after, seat_after, remnant_after, is_needed, needed}
-use Rattle.conn_lane.specs.Seated.{SeatIs, AreSeated, IsInLane, IsSeated}
+use Rattle.conn_lane.specs.Inner.Remnants.{Live, Seat, Remnant, live_of, left_after, seat_after, remnant_after, is_needed, needed}
+use Rattle.conn_lane.specs.Inner.Seated.{SeatIs, AreSeated, IsInLane, IsSeated}
 
 -- A seat.
 

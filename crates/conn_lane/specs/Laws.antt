@@ -5,7 +5,7 @@ use Rattle.relay_base.specs.declared.words.Event.{Event}
 use Rattle.relay_base.specs.declared.words.Output.{Output}
 use Rattle.plant_core.specs.declared.terms.Ticks.{Ticks}
 use Rattle.section_model.specs.Lane.{Lane, Opening, with_event, lowest_free, outputs_of_hearing, hearing, part_of, stray_answer}
-use Rattle.conn_lane.specs.Remnants.{remnant_of, remnant_after, first_part, all_parts, lowest_in}
+use Rattle.conn_lane.specs.Inner.Remnants.{remnant_of, remnant_after, first_part, all_parts, lowest_in}
 
 abbrev pub unheard : Option (List Output) → List Output → List Output
 unheard None answer = answer

@@ -1,10 +1,4 @@
 pub mod Journals
 pub mod Lanes
-pub mod Remnants
-pub mod Seated
-pub mod Views
-pub mod Index
-pub mod Finding
 pub mod Laws
-pub mod Turns
-pub mod Grown
+pub mod Inner

@@ -1,9 +1,9 @@
 //! The index of the local references of a lane, and those that are free (Q.714, 3.3.2).
 ghost use Rattle.std.specs.Prelude.{◌≡◌, ℕ, ◌<◌, ◌*◌, ◌+◌, replicate, List, None, IfOk, IfSome, option_map};
 ghost use Rattle.section_model.specs.Lane.{Lane, slot_of};
-ghost use Rattle.conn_lane.specs.Remnants.{Remnant, sits, takes_slot, lowest_in};
-ghost use Rattle.conn_lane.specs.Index.{place_at, marked, slot_held, lowest_unmarked, IsIndexOf};
-ghost use Rattle.conn_lane.specs.Views.{seat_at, remnant_at, remnants_at};
+ghost use Rattle.conn_lane.specs.Inner.Remnants.{Remnant, sits, takes_slot, lowest_in};
+ghost use Rattle.conn_lane.specs.Inner.Index.{place_at, marked, slot_held, lowest_unmarked, IsIndexOf};
+ghost use Rattle.conn_lane.specs.Inner.Views.{seat_at, remnant_at, remnants_at};
 
 use crate::kept::{Hold, KeptOpening};
 use relay_base::{Memory, PlainList, Ref24};
@@ -28,7 +28,7 @@ pub struct Index {
 
 impl Model for Index {
     ghost use Rattle.std.specs.Prelude.{◌≡◌, ◌≤◌, ◌-◌, ℕ, List, [], length, Option};
-    ghost use Rattle.conn_lane.specs.Index.{unmarked};
+    ghost use Rattle.conn_lane.specs.Inner.Index.{unmarked};
 
     ghost Value = { List (Option ℕ) };
 

@@ -5,9 +5,9 @@ ghost use Rattle.relay_base.specs.declared.words.Event.TheVariants.{Tick};
 ghost use Rattle.section_model.specs.Step.{hears, end_is_gone};
 ghost use Rattle.section_model.specs.Lane.{fed, reference_of};
 ghost use Rattle.section_coupling.specs.Duos.{duo_at, taken_after, end_numbered};
-ghost use Rattle.conn_lane.specs.Remnants.{remnant_of, remnant_after, seat_after, part_in, part_at, or_none, live_of, seat_by, holds_out, is_needed, is_freed, has_freed};
-ghost use Rattle.conn_lane.specs.Seated.{IsSeated};
-ghost use Rattle.conn_lane.specs.Views.{IsAlive, HearsAt, live_at, until_after, seat_at, remnant_at};
+ghost use Rattle.conn_lane.specs.Inner.Remnants.{remnant_of, remnant_after, seat_after, part_in, part_at, or_none, live_of, seat_by, holds_out, is_needed, is_freed, has_freed};
+ghost use Rattle.conn_lane.specs.Inner.Seated.{IsSeated};
+ghost use Rattle.conn_lane.specs.Inner.Views.{IsAlive, HearsAt, live_at, until_after, seat_at, remnant_at};
 
 use relay_base::{Event, Memory, Outs, Ref24};
 use section_coupling::{Duo, taken_after};
@@ -33,7 +33,7 @@ pub struct KeptOpening {
 
 impl Model for KeptOpening {
     ghost use Rattle.std.specs.Prelude.{option_map};
-    ghost use Rattle.conn_lane.specs.Views.{KeptOpeningState, IsAlive, IsAsleep};
+    ghost use Rattle.conn_lane.specs.Inner.Views.{KeptOpeningState, IsAlive, IsAsleep};
 
     ghost Value = { KeptOpeningState };
 

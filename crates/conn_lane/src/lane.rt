@@ -9,14 +9,14 @@ ghost use Rattle.section_model.specs.Lane.{stray_answer, is_tick};
 ghost use Rattle.section_coupling.specs.Duos.{duo_at};
 ghost use Rattle.section_coupling.specs.Openings.{IsAnswered, is_wish};
 ghost use Rattle.section_coupling.specs.Sound.{IsCredit};
-ghost use Rattle.conn_lane.specs.Remnants.{remnant_after};
+ghost use Rattle.conn_lane.specs.Inner.Remnants.{remnant_after};
 ghost use Rattle.conn_lane.specs.Laws.{unheard};
-ghost use Rattle.conn_lane.specs.Seated.{AreOrderly};
-ghost use Rattle.conn_lane.specs.Views.{news};
-ghost use Rattle.conn_lane.specs.Turns.{opened_in};
+ghost use Rattle.conn_lane.specs.Inner.Seated.{AreOrderly};
+ghost use Rattle.conn_lane.specs.Inner.Views.{news};
+ghost use Rattle.conn_lane.specs.Inner.Turns.{opened_in};
 ghost use Rattle.conn_lane.specs.Journals.{lane_of};
 ghost use Rattle.conn_lane.specs.Lanes.{conn_asked_of};
-ghost use Rattle.conn_lane.specs.Grown.{TurnsInto, Grows};
+ghost use Rattle.conn_lane.specs.Inner.Grown.{TurnsInto, Grows};
 
 use crate::openings::Openings;
 use plant_core::{Answer, Asked, Entry, EntryList, LaneHead, Plant, fitted};
@@ -39,7 +39,7 @@ pub struct ConnLane {
 
 impl Model for ConnLane {
     ghost use Rattle.conn_lane.specs.Lanes.{ConnLaneState};
-    ghost use Rattle.conn_lane.specs.Turns.{IsConnLane};
+    ghost use Rattle.conn_lane.specs.Inner.Turns.{IsConnLane};
 
     ghost Value = { ConnLaneState };
 

@@ -2,10 +2,10 @@
 ghost use Rattle.std.specs.Prelude.{◌≡◌, ◌≤◌, ◌<◌, ◌+◌, ◌++◌, [], All, map, false, Some, IfOk};
 ghost use Rattle.relay_base.specs.declared.words.Event.TheVariants.{Tick};
 ghost use Rattle.section_model.specs.Lane.{Lane, is_tick};
-ghost use Rattle.conn_lane.specs.Remnants.{remnant_after, first_part, all_parts, lowest_in, needed};
-ghost use Rattle.conn_lane.specs.Seated.{IsSeated, AreOrderly, reference_in};
-ghost use Rattle.conn_lane.specs.Views.{remnants_at, news};
-ghost use Rattle.conn_lane.specs.Finding.{IsFoundAt};
+ghost use Rattle.conn_lane.specs.Inner.Remnants.{remnant_after, first_part, all_parts, lowest_in, needed};
+ghost use Rattle.conn_lane.specs.Inner.Seated.{IsSeated, AreOrderly, reference_in};
+ghost use Rattle.conn_lane.specs.Inner.Views.{remnants_at, news};
+ghost use Rattle.conn_lane.specs.Inner.Finding.{IsFoundAt};
 
 use crate::index::{Index, RefList};
 use crate::kept::KeptOpening;
@@ -26,9 +26,9 @@ pub struct Openings {
 }
 
 impl Model for Openings {
-    ghost use Rattle.conn_lane.specs.Views.{remnants_at, OpeningsState};
-    ghost use Rattle.conn_lane.specs.Seated.{AreOrderly};
-    ghost use Rattle.conn_lane.specs.Index.{IsIndexOf};
+    ghost use Rattle.conn_lane.specs.Inner.Views.{remnants_at, OpeningsState};
+    ghost use Rattle.conn_lane.specs.Inner.Seated.{AreOrderly};
+    ghost use Rattle.conn_lane.specs.Inner.Index.{IsIndexOf};
 
     ghost Value = { OpeningsState };
 

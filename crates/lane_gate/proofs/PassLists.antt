@@ -9,7 +9,7 @@ use Rattle.lane_gate.specs.declared.table.View.{View}
 use Rattle.lane_gate.specs.declared.pass.Pass.{Pass}
 use Rattle.lane_gate.specs.Gates.{AreNumbered}
 use Rattle.lane_gate.specs.Passes.{count_of, done_of}
-use Rattle.lane_gate.specs.Views.{fresh_counts, new_view, front_view, rear_view, done_in, only_view, IsResting, IsIdle}
+use Rattle.lane_gate.specs.Inner.Views.{fresh_counts, new_view, front_view, rear_view, done_in, only_view, IsResting, IsIdle}
 use Rattle.lane_gate.proofs.CallerCounts.{fresh_step}
 
 module _ {A : Type 0} where

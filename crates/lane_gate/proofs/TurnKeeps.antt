@@ -12,8 +12,8 @@ use Rattle.lane_gate.proofs.CallerCounts.{here_after, snoc_at, only_one, none_in
 use Rattle.lane_gate.specs.declared.table.View.{View}
 use Rattle.lane_gate.specs.declared.table.Opening.{Opening}
 use Rattle.lane_gate.specs.Plan.{Raises, Stays}
-use Rattle.lane_gate.specs.Views.{fresh_counts, spent_view, first_count, caller_in, done_in, tried_view, resting_view, front_view, rear_view, joined_view, IsResting, IsIdle}
-use Rattle.lane_gate.specs.Rule.{whole_view, IsFree, IsTaken, IsKept, HasEntered, Enters, Finishes, Abandons}
+use Rattle.lane_gate.specs.Inner.Views.{fresh_counts, spent_view, first_count, caller_in, done_in, tried_view, resting_view, front_view, rear_view, joined_view, IsResting, IsIdle}
+use Rattle.lane_gate.specs.Inner.Rule.{whole_view, IsFree, IsTaken, IsKept, HasEntered, Enters, Finishes, Abandons}
 
 -- a fact of each view, after one view has changed
 all_after : (K : ℕ → View → Type 0) (vs : List View) (id : ℕ) (w : View) → K id w → ((i : ℕ) (v : View) → get_elem? vs i ≡ some v → i ≢ id → K i v)

@@ -1,5 +1,4 @@
 pub mod Gates
 pub mod Passes
 pub mod Plan
-pub mod Rule
-pub mod Views
+pub mod Inner

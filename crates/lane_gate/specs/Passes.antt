@@ -1,6 +1,6 @@
 -- What contracts see of a pass.
 use Rattle.std.specs.Prelude.{◌≡◌, ◌≢◌, ℕ, ◌+◌}
-use Rattle.lane_gate.specs.Views.{only_view, done_in}
+use Rattle.lane_gate.specs.Inner.Views.{only_view, done_in}
 use Rattle.lane_gate.specs.declared.table.View.{View}
 use Rattle.lane_gate.specs.declared.pass.Pass.{Pass}
 use Rattle.lane_gate.specs.declared.pass.Refused.{Refused}

@@ -1,5 +1,5 @@
 //! What a caller holds, and why it is refused.
-ghost use Rattle.lane_gate.specs.Views.{IsAlone};
+ghost use Rattle.lane_gate.specs.Inner.Views.{IsAlone};
 
 use crate::table::View;
 use atomic_table::{Badge, Seat};
@@ -14,7 +14,7 @@ pub struct Pass {
 
 impl Pass {
     ghost use Rattle.std.specs.Prelude.{◌≡◌, [], ◌∷◌};
-    ghost use Rattle.lane_gate.specs.Views.{IsIdle};
+    ghost use Rattle.lane_gate.specs.Inner.Views.{IsIdle};
 
     /// The number of the pass, which is that of its link.
     pub fn number(&self) -> u8

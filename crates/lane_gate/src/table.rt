@@ -1,5 +1,5 @@
 //! The gate's table: word 0 is the turn, slot 0 has the lane, and each seat knows what its callers have delivered.
-ghost use Rattle.lane_gate.specs.Views.{front_view, rear_view, joined_view, spent_view};
+ghost use Rattle.lane_gate.specs.Inner.Views.{front_view, rear_view, joined_view, spent_view};
 
 use crate::lane::LaneState;
 use atomic_table::{Join, Play, Split, TableRule};
@@ -40,7 +40,7 @@ pub struct Turns<L> {
 }
 
 impl<L: LaneState> TableRule<Option<L>, View, Opening<L>> for Turns<L> {
-    ghost use Rattle.lane_gate.specs.Rule.{IsKept, whole_view};
+    ghost use Rattle.lane_gate.specs.Inner.Rule.{IsKept, whole_view};
 
     ghost holds = { IsKept L.plan L.taken };
 
@@ -62,7 +62,7 @@ pub(crate) struct Enter<L, K> {
 }
 
 impl<L: LaneState, K: Known<L>> Play<Option<L>, View> for Enter<L, K> {
-    ghost use Rattle.lane_gate.specs.Rule.{Enters};
+    ghost use Rattle.lane_gate.specs.Inner.Rule.{Enters};
 
     ghost then = { Enters L.taken K.known };
 }
@@ -71,7 +71,7 @@ impl<L: LaneState, K: Known<L>> Play<Option<L>, View> for Enter<L, K> {
 pub(crate) struct Finish;
 
 impl<L> Play<Option<L>, View> for Finish {
-    ghost use Rattle.lane_gate.specs.Rule.{Finishes};
+    ghost use Rattle.lane_gate.specs.Inner.Rule.{Finishes};
 
     ghost then = { Finishes };
 }
@@ -80,7 +80,7 @@ impl<L> Play<Option<L>, View> for Finish {
 pub(crate) struct Abandon;
 
 impl<L> Play<Option<L>, View> for Abandon {
-    ghost use Rattle.lane_gate.specs.Rule.{Abandons};
+    ghost use Rattle.lane_gate.specs.Inner.Rule.{Abandons};
 
     ghost then = { Abandons };
 }

@@ -3,7 +3,7 @@ use Rattle.std.proofs.Common.{◌≡◌, ℕ, ◌+◌, ◌-◌, ◌<◌, List, [
 use Rattle.std.proofs.lemmas.List.{take_more_set, drop-set-lt, drop-drop, drop-replicate, length-set}
 use Rattle.std.proofs.lemmas.List.Elements.{All-push}
 use Rattle.std.proofs.Math.ListN.{set}
-use Rattle.relay_base.specs.Filling.{IsFilled, length-filled}
+use Rattle.relay_base.specs.Inner.Filling.{IsFilled, length-filled}
 
 -- one more digit
 pub IsFilled-set : (digits l : List ℕ) (count d : ℕ) → IsFilled digits count → take count digits ≡ l → length l < 24 → d < 16 → IsFilled (set digits count d) (count + 1)

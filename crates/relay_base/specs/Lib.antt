@@ -1,5 +1,5 @@
 pub mod Causes
 pub mod Decimal
-pub mod Filling
 pub mod Giving
 pub mod Streams
+pub mod Inner

@@ -14,7 +14,7 @@ pub struct Digits {
 
 impl Model for Digits {
     ghost use Rattle.std.specs.Prelude.{ℕ, List, length, take};
-    ghost use Rattle.relay_base.specs.Filling.{IsFilled, padded, padded-take, length-filled};
+    ghost use Rattle.relay_base.specs.Inner.Filling.{IsFilled, padded, padded-take, length-filled};
 
     ghost Value = { List ℕ };
 

@@ -29,8 +29,8 @@ use Rattle.section_model.specs.declared.cell.Cell.TheVariants.{Leave, Acknowledg
 use Rattle.section_model.specs.declared.input.Input.{Input}
 use Rattle.section_model.specs.Windowed.{acknowledges}
 use Rattle.relay_base.specs.declared.words.Output.{Output}
-use Rattle.section_coupling.specs.Comings.{arrived_in, hears_coming, hears_on}
-use Rattle.section_coupling.specs.Acts.{untimed_acts}
+use Rattle.section_coupling.specs.Inner.Comings.{arrived_in, hears_coming, hears_on}
+use Rattle.section_coupling.specs.Inner.Acts.{untimed_acts}
 
 -- a request that is heard is in its ranges
 pub range-of : (c : Connection) (e : Event) (ssn : ℕ) (r : Request) → e ≡ Requested ssn r → IsTrue (hears c e) → IsTrue (is_in_range r)

@@ -15,8 +15,8 @@ use Rattle.section_model.specs.Parameters.{Arrival}
 use Rattle.section_model.specs.Acting.{section_takes_by}
 use Rattle.section_class2.specs.Lines.{IsDt1}
 use Rattle.section_class3.specs.Windows.{IsDt2, IsEd}
-use Rattle.section_coupling.specs.Comings.{arrived_in}
-use Rattle.section_coupling.specs.Acts.{SetsUpOnce}
+use Rattle.section_coupling.specs.Inner.Comings.{arrived_in}
+use Rattle.section_coupling.specs.Inner.Acts.{SetsUpOnce}
 
 pub sets_up_once : (s : SectionState) (o : Occasion) → SetsUpOnce (section_cell s o) s
 unfolding section_row

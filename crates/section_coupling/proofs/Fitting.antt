@@ -15,7 +15,7 @@ use Rattle.q713_codec.specs.declared.message.Message.TheVariants.{Cr}
 use Rattle.plant_core.specs.Rewriting.{called_onward}
 use Rattle.section_model.specs.Line.{credit_of}
 use Rattle.section_model.specs.Opening.{Wanted, onward, fits}
-use Rattle.section_coupling.specs.Sizes.{option_size, octet_size, options_size, part_size, are_fitting}
+use Rattle.section_coupling.specs.Inner.Sizes.{option_size, octet_size, options_size, part_size, are_fitting}
 
 -- the length of an address
 pub length_spelling : (a : Form) → length (address_spelling a) ≡ 1 + length (point_octets a.point) + length (ssn_octets a.ssn) + length (title_octets a.title)

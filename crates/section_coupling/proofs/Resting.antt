@@ -25,7 +25,7 @@ use Rattle.flow_law.proofs.Step.{event_kept}
 use Rattle.section_coupling.specs.declared.side.Side.{Side}
 use Rattle.section_coupling.specs.declared.side.Side.TheVariants as side
 use Rattle.section_coupling.specs.declared.pair.Pair.{Pair}
-use Rattle.section_coupling.specs.Resting.{AreDrained, EndRests, Rests}
+use Rattle.section_coupling.specs.Inner.Resting.{AreDrained, EndRests, Rests}
 use Rattle.section_coupling.specs.Views.{end_at, connection_at}
 use Rattle.section_coupling.proofs.Keeping.{at-any}
 

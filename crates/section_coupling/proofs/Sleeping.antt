@@ -24,7 +24,7 @@ use Rattle.section_coupling.specs.declared.side.Side.{Side}
 use Rattle.section_coupling.specs.declared.side.Side.TheVariants as side
 use Rattle.section_coupling.specs.declared.pair.Pair.{Pair}
 use Rattle.section_coupling.specs.Duos.{fewer, fewest_left}
-use Rattle.section_coupling.specs.Resting.{AreDrained, EndRests, Rests}
+use Rattle.section_coupling.specs.Inner.Resting.{AreDrained, EndRests, Rests}
 use Rattle.section_coupling.specs.Views.{left_at, end_at, connection_at}
 use Rattle.section_coupling.proofs.LaterTimers.{ticked_pair}
 use Rattle.section_coupling.proofs.Resting.{rests_at_any}

@@ -25,7 +25,7 @@ use Rattle.section_class2.specs.declared.line.Line.{Line as CodeLine}
 use Rattle.section_class2.specs.Lines.{line_of, line_hears_arrival, line_hears_event, line_acts}
 use Rattle.section_class3.specs.Windows.{WindowsState}
 use Rattle.section_coupling.specs.Sound.{IsCredit, IsGranted, AreGranted, IsGrantedInput}
-use Rattle.section_coupling.specs.Acts.{SetsUpOnce, windows_begun}
+use Rattle.section_coupling.specs.Inner.Acts.{SetsUpOnce, windows_begun}
 
 -- an act of a line in a state, with a credit that changes only where the section is set up
 pub record GrantedLine (s : SectionState) (was : ℕ) (r : Line × Acted) : Type 0 where

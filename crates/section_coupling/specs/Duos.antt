@@ -12,7 +12,7 @@ use Rattle.section_coupling.specs.declared.pair.EndName.{EndName}
 use Rattle.section_coupling.specs.declared.pair.EndName.TheVariants.{This, That}
 use Rattle.section_coupling.specs.declared.pair.Pair.{Pair}
 use Rattle.section_coupling.specs.Sound.{SoundPair}
-use Rattle.section_coupling.specs.Resting.{Rests}
+use Rattle.section_coupling.specs.Inner.Resting.{Rests}
 use Rattle.section_coupling.specs.Views.{connection_at}
 
 pub record DuoState : Type 0 where

@@ -5,7 +5,7 @@ ghost use Rattle.relay_base.specs.declared.words.Reason.TheVariants as reason;
 ghost use Rattle.relay_base.specs.declared.words.Request.TheVariants as request;
 ghost use Rattle.section_model.specs.Step.{asking_cell, refusal, reason_against, said_no, asks_owner, asks, asked_by, is_in_range};
 ghost use Rattle.section_model.specs.UserEnd.{user_asks, unit_count};
-ghost use Rattle.section_coupling.specs.Comings.{IsRequest, IsInRange};
+ghost use Rattle.section_coupling.specs.Inner.Comings.{IsRequest, IsInRange};
 ghost use Rattle.section_coupling.specs.Views.{user_at, section_at, section_by, end_by, connection_by, IsStep};
 ghost use Rattle.section_coupling.specs.Sound.{SoundWire, SoundOwner, SoundSide, SoundPair, SoundActed};
 

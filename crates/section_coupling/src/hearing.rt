@@ -8,7 +8,7 @@ ghost use Rattle.q713_codec.specs.Writing.{spelling_of};
 ghost use Rattle.section_model.specs.Ends.{wire};
 ghost use Rattle.section_model.specs.Views.{seen_arrival, seen_parameters, section_of};
 ghost use Rattle.section_model.specs.Step.{names_both, ends_both, names_another, is_of_class_2, is_of_class_3, is_of_other_class, checked, is_from_elsewhere, in_touch, keeps, at_this, heard_by};
-ghost use Rattle.section_coupling.specs.Comings.{IsArrival, hears_coming, hears_on};
+ghost use Rattle.section_coupling.specs.Inner.Comings.{IsArrival, hears_coming, hears_on};
 ghost use Rattle.section_coupling.specs.Views.{section_by, end_by, connection_by, IsStep, IsAct};
 ghost use Rattle.section_coupling.specs.Sound.{SoundWire, SoundSide, SoundPair, SoundActed};
 

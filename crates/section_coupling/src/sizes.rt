@@ -7,7 +7,7 @@ ghost use Rattle.sccp_address.specs.Spelling.{address_spelling, title_octets, le
 ghost use Rattle.q713_shape.specs.Writing.{is_option};
 ghost use Rattle.section_model.specs.Opening.{Wanted, wish_of, fits, by_cr, by_user, slots_needed};
 ghost use Rattle.plant_core.specs.Rewriting.{called_onward};
-ghost use Rattle.section_coupling.specs.Sizes.{option_size, octet_size, options_size, are_fitting};
+ghost use Rattle.section_coupling.specs.Inner.Sizes.{option_size, octet_size, options_size, are_fitting};
 ghost use Rattle.section_coupling.specs.Openings.{seen_calling, seen_wanted, seen_outgoing};
 
 use crate::wish::{Calling, WantedView, WishView, wish_of};

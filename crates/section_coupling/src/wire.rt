@@ -10,7 +10,7 @@ ghost use Rattle.section_model.specs.Timing.{timers_after};
 ghost use Rattle.section_model.specs.declared.input.Input.TheVariants as input;
 ghost use Rattle.section_coupling.specs.Views.{section_at, section_by, IsAct};
 ghost use Rattle.section_coupling.specs.Sound.{IsCredit, SoundWire, SoundInput, SoundActed};
-ghost use Rattle.section_coupling.specs.Acts.{untimed_acts, section_acts, windows_begun, SetsUpOnce, TakesData};
+ghost use Rattle.section_coupling.specs.Inner.Acts.{untimed_acts, section_acts, windows_begun, SetsUpOnce, TakesData};
 
 use crate::clock::Clock;
 use crate::timers::Timers;

@@ -2,7 +2,7 @@
 ghost use Rattle.std.specs.Prelude.{◌≡◌, ◌≢◌, ℕ, ◌+◌, ◌<◌, ◌≤◌, [], map, vec_capacity, None, IfOk, All};
 ghost use Rattle.lane_gate.specs.Gates.{origin_of, callers_of, AreAllPasses, AreNumbered};
 ghost use Rattle.lane_gate.specs.Passes.{count_of, done_of};
-ghost use Rattle.lane_gate.specs.Rule.{whole_view};
+ghost use Rattle.lane_gate.specs.Inner.Rule.{whole_view};
 
 use super::{Gate, Place};
 use crate::lane::LaneState;

@@ -4,8 +4,8 @@ ghost use Rattle.atomic_table.specs.Table.{Allows};
 ghost use Rattle.lane_gate.specs.Gates.{origin_of, IsPassOf};
 ghost use Rattle.lane_gate.specs.Passes.{view_of, done_of, IsSamePass, TellsWhy};
 ghost use Rattle.lane_gate.specs.Plan.{IsNext};
-ghost use Rattle.lane_gate.specs.Rule.{IsKept, HasEntered, holding, turn_given_back};
-ghost use Rattle.lane_gate.specs.Views.{IsIdle, tried_view, done_in};
+ghost use Rattle.lane_gate.specs.Inner.Rule.{IsKept, HasEntered, holding, turn_given_back};
+ghost use Rattle.lane_gate.specs.Inner.Views.{IsIdle, tried_view, done_in};
 
 use super::{Gate, Place};
 use crate::lane::LaneState;

@@ -1,7 +1,7 @@
 use Rattle.std.proofs.Common.{◌≡◌, ◌++◌, sym, subst}
 use Rattle.std.specs.Prelude.{IfOk}
-use Rattle.conn_lane.specs.Seated.{AreOrderly}
-use Rattle.conn_lane.specs.Views.{OpeningsState, news}
+use Rattle.conn_lane.specs.Inner.Seated.{AreOrderly}
+use Rattle.conn_lane.specs.Inner.Views.{OpeningsState, news}
 use Rattle.conn_lane.proofs.lane.joined.Goals as goal
 
 pub with-requires-clause-orderly : goal.with-requires-clause-orderly

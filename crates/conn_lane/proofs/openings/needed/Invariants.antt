@@ -1,6 +1,6 @@
 use Rattle.std.proofs.Common.{◌≡◌}
-use Rattle.conn_lane.specs.Remnants.{needed}
-use Rattle.conn_lane.specs.Views.{remnants_at}
+use Rattle.conn_lane.specs.Inner.Remnants.{needed}
+use Rattle.conn_lane.specs.Inner.Views.{remnants_at}
 use Rattle.conn_lane.proofs.openings.needed.Given as goal
 
 -- what is needed of the openings so far

@@ -1,8 +1,8 @@
 use Rattle.std.proofs.Common.{subst, All}
 use Rattle.std.proofs.lemmas.List.Elements.{All-head, All-tail}
 use Rattle.relay_base.specs.declared.words.Event.TheVariants.{Tick}
-use Rattle.conn_lane.specs.Seated.{IsSeated}
-use Rattle.conn_lane.specs.Views.{remnant_at, remnants_at}
+use Rattle.conn_lane.specs.Inner.Seated.{IsSeated}
+use Rattle.conn_lane.specs.Inner.Views.{remnant_at, remnants_at}
 use Rattle.conn_lane.proofs.Parts.{keeps_step, all_step}
 use Rattle.conn_lane.proofs.openings.tick_each.Goals as goal
 

@@ -1,8 +1,8 @@
 use Rattle.std.proofs.Common.{◌≡◌, ◌+◌, map, All}
 use Rattle.relay_base.specs.declared.words.Event.TheVariants.{Tick}
-use Rattle.conn_lane.specs.Remnants.{remnant_after, all_parts}
-use Rattle.conn_lane.specs.Seated.{IsSeated}
-use Rattle.conn_lane.specs.Views.{remnants_at}
+use Rattle.conn_lane.specs.Inner.Remnants.{remnant_after, all_parts}
+use Rattle.conn_lane.specs.Inner.Seated.{IsSeated}
+use Rattle.conn_lane.specs.Inner.Views.{remnants_at}
 use Rattle.conn_lane.proofs.openings.tick_each.Given as goal
 
 -- what was made of the openings so far

@@ -1,5 +1,5 @@
 use Rattle.std.proofs.Common.{ap, sym, ◌∙◌}
-use Rattle.section_coupling.specs.Sizes.{are_fitting}
+use Rattle.section_coupling.specs.Inner.Sizes.{are_fitting}
 use Rattle.section_coupling.specs.Openings.{seen_wanted}
 use Rattle.section_coupling.proofs.Fitting.{fits-allowed, fits-barred}
 use Rattle.section_coupling.proofs.sizes.fits.Goals as goal

@@ -1,5 +1,5 @@
 use Rattle.std.proofs.Common.{◌≡◌, ◌<◌, ◌-◌, not, [], length, refl, sym, subst, ap, ◌∙◌, arith}
-use Rattle.conn_lane.specs.Index.{unmarked}
+use Rattle.conn_lane.specs.Inner.Index.{unmarked}
 use Rattle.conn_lane.proofs.Marked.{marked_more}
 use Rattle.conn_lane.proofs.index.Index.advance.Goals as goal
 

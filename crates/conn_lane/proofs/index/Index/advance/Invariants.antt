@@ -1,5 +1,5 @@
 use Rattle.std.proofs.Common.{◌≡◌, ◌≤◌, ◌-◌, []}
-use Rattle.conn_lane.specs.Index.{unmarked}
+use Rattle.conn_lane.specs.Inner.Index.{unmarked}
 use Rattle.conn_lane.proofs.index.Index.advance.Given as goal
 
 -- no slot below this one is free

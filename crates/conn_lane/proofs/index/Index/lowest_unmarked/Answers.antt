@@ -1,6 +1,6 @@
 use Rattle.std.proofs.Common.{◌≡◌, ◌-◌, [], ◌∷◌, ◌++◌, not, true, false, arith, sym, ap, subst, ◌∙◌}
 use Rattle.conn_lane.proofs.Marked.{found_none, found_early, found_here, found_later, is_found}
-use Rattle.conn_lane.specs.Index.{lowest_unmarked, unmarked}
+use Rattle.conn_lane.specs.Inner.Index.{lowest_unmarked, unmarked}
 use Rattle.conn_lane.proofs.index.Index.lowest_unmarked.Goals as goal
 use Rattle.conn_lane.proofs.index.Index.lowest_unmarked.Goals.{then-is_none+in_ok-push, else-is_none}
 

@@ -1,5 +1,5 @@
 use Rattle.std.proofs.Common.{◌≡◌, ◌-◌}
-use Rattle.conn_lane.specs.Index.{lowest_unmarked}
+use Rattle.conn_lane.specs.Inner.Index.{lowest_unmarked}
 use Rattle.conn_lane.proofs.index.Index.lowest_unmarked.Given as goal
 
 -- what was found is what the slots so far give

@@ -1,6 +1,6 @@
 use Rattle.std.proofs.Common.{[], sym, subst, take_all}
-use Rattle.conn_lane.specs.Index.{IsIndexOf}
-use Rattle.conn_lane.specs.Views.{remnants_at}
+use Rattle.conn_lane.specs.Inner.Index.{IsIndexOf}
+use Rattle.conn_lane.specs.Inner.Views.{remnants_at}
 use Rattle.conn_lane.proofs.Indexed.{indexed_none, indexed_next}
 use Rattle.conn_lane.proofs.index.Index.of.Goals as goal
 

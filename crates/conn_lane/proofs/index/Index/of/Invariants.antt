@@ -1,6 +1,6 @@
 use Rattle.std.proofs.Common.{take}
-use Rattle.conn_lane.specs.Index.{IsIndexOf}
-use Rattle.conn_lane.specs.Views.{remnants_at}
+use Rattle.conn_lane.specs.Inner.Index.{IsIndexOf}
+use Rattle.conn_lane.specs.Inner.Views.{remnants_at}
 use Rattle.conn_lane.proofs.index.Index.of.Given as goal
 
 -- the openings so far are noted

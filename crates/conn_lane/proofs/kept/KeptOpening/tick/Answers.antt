@@ -1,6 +1,6 @@
 use Rattle.std.proofs.Common.{subst, ap, ◌∙◌, not}
 use Rattle.relay_base.specs.declared.words.Event.TheVariants.{Tick}
-use Rattle.conn_lane.specs.Views.{HearsAt}
+use Rattle.conn_lane.specs.Inner.Views.{HearsAt}
 use Rattle.conn_lane.proofs.Holds.{hears_boxed}
 use Rattle.conn_lane.proofs.kept.KeptOpening.tick.Goals as goal
 

@@ -2,7 +2,7 @@ use Rattle.std.proofs.Common.{◌≡◌, sym, subst, ap, ◌∙◌, refl}
 use Rattle.relay_base.specs.declared.errors.Memory.{Memory}
 use Rattle.std.specs.Prelude.{Some, None}
 use Rattle.conn_lane.specs.Lanes.{ConnLaneState, ConnLaneTakes, conn_asked_of}
-use Rattle.conn_lane.specs.Turns.{IsConnLane}
+use Rattle.conn_lane.specs.Inner.Turns.{IsConnLane}
 use Rattle.conn_lane.proofs.LaneGrows.{lane_spent, lane_grows, on_err}
 use Rattle.conn_lane.proofs.lane.ConnLane.step.Goals as goal
 

@@ -1,5 +1,5 @@
 use Rattle.std.proofs.Common.{sym, subst}
-use Rattle.conn_lane.specs.Grown.{Comes}
+use Rattle.conn_lane.specs.Inner.Grown.{Comes}
 use Rattle.conn_lane.proofs.lane.Context.entry.Goals as goal
 
 pub returns-clause-grows : goal.returns-clause-grows

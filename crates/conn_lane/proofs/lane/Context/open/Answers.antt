@@ -1,7 +1,7 @@
 use Rattle.std.proofs.Common.{refl, subst, map}
 use Rattle.plant_core.specs.Asking.{answer_in}
-use Rattle.conn_lane.specs.Remnants.{remnant_after}
-use Rattle.conn_lane.specs.Seated.{AreOrderly}
+use Rattle.conn_lane.specs.Inner.Remnants.{remnant_after}
+use Rattle.conn_lane.specs.Inner.Seated.{AreOrderly}
 use Rattle.conn_lane.proofs.LaneGrows.{opens_answered, open_untimed, open_orderly, open_comes}
 use Rattle.conn_lane.proofs.lane.Context.open.Goals as goal
 

@@ -1,8 +1,8 @@
 use Rattle.std.proofs.Common.{map, arith, sym, subst, ap, ap₂, ◌∙◌}
 use Rattle.std.proofs.lemmas.List.{length-map}
-use Rattle.conn_lane.specs.Remnants.{remnant_after, first_part}
-use Rattle.conn_lane.specs.Seated.{AreOrderly}
-use Rattle.conn_lane.specs.Views.{remnant_at, remnants_at}
+use Rattle.conn_lane.specs.Inner.Remnants.{remnant_after, first_part}
+use Rattle.conn_lane.specs.Inner.Seated.{AreOrderly}
+use Rattle.conn_lane.specs.Inner.Views.{remnant_at, remnants_at}
 use Rattle.conn_lane.proofs.Found.{found_at, hears_there, part_there, after_there, index_there, written_there}
 use Rattle.conn_lane.proofs.NewSeats.{orderly_after}
 use Rattle.conn_lane.proofs.openings.Openings.hear.Goals as goal

@@ -1,7 +1,7 @@
 use Rattle.std.proofs.Common.{◌≡◌, subst}
 use Rattle.std.specs.Result.{IfOk}
-use Rattle.conn_lane.specs.Remnants.{lowest_in}
-use Rattle.conn_lane.specs.Views.{remnants_at}
+use Rattle.conn_lane.specs.Inner.Remnants.{lowest_in}
+use Rattle.conn_lane.specs.Inner.Views.{remnants_at}
 use Rattle.conn_lane.proofs.openings.Openings.lowest_free.Goals as goal
 
 pub returns : goal.returns

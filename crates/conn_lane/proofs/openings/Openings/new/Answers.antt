@@ -1,7 +1,7 @@
 use Rattle.std.proofs.Common.{sym, subst, []}
-use Rattle.conn_lane.specs.Index.{IsIndexOf}
-use Rattle.conn_lane.specs.Seated.{AreOrderly}
-use Rattle.conn_lane.specs.Views.{remnants_at}
+use Rattle.conn_lane.specs.Inner.Index.{IsIndexOf}
+use Rattle.conn_lane.specs.Inner.Seated.{AreOrderly}
+use Rattle.conn_lane.specs.Inner.Views.{remnants_at}
 use Rattle.conn_lane.proofs.Indexed.{indexed_none}
 use Rattle.conn_lane.proofs.NewSeats.{orderly_none}
 use Rattle.conn_lane.proofs.openings.Openings.new.Goals as goal

@@ -1,6 +1,6 @@
 use Rattle.std.proofs.Common.{◌≡◌, ◌<◌, length, arith, sym, subst, ◌∙◌, true, false}
-use Rattle.conn_lane.specs.Finding.{IsFoundAt, IsHeardAt, IsUnheard}
-use Rattle.conn_lane.specs.Views.{remnants_at}
+use Rattle.conn_lane.specs.Inner.Finding.{IsFoundAt, IsHeardAt, IsUnheard}
+use Rattle.conn_lane.specs.Inner.Views.{remnants_at}
 use Rattle.conn_lane.proofs.Found.{found_unnamed, found_free, found_within, found_heard, found_deaf}
 use Rattle.conn_lane.proofs.openings.Openings.place_of.Goals as goal
 

@@ -1,8 +1,8 @@
 use Rattle.std.proofs.Common.{sym, subst, ap, ◌∙◌}
 use Rattle.relay_base.specs.declared.words.Event.TheVariants.{Tick}
-use Rattle.conn_lane.specs.Remnants.{needed}
-use Rattle.conn_lane.specs.Seated.{AreOrderly}
-use Rattle.conn_lane.specs.Views.{remnants_at}
+use Rattle.conn_lane.specs.Inner.Remnants.{needed}
+use Rattle.conn_lane.specs.Inner.Seated.{AreOrderly}
+use Rattle.conn_lane.specs.Inner.Views.{remnants_at}
 use Rattle.conn_lane.proofs.NewSeats.{orderly_after, orderly_needed}
 use Rattle.conn_lane.proofs.openings.Openings.tick.Goals as goal
 

@@ -1,9 +1,9 @@
 use Rattle.std.proofs.Common.{sym, subst, ap, ◌≡◌, ◌++◌, ◌∷◌, [], List, ◌∙◌, arith, vec_len}
 use Rattle.std.proofs.lemmas.List.{map-append, length-map}
-use Rattle.conn_lane.specs.Index.{IsIndexOf, place_at, marked}
-use Rattle.conn_lane.specs.Remnants.{Remnant, takes_slot}
-use Rattle.conn_lane.specs.Seated.{AreOrderly}
-use Rattle.conn_lane.specs.Views.{remnant_at, remnants_at, news}
+use Rattle.conn_lane.specs.Inner.Index.{IsIndexOf, place_at, marked}
+use Rattle.conn_lane.specs.Inner.Remnants.{Remnant, takes_slot}
+use Rattle.conn_lane.specs.Inner.Seated.{AreOrderly}
+use Rattle.conn_lane.specs.Inner.Views.{remnant_at, remnants_at, news}
 use Rattle.conn_lane.proofs.Indexed.{indexed_more}
 use Rattle.conn_lane.proofs.openings.Openings.with.Goals as goal
 

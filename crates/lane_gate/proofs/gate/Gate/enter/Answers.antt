@@ -1,6 +1,6 @@
 use Rattle.std.proofs.Common.{rules, ◌∷◌, ℕ, List, sym, ap, ◌∙◌, subst, Option, Some}
 use Rattle.atomic_table.specs.Table.{rest}
-use Rattle.lane_gate.specs.Views.{IsIdle}
+use Rattle.lane_gate.specs.Inner.Views.{IsIdle}
 use Rattle.lane_gate.proofs.TurnKeeps.{enters}
 use Rattle.lane_gate.proofs.gate.Gate.enter.Goals as goal
 

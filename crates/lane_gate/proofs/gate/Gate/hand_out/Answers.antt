@@ -5,7 +5,7 @@ use Rattle.lane_gate.specs.declared.table.View.{View}
 use Rattle.lane_gate.specs.declared.pass.Pass.{Pass}
 use Rattle.lane_gate.specs.Gates.{callers_of, IsPassOf, AreAllPasses, AreNumbered}
 use Rattle.lane_gate.specs.Passes.{done_of}
-use Rattle.lane_gate.specs.Views.{only_view, done_in, first_count}
+use Rattle.lane_gate.specs.Inner.Views.{only_view, done_in, first_count}
 use Rattle.lane_gate.proofs.CallerCounts.{fresh_step}
 use Rattle.lane_gate.proofs.PassLists.{one_more, each_there, front_idle, behind_new}
 use Rattle.lane_gate.proofs.TurnKeeps.{cuts}

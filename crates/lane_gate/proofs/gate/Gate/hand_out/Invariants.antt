@@ -1,7 +1,7 @@
 use Rattle.std.proofs.Common.{◌≡◌, ◌-◌, ◌≤◌, [], vec_capacity, All}
 use Rattle.lane_gate.specs.Gates.{IsPassOf, AreNumbered}
 use Rattle.lane_gate.specs.Passes.{done_of}
-use Rattle.lane_gate.specs.Views.{fresh_counts, new_view}
+use Rattle.lane_gate.specs.Inner.Views.{fresh_counts, new_view}
 use Rattle.lane_gate.proofs.gate.Gate.hand_out.Given as goal
 
 abbrev pub invariant-loop-number : goal.invariant-loop-number

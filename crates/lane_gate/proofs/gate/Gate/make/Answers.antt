@@ -1,7 +1,7 @@
 use Rattle.std.proofs.Common.{◌≡◌, List, [], ◌∷◌, ◌++◌, sym, ap, ◌∙◌, subst, Option, Some}
 use Rattle.atomic_table.specs.Table.{opening}
 use Rattle.lane_gate.specs.declared.table.Opening.{Opening}
-use Rattle.lane_gate.specs.Rule.{IsKept, whole_view}
+use Rattle.lane_gate.specs.Inner.Rule.{IsKept, whole_view}
 use Rattle.lane_gate.proofs.TurnKeeps.{opens}
 use Rattle.lane_gate.proofs.gate.Gate.make.Goals as goal
 

@@ -3,7 +3,7 @@ use Rattle.std.specs.Prelude.{◌≡◌, ◌≢◌, ◌⊎◌, ℕ, ◌+◌, ◌
 use mathlib.Core.Option.{some, none}
 use lib.ListN.{get_elem?}
 use Rattle.atomic_table.specs.Table.{State, Me, Step, step}
-use Rattle.lane_gate.specs.Views.{fresh_counts, new_view, tried_view, resting_view, caller_in, done_in}
+use Rattle.lane_gate.specs.Inner.Views.{fresh_counts, new_view, tried_view, resting_view, caller_in, done_in}
 use Rattle.lane_gate.specs.declared.table.View.{View}
 use Rattle.lane_gate.specs.declared.table.Opening.{Opening}
 

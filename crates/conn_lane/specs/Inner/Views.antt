@@ -5,7 +5,7 @@ use Rattle.relay_base.specs.declared.words.Event.TheVariants.{Tick}
 use Rattle.section_model.specs.Step.{hears, is_over, connection_step}
 use Rattle.section_coupling.specs.Duos.{DuoState, duo_at}
 use Rattle.conn_lane.specs.declared.kept.Hold.{Hold}
-use Rattle.conn_lane.specs.Remnants.{Live, Seat, Remnant, remnant_of}
+use Rattle.conn_lane.specs.Inner.Remnants.{Live, Seat, Remnant, remnant_of}
 
 pub record KeptOpeningState : Type 0 where
   pub duo : Option DuoState

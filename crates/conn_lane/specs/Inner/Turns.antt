@@ -12,10 +12,10 @@ use Rattle.section_model.specs.Laws.{openings_from}
 use Rattle.section_model.specs.Opening.{Wish, by_cr, by_user, no_wish, slots_needed, opened, Opened}
 use Rattle.section_model.specs.Lane.{Lane, stray_answer}
 use Rattle.section_coupling.specs.Sound.{IsCredit}
-use Rattle.conn_lane.specs.Remnants.{Remnant, remnant_of, remnant_after, first_part, all_parts, lowest_in, needed}
+use Rattle.conn_lane.specs.Inner.Remnants.{Remnant, remnant_of, remnant_after, first_part, all_parts, lowest_in, needed}
 use Rattle.conn_lane.specs.Laws.{unheard}
 use Rattle.conn_lane.specs.Journals.{IsConnJournal, lane_of}
-use Rattle.conn_lane.specs.Views.{OpeningsState}
+use Rattle.conn_lane.specs.Inner.Views.{OpeningsState}
 
 -- the opening for a wish, with the lowest free references
 abbrev pub opened_in : Lane → List Remnant → Wish → Option Answer → Opened

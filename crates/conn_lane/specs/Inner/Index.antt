@@ -3,8 +3,8 @@ use Rattle.std.specs.Prelude.{◌≡◌, ℕ, ◌+◌, ◌*◌, ◌<◌, not, Bo
 use Rattle.std.specs.List.{range_with_len}
 use Rattle.section_model.specs.Lane.{slot_of}
 use Rattle.conn_lane.specs.declared.kept.Hold.{Hold}
-use Rattle.conn_lane.specs.Remnants.{Remnant, takes_slot, holds_out}
-use Rattle.conn_lane.specs.Views.{seat_at}
+use Rattle.conn_lane.specs.Inner.Remnants.{Remnant, takes_slot, holds_out}
+use Rattle.conn_lane.specs.Inner.Views.{seat_at}
 
 abbrev pub place_at : List (Option ℕ) → ℕ → Option ℕ
 place_at places slot = get_or places slot None

@@ -7,7 +7,7 @@ use Rattle.section_model.specs.Ends.{End}
 use Rattle.section_model.specs.Parameters.{arrival_in}
 use Rattle.section_model.specs.Step.{destination_of, named, end_is_gone, is_over}
 use Rattle.section_model.specs.Lane.{reference_of, slot_of}
-use Rattle.conn_lane.specs.Remnants.{Live, Seat, Remnant, takes_slot}
+use Rattle.conn_lane.specs.Inner.Remnants.{Live, Seat, Remnant, takes_slot}
 
 -- the seat of an end has its reference, and is frozen exactly once the end is gone
 abbrev pub SeatIs : End → Option Seat → Type 0

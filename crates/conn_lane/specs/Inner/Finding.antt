@@ -1,7 +1,7 @@
 -- Where the connection that hears an event stands among what is kept.
 use Rattle.std.specs.Prelude.{◌≡◌, ℕ, ◌<◌, true, List, map, length, get_or, slice_set, Option, Some, None, is_some}
 use Rattle.relay_base.specs.declared.words.Event.{Event}
-use Rattle.conn_lane.specs.Remnants.{Remnant, remnant_after, part_at, first_part}
+use Rattle.conn_lane.specs.Inner.Remnants.{Remnant, remnant_after, part_at, first_part}
 
 -- nobody hears it, and all is as before
 pub record IsUnheard (event : Event) (keeps : List Remnant) : Type 0 where

@@ -11,11 +11,11 @@ use Rattle.section_model.specs.Opening.{wish_of}
 use Rattle.section_coupling.specs.Duos.{taken_after}
 use Rattle.conn_lane.specs.declared.lane.Context.{Context}
 use Rattle.conn_lane.specs.declared.lane.Turn.{Turn}
-use Rattle.conn_lane.specs.Remnants.{needed}
+use Rattle.conn_lane.specs.Inner.Remnants.{needed}
 use Rattle.conn_lane.specs.Journals.{lane_of}
 use Rattle.conn_lane.specs.Lanes.{conn_asked_of}
-use Rattle.conn_lane.specs.Views.{OpeningsState}
-use Rattle.conn_lane.specs.Turns.{outs_in, keeps_in}
+use Rattle.conn_lane.specs.Inner.Views.{OpeningsState}
+use Rattle.conn_lane.specs.Inner.Turns.{outs_in, keeps_in}
 
 -- what comes of an event: the routing that it asks, the outputs, and what is kept
 pub record Comes (plant : PlantState) (head : LaneHead) (number : ℕ) (event : Event) (before after : OpeningsState) (routing : Option Asked) (outputs : List Output) : Type 0 where

@@ -1,0 +1,4 @@
+pub mod Acts
+pub mod Comings
+pub mod Resting
+pub mod Sizes
