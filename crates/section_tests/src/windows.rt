@@ -114,11 +114,10 @@ fn numbered(alloc: Global, octet: u8) -> Result<Outs, Memory> {
 fn numbers_begin_anew_at_128(rt: HostRuntime) -> Result<(), Fail> {
     let alloc = rt.alloc();
     let mut section = Section::new(alloc, 127)?;
-    let hand = unit(alloc)?;
     let mut octet = 0;
     for count in 0..130u8 {
         assert_eq!(rt; octet == 0xfe, count == 127);
-        section.pass(alloc, Cell::PassUnit, &hand)?;
+        section.pass(alloc, Cell::PassUnit, &unit(alloc)?)?;
         assert_outs(&rt, &section.leave(alloc)?, &numbered(alloc, octet)?);
         octet = octet.wrapping_add(2);
         section.acknowledge(alloc, octet)?;
