@@ -113,10 +113,10 @@ module _ {L P : Type 0} (plan : L → P) (taken : L → ℕ → ℕ) (key : Open
   }
 
   -- what is known of each lane with the plan of the table's lane
-  module _ (known : L → Type 0) (knows : (lane : L) → plan lane ≡ plan key.lane.value → known lane) where
+  module _ (known : L → Type 0) (knows : (lane : L) → plan lane ≡ plan key.lane.value → known lane) (callers : ℕ) (all : callers ≡ key.callers) where
     abbrev Entered : ℕ → ℕ → M → ℕ → St → Type 0
     Entered slots id m number s = (w : View) × (a : Act (Option L)) × Valid s.homes m.1 a × Rule (stepped s 0 (either (eqb (get_or s.words 0 0) 0) (number + 1) (get_or s.words 0 0)) id m.1 w a)
-        × Enters taken known (step slots 0 0 (number + 1) none) m (get_or s.words 0 0) (w, carried_after m.1 a)
+        × Enters taken known callers (step slots 0 0 (number + 1) none) m (get_or s.words 0 0) (w, carried_after m.1 a)
 
     enters_free : (slots id : ℕ) (m : M) (number : ℕ) → IsIdle m number → (s : St) (r : Rule s) → get_elem? s.views id ≡ some m.0 → IsFree plan taken key s r.account → Entered slots id m number s
     enters_free slots id m number calm s r at f =
@@ -157,6 +157,7 @@ module _ {L P : Type 0} (plan : L → P) (taken : L → ℕ → ℕ) (key : Open
             (λ pos. (
               refl,
               omega arith,
+              omega arith,
               (λ e. let same : t.caller ≡ number = omega arith in
                   not_calm s r.account m.0 (ap (λ (v : View). v.noted) calm.0) id at t
                   (r.apart t.seat id number t.done (done_in m.0) t.view m.0 t.there at (subst (λ (c : ℕ). Contains t.view.counts (c, t.done)) same holder) (rests_in m.0 number calm.0))),
@@ -165,7 +166,7 @@ module _ {L P : Type 0} (plan : L → P) (taken : L → ℕ → ℕ) (key : Open
         )
 
     pub enters : (slots id : ℕ) (m : M) (number : ℕ) → IsIdle m number
-        → Allows Rule slots id m 0 (λ n. either (eqb n 0) (number + 1) n) (Enters taken known (step slots 0 0 (number + 1) none) m)
+        → Allows Rule slots id m 0 (λ n. either (eqb n 0) (number + 1) n) (Enters taken known callers (step slots 0 0 (number + 1) none) m)
     enters slots id m number calm s r deep at _ = ⊎_elim (enters_free slots id m number calm s r at) (enters_busy slots id m number calm s r at) r.stands
 
   -- the seat `id` of this caller, which noted this, has the lane at hand

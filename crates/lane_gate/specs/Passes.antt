@@ -1,5 +1,5 @@
 -- What contracts see of a pass.
-use Rattle.std.specs.Prelude.{◌≡◌, ◌≢◌, ℕ, ◌+◌}
+use Rattle.std.specs.Prelude.{◌≡◌, ◌≢◌, ℕ, ◌+◌, ◌<◌}
 use Rattle.lane_gate.specs.Inner.Views.{only_view, done_in}
 use Rattle.lane_gate.specs.declared.table.View.{View}
 use Rattle.lane_gate.specs.declared.pass.Pass.{Pass}
@@ -29,7 +29,12 @@ pub record IsSamePass (old new : Pass) : Type 0 where
   pub number : new.number ≡ old.number
   pub gate : new.badge.table_id ≡ old.badge.table_id
 
--- the event comes back. Where the lane was busy, this call tried its turn once, and found there the number of another caller
-abbrev pub TellsWhy : {E : Type 0} → ℕ → View → View → E → Refused E → Type 0
-TellsWhy number old new event (Busy back holder) = (back ≡ event) × (new.tries ≡ old.tries + 1) × (new.saw ≡ holder + 1) × (holder ≢ number)
-TellsWhy number old new event (Memory back) = back ≡ event
+-- the turn was tried in a call, and the last time it was free
+pub record HadItsTurn (old new : View) : Type 0 where
+  pub tried : old.tries < new.tries
+  pub free : new.saw ≡ 0
+
+-- The event comes back, and this call tried the turn once. Where the lane was busy, it found there the number of another of the gate's callers; where memory ran out, it had the turn.
+abbrev pub TellsWhy : {E : Type 0} → ℕ → ℕ → View → View → E → Refused E → Type 0
+TellsWhy callers number old new event (Busy back holder) = (back ≡ event) × (new.tries ≡ old.tries + 1) × (new.saw ≡ holder + 1) × (holder ≢ number) × (holder < callers)
+TellsWhy callers number old new event (Memory back) = (back ≡ event) × (new.tries ≡ old.tries + 1) × (new.saw ≡ 0)

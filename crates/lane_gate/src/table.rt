@@ -47,13 +47,19 @@ impl<L: LaneState> TableRule<Option<L>, View, Opening<L>> for Turns<L> {
     ghost first = { whole_view };
 }
 
-/// What is known of each lane that is taken out of one table. A call picks it.
+/// What is known of each lane that is taken out of one table, and how many callers the table has. A call picks both.
 pub trait Known<L> {
+    ghost use Rattle.std.specs.Prelude.{ℕ};
+
     ghost known: { L → Type 0 };
+
+    ghost callers: { ℕ };
 }
 
 impl<L> Known<L> for Brand {
     ghost known = { λ _. Unit {0} };
+
+    ghost callers = { 9 };
 }
 
 /// The turn is tried.
@@ -64,7 +70,7 @@ pub(crate) struct Enter<L, K> {
 impl<L: LaneState, K: Known<L>> Play<Option<L>, View> for Enter<L, K> {
     ghost use Rattle.lane_gate.specs.Inner.Rule.{Enters};
 
-    ghost then = { Enters L.taken K.known };
+    ghost then = { Enters L.taken K.known K.callers };
 }
 
 /// The lane goes home with one event more.

@@ -52,11 +52,11 @@ module _ {L : Type 0} (taken : L → ℕ → ℕ) where
     pub counted : (j : ℕ) → taken lane j ≡ slice_index noted j
     pub own : slice_index noted (caller_in v) ≡ done_in v
 
-  -- the turn was free, and the lane was taken with it; or another caller has it
-  abbrev pub Enters : (L → Type 0) → Step (Option L) → Me (Option L) View → ℕ → Me (Option L) View → Type 0
-  Enters known st m found m' =
+  -- the turn was free, and the lane was taken with it; or another one of so many callers has it
+  abbrev pub Enters : (L → Type 0) → ℕ → Step (Option L) → Me (Option L) View → ℕ → Me (Option L) View → Type 0
+  Enters known callers st m found m' =
       (found ≡ 0 → (lane : L) × (noted : List ℕ) × (m' ≡ (tried_view m.0 0 (Some noted), (0, Some lane) ∷ m.1)) × known lane × IsNoted m.0 noted lane)
-      × (0 < found → (m' ≡ (tried_view m.0 found None, m.1)) × (found ≤ 9) × (found ≢ caller_in m.0 + 1))
+      × (0 < found → (m' ≡ (tried_view m.0 found None, m.1)) × (callers ≤ 9) × (found ≤ callers) × (found ≢ caller_in m.0 + 1))
 
   -- the seat has taken this lane out, and left nothing in its slot
   pub record HasEntered (old new : Me (Option L) View) (lane : L) : Type 0 where

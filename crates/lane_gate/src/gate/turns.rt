@@ -1,8 +1,8 @@
 //! Taking turns.
-ghost use Rattle.std.specs.Prelude.{◌≡◌, ◌≢◌, ◌+◌, [], ◌∷◌, Some, None, IfOk, IfErr, OnOk, OnErr};
+ghost use Rattle.std.specs.Prelude.{◌≡◌, ◌≢◌, ◌+◌, ◌<◌, [], ◌∷◌, Some, None, IfOk, IfErr, OnOk, OnErr};
 ghost use Rattle.atomic_table.specs.Table.{Allows};
-ghost use Rattle.lane_gate.specs.Gates.{origin_of, IsPassOf};
-ghost use Rattle.lane_gate.specs.Passes.{view_of, done_of, IsSamePass, TellsWhy};
+ghost use Rattle.lane_gate.specs.Gates.{origin_of, callers_of, IsPassOf};
+ghost use Rattle.lane_gate.specs.Passes.{view_of, done_of, HadItsTurn, IsSamePass, TellsWhy};
 ghost use Rattle.lane_gate.specs.Plan.{IsNext};
 ghost use Rattle.lane_gate.specs.Inner.Rule.{IsKept, HasEntered, holding, turn_given_back};
 ghost use Rattle.lane_gate.specs.Inner.Views.{IsIdle, tried_view, done_in};
@@ -24,11 +24,13 @@ impl<L: LaneState> Gate<L> {
         requires idle { IsIdle seat.old.me number }
         requires known { (lane : L) →
             L.plan lane ≡ L.plan (origin_of self.now) → K.known lane }
+        requires callers { K.callers ≡ callers_of self.now }
         ensures own { seat.new.table_id ≡ seat.old.table_id }
         ensures ok { IfOk result (λ lane.
             HasEntered L.taken seat.old.me seat.new.me lane × K.known lane) }
         ensures busy { IfErr result (λ holder.
-            (seat.new.me ≡ (tried_view seat.old.me.0 (holder + 1) None, [])) × (holder ≢ number)) }
+            (seat.new.me ≡ (tried_view seat.old.me.0 (holder + 1) None, [])) × (holder ≢ number)
+            × (holder < K.callers)) }
     {
         let shared = &self.table.shared;
         let found = shared.compare_exchange::<Enter<L, K>>(seat, 0, 0, u64::from(number) + 1);
@@ -75,7 +77,8 @@ impl<L: LaneState> Gate<L> {
         ensures idle { IsIdle seat.new.me number }
         ensures ok { OnOk result (done_in seat.new.me.0 ≡ done_in seat.old.me.0 + 1) }
         ensures err { OnErr result (done_in seat.new.me.0 ≡ done_in seat.old.me.0) }
-        ensures why { IfErr result (TellsWhy number seat.old.me.0 seat.new.me.0 event) }
+        ensures why { let callers = callers_of self.now in
+            IfErr result (TellsWhy callers number seat.old.me.0 seat.new.me.0 event) }
     {
         match self.enter::<Brand>(seat, number) {
             Err(holder) => Err(Refused::Busy { event, holder }),
@@ -105,8 +108,8 @@ impl<L: LaneState> Gate<L> {
         ensures same { IsSamePass pass.old pass.new }
         ensures ok { OnOk result (done_of pass.new ≡ done_of pass.old + 1) }
         ensures err { OnErr result (done_of pass.new ≡ done_of pass.old) }
-        ensures why { let number = pass.old.number in
-            IfErr result (TellsWhy number (view_of pass.old) (view_of pass.new) event) }
+        ensures why { let callers = callers_of self.now in let number = pass.old.number in
+            IfErr result (TellsWhy callers number (view_of pass.old) (view_of pass.new) event) }
     {
         let number = pass.number();
         let mut seat = mem::replace(&mut pass.badge, Badge::blank()).into_seat();
@@ -115,7 +118,8 @@ impl<L: LaneState> Gate<L> {
         outcome
     }
 
-    /// Delivers the next event of the pass's link, and waits for the turn. After want of memory the pass counts what it did, and the lane has taken what it had.
+    /// Delivers the next event of the pass's link, and waits for the turn. It tells want of memory only where it had the turn; the pass then counts what it did, and the lane
+    /// has taken what it had.
     pub fn deliver<R: Wait>(
         &self,
         rt: &R,
@@ -129,6 +133,7 @@ impl<L: LaneState> Gate<L> {
         ensures same { IsSamePass pass.old pass.new }
         ensures ok { OnOk result (done_of pass.new ≡ done_of pass.old + 1) }
         ensures err { OnErr result (done_of pass.new ≡ done_of pass.old) }
+        ensures why { OnErr result (HadItsTurn (view_of pass.old) (view_of pass.new)) }
     {
         let mut event = event;
         for _ in rt.forever() {

@@ -8,7 +8,7 @@ pub compare_exchange-found-requires : goal.compare_exchange-found-requires
 compare_exchange-found-requires g c = (
   search rules,
   search rules,
-  enters g.L.LaneState.plan g.L.LaneState.taken _ g.K.Known.known c.requires.known _ _ _ c.from.result (subst (λ (n : ℕ). IsIdle c.args.seat.now.me n) (sym c.from.ensures) c.requires.idle),
+  enters g.L.LaneState.plan g.L.LaneState.taken _ g.K.Known.known c.requires.known g.K.Known.callers c.requires.callers _ _ _ c.from.result (subst (λ (n : ℕ). IsIdle c.args.seat.now.me n) (sym c.from.ensures) c.requires.idle),
 )
 
 pub exchange-requires : goal.exchange-requires
