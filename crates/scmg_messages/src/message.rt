@@ -1,5 +1,5 @@
 //! Messages of SCCP management (Q.713, 5): written, and read.
-ghost use Rattle.std.specs.Prelude.{◌≡◌, ◌++◌, IfOk, OnOk};
+ghost use Rattle.std.specs.Prelude.{◌≡◌, ◌++◌, IfOk, OnOk, OnErr};
 ghost use Rattle.std.specs.Option.{option_map};
 ghost use Rattle.scmg_messages.specs.Messages.{code_of, octets_of, sent, status_outputs, format_of, notice_in, is_for_management, data_in};
 
@@ -86,7 +86,7 @@ pub fn sent(alloc: Global, to: Pc, format: Format, ssn: Ssn, point: Pc) -> Resul
     })
 }
 
-/// Tells the origin of a message, with its link selection, that a local subsystem is prohibited, where one is named.
+/// Tells the origin of a message, with its link selection, that a local subsystem is prohibited, where one is named. After want of memory `outs` is as before.
 #[tactic(auto, unfolding(crate::specs::Messages::status_outputs))]
 pub fn put_status(
     alloc: Global,
@@ -96,7 +96,8 @@ pub fn put_status(
     sls: Sls,
     local: Option<Ssn>,
 ) -> Result<(), Memory>
-    ensures { OnOk result (outs.new ≡ outs.old ++ status_outputs own opc sls local) }
+    ensures ok { OnOk result (outs.new ≡ outs.old ++ status_outputs own opc sls local) }
+    ensures err { OnErr result (outs.new ≡ outs.old) }
 {
     let Some(ssn) = local else {
         return Ok(());
