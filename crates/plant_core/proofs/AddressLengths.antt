@@ -18,7 +18,7 @@ use Rattle.plant_core.specs.declared.answer.Rewrite.TheVariants.{Keep, Set}
 use Rattle.plant_core.specs.Rewriting.{taken_ssn, address_after, onward_by, called_onward}
 
 -- a step that follows keeps what the first one gave
-bound : {A B E : Type 0} (P : A → Type 0) (Q : B → Type 0) (r : Result A E) (f : A → Result B E) → IfOk r P → ((x : A) → P x → IfOk (f x) Q) → IfOk (r >>= f) Q
+pub bound : {A B E : Type 0} (P : A → Type 0) (Q : B → Type 0) (r : Result A E) (f : A → Result B E) → IfOk r P → ((x : A) → P x → IfOk (f x) Q) → IfOk (r >>= f) Q
 bound P Q (Ok x) f first next = next x first
 bound P Q (Err e) f first next = tt
 
@@ -148,4 +148,13 @@ length-called_onward rewrite octets = by_address (address_of octets) (address-wi
   where
     by_address : (a : Result Form AddressFault) → IfOk a (AddressWithin octets) → length (onward_by a rewrite octets) ≤ length octets + 1
     by_address (Ok a) within = omega (arith, after-within rewrite a)
+    by_address (Err fault) within = omega arith
+
+-- and none where it goes on as it is
+pub length-called_kept : (octets : List ℕ) → length (called_onward Keep octets) ≤ length octets
+unfolding called_onward
+length-called_kept octets = by_address (address_of octets) (address-within octets)
+  where
+    by_address : (a : Result Form AddressFault) → IfOk a (AddressWithin octets) → length (onward_by a Keep octets) ≤ length octets
+    by_address (Ok a) within = within
     by_address (Err fault) within = omega arith

@@ -1,0 +1,35 @@
+-- The segments of a unit that a user gives (Q.714, 4.1.1): how long its addresses are as it goes on, and what that leaves for its data.
+use Rattle.std.specs.Prelude.{◌≡◌, ℕ, ◌+◌, ◌≤◌, Bool, List, length, Option, Some, None, Ok}
+use Rattle.relay_base.specs.declared.words.Request.{Request}
+use Rattle.sccp_address.specs.Form.{Form}
+use Rattle.sccp_address.specs.Parsing.{address_of}
+use Rattle.plant_core.specs.Plant.{RoutingData}
+use Rattle.plant_core.specs.Routing.{route_of}
+use Rattle.plant_core.specs.Rewriting.{called_onward}
+use Rattle.plant_core.specs.declared.answer.Answer.TheVariants.{Forward}
+use Rattle.plant_core.specs.declared.answer.Origin.{Origin}
+use Rattle.plant_core.specs.declared.answer.Origin.TheVariants.{User as FromUser}
+use Rattle.plant_core.specs.declared.answer.Rewrite.{Rewrite}
+use Rattle.plant_core.specs.declared.answer.Rewrite.TheVariants.{Set}
+use Rattle.connectionless.specs.Given.{Given, Outgoing, given_of, outgoing, segment_size, segment_count}
+
+-- at most 80 octets of addresses, so at least 171 octets of data in a full segment, and at most 15 segments
+pub record IsWithinFifteen (u : Outgoing) : Type 0 where
+  pub addresses : length u.called + length u.given.calling ≤ 80
+  pub size : 171 ≤ segment_size u
+  pub count : segment_count u ≤ 15
+
+pub record SegmentsAreFew : Type 0 where
+  -- an address that a translation changed has at most 17 octets as it goes on
+  pub translated :
+      (routing : RoutingData) (octets : List ℕ) (a : Form) (hop onward_hop : Option ℕ) (origin : Origin) (point : ℕ) (ssn : Option ℕ) (on_ssn : Bool)
+      → address_of octets ≡ Ok a
+      → route_of routing a hop origin ≡ Forward point (Set ssn on_ssn) onward_hop
+      → length (called_onward (Set ssn on_ssn) octets) ≤ 17
+  -- a unit in its ranges that goes on, whatever the routing data are
+  pub units :
+      (routing : RoutingData) (ssn : ℕ) (request : Request) (g : Given) (a : Form) (point reference : ℕ) (rewrite : Rewrite) (hop : Option ℕ)
+      → given_of ssn request ≡ Some g
+      → address_of g.called ≡ Ok a
+      → route_of routing a None FromUser ≡ Forward point rewrite hop
+      → IsWithinFifteen (outgoing g point rewrite reference)
