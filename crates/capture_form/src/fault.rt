@@ -2,8 +2,12 @@
 ghost use Rattle.std.specs.Prelude.{◌≡◌};
 ghost use Rattle.capture_form.specs.declared.fault.CaptureFault.TheVariants.{Memory};
 
+use crate::note::{head_word, limit_word, line_word};
 use node_head::HeadFault;
+use relay_base::Octets;
 use std::alloc::{AllocError, AllocFailed};
+use std::str;
+use thiserror::Error;
 
 /// What is wrong with a line.
 #[derive(Clone, Copy, Debug, PartialEq, Eq)]
@@ -29,7 +33,8 @@ pub enum LineKind {
 }
 
 /// What is wrong with which line, counted from 1 over the whole input.
-#[derive(Clone, Copy, Debug, PartialEq, Eq)]
+#[derive(Clone, Copy, Debug, PartialEq, Eq, Error)]
+#[error("line {line} {word}", word = line_word(*.kind))]
 pub struct LineFault {
     pub line: u32,
     pub kind: LineKind,
@@ -49,12 +54,21 @@ pub enum Limit {
 }
 
 /// Why a capture is not read.
-#[derive(Debug, PartialEq, Eq, Drop)]
+#[derive(Debug, PartialEq, Eq, Drop, Error)]
 pub enum CaptureFault {
+    #[error("head {word} {key}", word = head_word(.0.kind), key = key_text(&.0.key))]
     Head(HeadFault),
+    #[error(transparent)]
     Line(LineFault),
+    #[error("too long {word}", word = limit_word(*.0))]
     TooLong(Limit),
+    #[error("memory")]
     Memory,
+}
+
+/// The text of a key, which a head has from a TOML document.
+fn key_text(key: &Octets) -> &str {
+    str::from_utf8(key.as_slice()).unwrap_or("")
 }
 
 impl From<AllocError> for CaptureFault {

@@ -7,7 +7,7 @@ use node_head::{HeadFault, HeadKind};
 use relay_base::{Memory, Octets};
 use std::alloc::{AllocError, Global};
 
-fn head_word(kind: HeadKind) -> &'static str
+pub(crate) fn head_word(kind: HeadKind) -> &'static str
     ensures { result.now ≡ head_word kind }
 {
     match kind {
@@ -20,7 +20,7 @@ fn head_word(kind: HeadKind) -> &'static str
     }
 }
 
-fn line_word(kind: LineKind) -> &'static str
+pub(crate) fn line_word(kind: LineKind) -> &'static str
     ensures { result.now ≡ line_word kind }
 {
     match kind {
@@ -36,7 +36,7 @@ fn line_word(kind: LineKind) -> &'static str
     }
 }
 
-fn limit_word(limit: Limit) -> &'static str
+pub(crate) fn limit_word(limit: Limit) -> &'static str
     ensures { result.now ≡ limit_word limit }
 {
     match limit {
