@@ -1,18 +1,24 @@
 //! The node: reads a capture, runs it, and prints its journals.
 #![tactic(auto)]
+ghost use Rattle.std.specs.Prelude.{◌≡◌, drop, IfOk};
+ghost use Rattle.std.specs.Vec.Iter.{into_iter_items};
 
 use capture_form::Book;
 use relay_base::{NoPace, StdSink, StdSource};
 use relay_call::relay;
-use std::alloc::Global;
+use std::alloc::{AllocFailed, Global};
+use std::env::Args;
 use std::process::ExitCode;
-use std::rt::Env;
 use std::{env, io};
 
-/// The words after the program's name.
-fn words<R: Env + AllocGlobal>(rt: &R) -> io::Result<Vec<String>> {
-    let mut words = Vec::new(rt.alloc());
-    for word in env::args(rt)?.skip(1) {
+/// The words after the program's name, in their order.
+fn words(alloc: Global, args: Args) -> Result<Vec<String>, AllocFailed<String>>
+    ensures { IfOk result (λ words. words.items ≡ drop 1 (into_iter_items args)) }
+{
+    let mut args = args;
+    args.next();
+    let mut words = Vec::new(alloc);
+    for word in args {
         words.push(word)?;
     }
     Ok(words)
@@ -20,7 +26,10 @@ fn words<R: Env + AllocGlobal>(rt: &R) -> io::Result<Vec<String>> {
 
 fn main(rt: HostRuntime) -> ExitCode {
     let alloc: Global = rt.alloc();
-    let Ok(words) = words(&rt) else {
+    let Ok(args) = env::args(&rt) else {
+        return ExitCode::from(7);
+    };
+    let Ok(words) = words(alloc, args) else {
         return ExitCode::from(7);
     };
     let mut source = StdSource {
