@@ -124,6 +124,10 @@ data_of more size = Arrives 200 3 (hex "06100000" ++ more ∷ 1 ∷ size ∷ rep
 abbrev pub send_and_ack : ℕ → List Event
 send_and_ack k = asks (request.Send 16 (7 ∷ [])) ∷ Arrives 200 7 (hex "08100000" ++ 2 * ((k + 1) % 128) ∷ 127 ∷ []) ∷ []
 
+-- what comes of these: the unit with its number, and nothing
+abbrev pub numbered_unit : ℕ → List (List Output)
+numbered_unit k = (Sent 200 7 (hex "07550000" ++ 2 * k ∷ 0 ∷ 1 ∷ 1 ∷ 7 ∷ []) ∷ []) ∷ [] ∷ []
+
 -- a CR, the refusal of the connection with this reference, and a tick
 abbrev pub refused_at : ℕ → List Event
 refused_at reference = cr ∷ asks (request.Refuse reference 3 []) ∷ Tick ∷ []
