@@ -1,5 +1,5 @@
 -- What a run gives is what the legal journals of its events show.
-use Rattle.std.proofs.Common.{◌≡◌, ℕ, List, [], ◌∷◌, map, drop, Option, Some, None, refl, sym, ap, ◌∙◌}
+use Rattle.std.proofs.Common.{◌≡◌, List, [], ◌∷◌, map, Option, Some, None, refl, sym, ap, ◌∙◌}
 use Rattle.std.specs.Prelude.{is_some}
 use Rattle.std.specs.List.{AllByRecursion}
 use Rattle.relay_base.specs.declared.words.Event.{Event}
@@ -13,7 +13,7 @@ use Rattle.section_model.specs.Lane.{Lane}
 use Rattle.journal_law.specs.Played.{played_from, given_of, IsRouted}
 use Rattle.journal_law.proofs.Playing.{is_played}
 use Rattle.section_rows.specs.Examples.{answer_to, routed}
-use Rattle.section_rows.specs.Played.{played, IsOf, Shows, ShowsLater}
+use Rattle.section_rows.specs.Played.{played, IsOf, Shows}
 
 -- an answer stands where something was asked
 answered : (asks : Option Question) → is_some (answer_to asks) ≡ is_some asks
@@ -50,9 +50,4 @@ shows lane events outs run = record {
     λ legal. ((is_played lane journal).0 legal).outputs ∙ (run_of lane events journal is ∙ run),
     λ same. (is_played lane journal).1 (record { routed = all_routed lane events journal is; outputs = same ∙ sym (run_of lane events journal is ∙ run) }),
   );
-}
-
-pub shows_later : (lane : Lane) (events : List Event) (count : ℕ) (outs : List (List Output)) → drop count (played lane events) ≡ outs → ShowsLater lane events count outs
-shows_later lane events count outs run = record {
-  later = λ journal is legal. ap (drop count) (((is_played lane journal).0 legal).outputs ∙ run_of lane events journal is) ∙ run;
 }

@@ -1,5 +1,5 @@
 -- Runs for examples. A proof that unfolds `played` unfolds all that a run computes with.
-use Rattle.std.specs.Prelude.{◌≡◌, ◌↔◌, ℕ, List, [], map, drop}
+use Rattle.std.specs.Prelude.{◌≡◌, ◌↔◌, List, [], map}
 use Rattle.plant_core.specs.declared.entry.Entry.{Entry}
 use Rattle.relay_base.specs.declared.words.Event.{Event}
 use Rattle.relay_base.specs.declared.words.Output.{Output}
@@ -27,7 +27,7 @@ use Rattle.section_model.specs.Step.{hears_message, asks, fires_due, after_event
 use Rattle.section_model.specs.Opening.{wish_of, question_of, opened_by_cr, opened_by_user, slots_needed, opened}
 use Rattle.section_model.specs.Lane.{Lane, heard, follow, gone_for, lowest_free, stray_answer, legal_outputs, openings_after, IsConnectionJournal}
 use Rattle.journal_law.specs.Played.{played_from, given_of}
-use Rattle.section_rows.specs.Examples.{routed, outputs_along}
+use Rattle.section_rows.specs.Examples.{routed}
 
 -- the outputs of a lane for these events
 unfoldable pub played : Lane → List Event → List (List Output)
@@ -40,7 +40,7 @@ unfolding value_at variable_at variables_at options_in options_at values_of octe
     section_hears section_fires section_takes exchange
     hears_message asks fires_due after_event connection_step hears
     wish_of question_of opened_by_cr opened_by_user slots_needed opened
-    heard follow outputs_along gone_for lowest_free stray_answer legal_outputs openings_after played_from
+    heard follow gone_for lowest_free stray_answer legal_outputs openings_after played_from
 played lane events = played_from lane [] (map (routed lane) events)
 
 -- The rows, over legal journals.
@@ -52,7 +52,3 @@ IsOf lane events journal = map given_of journal ≡ map (routed lane) events
 -- such a journal is legal exactly where its entries have these outputs, one list for each
 pub record Shows (lane : Lane) (events : List Event) (outs : List (List Output)) : Type 0 where
   pub exactly : (journal : List Entry) → IsOf lane events journal → IsConnectionJournal lane journal ↔ (map (λ e. e.outs) journal ≡ outs)
-
--- where it is legal, its entries have these outputs after so many
-pub record ShowsLater (lane : Lane) (events : List Event) (count : ℕ) (outs : List (List Output)) : Type 0 where
-  pub later : (journal : List Entry) → IsOf lane events journal → IsConnectionJournal lane journal → drop count (map (λ e. e.outs) journal) ≡ outs

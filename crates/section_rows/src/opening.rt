@@ -5,15 +5,13 @@ ghost use Rattle.relay_base.specs.declared.words.Tell.TheVariants as tell;
 ghost use Rattle.relay_base.specs.declared.words.Output.TheVariants.{Told as told};
 ghost use Rattle.section_model.specs.Opening.{not_opened};
 ghost use Rattle.section_rows.specs.Text.{hex};
-ghost use Rattle.section_rows.specs.Played.{Shows, ShowsLater};
-ghost use Rattle.section_rows.specs.Examples.{first_lane, arrives, asks, sent, cr, local, offers, opening_in};
+ghost use Rattle.section_rows.specs.Played.{Shows};
+ghost use Rattle.section_rows.specs.Examples.{first_lane, arrives, asks, sent, cr, local, local_outs, offers, opening_in};
 
 /// A CR to a local user, which accepts.
 #[tactic(auto, using(crate::proofs::Showing::shows), unfolding(crate::specs::Played::played))]
 pub fn user_accepts()
-    ensures { Shows first_lane local
-        ((told 8 (tell.Conn 16 2 0 (hex "4208") None None) ∷ [])
-        ∷ (sent 200 3 "020100001000000200" ∷ []) ∷ []) }
+    ensures { Shows first_lane local local_outs }
 {}
 
 /// A CR to a local user, which refuses.
@@ -33,11 +31,12 @@ pub fn user_calls()
 {}
 
 /// A CC with no optional part confirms as well.
-#[tactic(auto, using(crate::proofs::Showing::shows_later), unfolding(crate::specs::Played::played))]
+#[tactic(auto, using(crate::proofs::Showing::shows), unfolding(crate::specs::Played::played))]
 pub fn confirmed_without_options()
-    ensures { ShowsLater first_lane
-        (asks (request.Conn 7 2 0 (hex "43c8000a") []) ∷ arrives 200 7 "021000005500000200" ∷ []) 1
-        ((told 8 (tell.Confirm 16 2 0 None None) ∷ []) ∷ []) }
+    ensures { Shows first_lane
+        (asks (request.Conn 7 2 0 (hex "43c8000a") []) ∷ arrives 200 7 "021000005500000200" ∷ [])
+        ((told 8 (tell.Named 7 16) ∷ sent 200 7 "011000000202060443c8000a0402420811010f00" ∷ [])
+        ∷ (told 8 (tell.Confirm 16 2 0 None None) ∷ []) ∷ []) }
 {}
 
 /// A CR that is translated with a hop counter of 1 is refused.
