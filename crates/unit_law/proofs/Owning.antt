@@ -16,12 +16,12 @@ use Rattle.reassembly.specs.declared.process.Process.{Process}
 use Rattle.data_lane.specs.declared.effect.Work.{Work}
 use Rattle.data_lane.specs.declared.effect.Work.TheVariants as work
 use Rattle.data_lane.specs.Legal.{State, at_first, step_of, effect_by, work_of, worked, state_after, IsLegalEntry, IsDataJournal}
-use Rattle.unit_law.specs.OwnOutputs.{NoneAwaits, StandsAlone, is_cut, own_outputs, outputs_after, outputs_of, OutputsAreOwn, EarlierFirst}
+use Rattle.unit_law.specs.OwnOutputs.{IsAlone, StandsAlone, is_cut, own_outputs, outputs_after, outputs_of, OutputsAreOwn, EarlierFirst}
 use Rattle.unit_law.proofs.Counting.{cut_counts}
 use Rattle.unit_law.proofs.Splitting.{parted}
 
 -- what stands alone leaves the reassemblies no work
-no_work : (head : LaneHead) (number cut : ℕ) (matter : Matter) (answer : Option Answer) → NoneAwaits head.terms.own matter answer
+no_work : (head : LaneHead) (number cut : ℕ) (matter : Matter) (answer : Option Answer) → IsAlone head.terms.own matter answer
     → (effect_by head number cut matter answer).work ≡ work.Nothing
 no_work head number cut (from_network opc sls x question) (Some answer) alone = ap work_of alone
 no_work head number cut (from_network opc sls x question) None alone = refl

@@ -16,15 +16,15 @@ use Rattle.connectionless.specs.Asking.{Matter, from_network, from_user, settled
 use Rattle.data_lane.specs.Legal.{effect_by, IsDataJournal}
 
 -- neither a tick, nor a segment that is handed to a reassembly (Q.714, 4.1.1)
-abbrev pub NoneAwaits : ℕ → Matter → Option Answer → Type 0
-NoneAwaits own of_tick answer = ⊥
-NoneAwaits own (from_network opc sls x question) (Some answer) = (unit_outcome own opc sls x answer).next ≡ Done
-NoneAwaits own (from_network opc sls x question) None = Unit {0}
-NoneAwaits own (from_user g question) answer = Unit {0}
-NoneAwaits own (settled outs) answer = Unit {0}
+abbrev pub IsAlone : ℕ → Matter → Option Answer → Type 0
+IsAlone own of_tick answer = ⊥
+IsAlone own (from_network opc sls x question) (Some answer) = (unit_outcome own opc sls x answer).next ≡ Done
+IsAlone own (from_network opc sls x question) None = Unit {0}
+IsAlone own (from_user g question) answer = Unit {0}
+IsAlone own (settled outs) answer = Unit {0}
 
 abbrev pub StandsAlone : LaneHead → Entry → Type 0
-StandsAlone head entry = NoneAwaits head.terms.own (matter_of entry.event) (answer_in entry.asked)
+StandsAlone head entry = IsAlone head.terms.own (matter_of entry.event) (answer_in entry.asked)
 
 -- whether a user's unit was cut into segments, whatever reference these have
 abbrev pub is_cut_by : Matter → Option Answer → Bool
