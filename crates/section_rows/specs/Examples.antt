@@ -13,10 +13,8 @@ use Rattle.plant_core.specs.declared.terms.Ticks.{Ticks}
 use Rattle.plant_core.specs.declared.answer.Answer.{Answer}
 use Rattle.plant_core.specs.Plant.{RoutingData, start_of}
 use Rattle.plant_core.specs.Asking.{Question, answer_to as answer_by}
-use Rattle.section_model.specs.Ends.{Connection}
-use Rattle.section_model.specs.Step.{connection_step}
 use Rattle.section_model.specs.Opening.{Opened, wish_of, question_of, slots_needed, opened}
-use Rattle.section_model.specs.Lane.{Lane, next, enough}
+use Rattle.section_model.specs.Lane.{Lane, enough}
 use Rattle.section_rows.specs.Text.{hex}
 
 -- The node: point 100 with subsystem 8. Titles that begin with 49 are those of subsystem 8 at point 300.
@@ -72,26 +70,20 @@ opening_in slots event =
     let count = slots_needed wish answer in
     opened first_lane.terms wish answer (enough first_lane count (take count slots))
 
--- the outputs of a connection along events that it hears, one list for each
-unfoldable pub outputs_along : Ticks → Connection → List Event → List (List Output)
-outputs_along ticks c [] = []
-outputs_along ticks c (event ∷ events) =
-    (connection_step ticks c event).1 ∷ outputs_along ticks (next ticks c event) events
-
--- the outputs of the connection that an event opens, with the lane's first two references, along events that it hears
-abbrev pub along : Lane → Event → List Event → Option (List (List Output))
-along lane opening events =
-    let wish = wish_of lane.terms opening in
-    option_map (λ c. outputs_along lane.terms.ticks c events)
-    (opened lane.terms wish (answer_to (question_of wish)) (16 ∷ 32 ∷ [])).connection
-
 -- a CR for subsystem 8
 abbrev pub cr : Event
 cr = arrives 200 3 "01010000020200024208"
 
+-- what a CR of point 200 tells subsystem 8
+abbrev pub offers : ℕ → List Output
+offers reference = Told 8 (tell.Conn reference 2 0 (hex "4208") None None) ∷ []
+
 -- a connection from point 200 to subsystem 8, which accepts it
 abbrev pub local : List Event
 local = cr ∷ asks (request.Accept 16 2 0 []) ∷ []
+
+abbrev pub local_outs : List (List Output)
+local_outs = offers 16 ∷ (sent 200 3 "020100001000000200" ∷ []) ∷ []
 
 -- one that is relayed from point 200 to point 300, which answers from point 301; data both ways; and its release from there
 abbrev pub relayed : List Event
@@ -102,9 +94,22 @@ relayed =
     ∷ arrives 301 4 "0620000001010133"
     ∷ arrives 301 4 "042000000900000000" ∷ []
 
+abbrev pub relayed_outs : List (List Output)
+relayed_outs =
+    (sent 300 4 "01200000020200085208001204947121" ∷ [])
+    ∷ (sent 200 4 "020700001000000200" ∷ [])
+    ∷ (sent 301 4 "060900000001021122" ∷ [])
+    ∷ (sent 200 4 "0607000001010133" ∷ [])
+    ∷ (sent 301 4 "05090000200000" ∷ sent 200 4 "040700001000000000" ∷ []) ∷ []
+
 -- one of class 3 from subsystem 8 to point 200
 abbrev pub numbered : List Event
 numbered = asks (request.Conn 7 3 2 (hex "43c8000a") []) ∷ arrives 200 7 "02100000550000030109010200" ∷ []
+
+abbrev pub numbered_outs : List (List Output)
+numbered_outs =
+    (Told 8 (tell.Named 7 16) ∷ sent 200 7 "011000000302060443c8000a0901020402420811010f00" ∷ [])
+    ∷ (Told 8 (tell.Confirm 16 3 2 None None) ∷ []) ∷ []
 
 abbrev pub sends : String → Event
 sends text = asks (request.Send 16 (hex text))
@@ -116,6 +121,12 @@ relayed_numbered =
     ∷ arrives 300 4 "02200000090000030109010700"
     ∷ arrives 200 4 "07100000000a0101aa" ∷ []
 
+abbrev pub relayed_numbered_outs : List (List Output)
+relayed_numbered_outs =
+    (sent 300 4 "0120000003020a08520800120494712109010700" ∷ [])
+    ∷ (sent 200 4 "02070000100000030109010700" ∷ [])
+    ∷ (sent 200 4 "0d07000010000003" ∷ sent 300 4 "0d09000020000003" ∷ []) ∷ []
+
 -- DT1 with so many octets 00
 abbrev pub data_of : ℕ → ℕ → Event
 data_of more size = Arrives 200 3 (hex "06100000" ++ more ∷ 1 ∷ size ∷ replicate size 0)
@@ -124,10 +135,13 @@ data_of more size = Arrives 200 3 (hex "06100000" ++ more ∷ 1 ∷ size ∷ rep
 abbrev pub send_and_ack : ℕ → List Event
 send_and_ack k = asks (request.Send 16 (7 ∷ [])) ∷ Arrives 200 7 (hex "08100000" ++ 2 * ((k + 1) % 128) ∷ 127 ∷ []) ∷ []
 
+-- what comes of these: the unit with its number, and nothing
+abbrev pub numbered_unit : ℕ → List (List Output)
+numbered_unit k = (Sent 200 7 (hex "07550000" ++ 2 * k ∷ 0 ∷ 1 ∷ 1 ∷ 7 ∷ []) ∷ []) ∷ [] ∷ []
+
 -- a CR, the refusal of the connection with this reference, and a tick
 abbrev pub refused_at : ℕ → List Event
 refused_at reference = cr ∷ asks (request.Refuse reference 3 []) ∷ Tick ∷ []
 
--- what the first of these tells
-abbrev pub offers : ℕ → List Output
-offers reference = Told 8 (tell.Conn reference 2 0 (hex "4208") None None) ∷ []
+abbrev pub refused_outs : ℕ → List (List Output)
+refused_outs reference = offers reference ∷ (sent 200 3 "030100000300" ∷ []) ∷ [] ∷ []

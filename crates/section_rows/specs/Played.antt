@@ -1,6 +1,6 @@
 -- Runs for examples. A proof that unfolds `played` unfolds all that a run computes with.
-use Rattle.std.specs.Prelude.{List, [], ◌∷◌, map, Option}
-use Rattle.plant_core.specs.declared.answer.Answer.{Answer}
+use Rattle.std.specs.Prelude.{◌≡◌, ◌↔◌, List, [], map}
+use Rattle.plant_core.specs.declared.entry.Entry.{Entry}
 use Rattle.relay_base.specs.declared.words.Event.{Event}
 use Rattle.relay_base.specs.declared.words.Output.{Output}
 use Rattle.gtt_table.specs.Translation.{translation_of}
@@ -25,14 +25,9 @@ use Rattle.section_model.specs.Acting.{section_hears, section_fires, section_tak
 use Rattle.section_model.specs.Coupling.{exchange}
 use Rattle.section_model.specs.Step.{hears_message, asks, fires_due, after_event, connection_step, hears}
 use Rattle.section_model.specs.Opening.{wish_of, question_of, opened_by_cr, opened_by_user, slots_needed, opened}
-use Rattle.section_model.specs.Lane.{Lane, heard, follow, gone_for, lowest_free, stray_answer, legal_outputs, openings_after, Opening}
-use Rattle.section_rows.specs.Examples.{routed, outputs_along}
-
--- the legal outputs of a whole run, for these events and answers
-unfoldable pub runs : Lane → List Opening → List (Event × Option Answer) → List (List Output)
-runs lane openings [] = []
-runs lane openings (x ∷ rest) =
-    legal_outputs lane openings x.0 x.1 ∷ runs lane (openings_after lane openings x.0 x.1) rest
+use Rattle.section_model.specs.Lane.{Lane, heard, follow, gone_for, lowest_free, stray_answer, legal_outputs, openings_after, IsConnectionJournal}
+use Rattle.journal_law.specs.Played.{played_from, given_of}
+use Rattle.section_rows.specs.Examples.{routed}
 
 -- the outputs of a lane for these events
 unfoldable pub played : Lane → List Event → List (List Output)
@@ -45,5 +40,15 @@ unfolding value_at variable_at variables_at options_in options_at values_of octe
     section_hears section_fires section_takes exchange
     hears_message asks fires_due after_event connection_step hears
     wish_of question_of opened_by_cr opened_by_user slots_needed opened
-    heard follow outputs_along gone_for lowest_free stray_answer legal_outputs openings_after runs
-played lane events = runs lane [] (map (routed lane) events)
+    heard follow gone_for lowest_free stray_answer legal_outputs openings_after played_from
+played lane events = played_from lane [] (map (routed lane) events)
+
+-- The rows, over legal journals.
+
+-- a journal of these events, each with what routing answers
+abbrev pub IsOf : Lane → List Event → List Entry → Type 0
+IsOf lane events journal = map given_of journal ≡ map (routed lane) events
+
+-- such a journal is legal exactly where its entries have these outputs, one list for each
+pub record Shows (lane : Lane) (events : List Event) (outs : List (List Output)) : Type 0 where
+  pub exactly : (journal : List Entry) → IsOf lane events journal → IsConnectionJournal lane journal ↔ (map (λ e. e.outs) journal ≡ outs)

@@ -16,7 +16,7 @@ pub use opening::{
     confirmed_without_options, hop_counter_runs_out, lowest_references, too_few_references,
     user_accepts, user_calls, user_refuses,
 };
-pub use relay::{relays, repeats, strays};
+pub use relay::{frozen_half, relays, repeats, strays};
 pub use release::{
     frozen_references, late_message, silence, unknown_reference, user_disconnects, wrong_reference,
 };

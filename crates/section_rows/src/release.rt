@@ -1,5 +1,5 @@
 //! How connections with a user end.
-ghost use Rattle.std.specs.Prelude.{◌≡◌, [], ◌∷◌, ◌++◌, drop, replicate, Some, None};
+ghost use Rattle.std.specs.Prelude.{◌≡◌, [], ◌∷◌, ◌++◌, replicate, Some, None};
 ghost use Rattle.relay_base.specs.declared.words.Event.TheVariants.{Tick as tick};
 ghost use Rattle.relay_base.specs.declared.words.Request.TheVariants as request;
 ghost use Rattle.relay_base.specs.declared.words.Tell.TheVariants as tell;
@@ -7,43 +7,42 @@ ghost use Rattle.relay_base.specs.declared.words.Output.TheVariants.{Told as tol
 ghost use Rattle.relay_base.specs.declared.words.Lost.TheVariants as lost;
 ghost use Rattle.relay_base.specs.declared.words.Reason.TheVariants as reason;
 ghost use Rattle.section_rows.specs.Text.{hex};
-ghost use Rattle.section_rows.specs.Played.{played};
-ghost use Rattle.section_rows.specs.Examples.{first_lane, quick_lane, arrives, asks, sent, cr, local, refused_at, offers, along};
+ghost use Rattle.section_rows.specs.Played.{Shows};
+ghost use Rattle.section_rows.specs.Examples.{first_lane, quick_lane, arrives, asks, sent, cr, local, local_outs, refused_at, refused_outs, offers};
 
 /// Data, and a release by the user, whose RLC comes twice.
-#[tactic(auto, unfolding(crate::specs::Played::played))]
 pub fn user_disconnects()
-    ensures { drop 2 (played first_lane (local
+    ensures { Shows first_lane (local
         ++ arrives 200 3 "0610000000010161"
         ∷ asks (request.Disc 16 3 [])
         ∷ arrives 200 3 "05100000010000"
-        ∷ arrives 200 3 "05100000010000" ∷ []))
-        ≡ (told 8 (tell.Text 16 (hex "61")) ∷ [])
+        ∷ arrives 200 3 "05100000010000" ∷ [])
+        (local_outs ++ (told 8 (tell.Text 16 (hex "61")) ∷ [])
         ∷ (sent 200 3 "040100001000000300" ∷ [])
         ∷ []
-        ∷ (dropped lost.Stray ∷ []) ∷ [] }
+        ∷ (dropped lost.Stray ∷ []) ∷ []) }
 {}
 
 /// RLSD with another source reference than the section's is an error.
-#[tactic(auto, unfolding(crate::specs::Played::played))]
+#[tactic(auto, using(crate::proofs::Showing::shows), unfolding(crate::specs::Played::played))]
 pub fn wrong_reference()
-    ensures { drop 2 (played first_lane (local ++ arrives 200 3 "041000000200000000" ∷ []))
-        ≡ (sent 200 3 "0f02000001" ∷ []) ∷ [] }
+    ensures { Shows first_lane (local ++ arrives 200 3 "041000000200000000" ∷ [])
+        (local_outs ++ (sent 200 3 "0f02000001" ∷ []) ∷ []) }
 {}
 
 /// Nobody hears a CC for a free reference, and no request on one.
-#[tactic(auto, unfolding(crate::specs::Played::played))]
+#[tactic(auto, using(crate::proofs::Showing::shows), unfolding(crate::specs::Played::played))]
 pub fn unknown_reference()
-    ensures { played first_lane
+    ensures { Shows first_lane
         (arrives 200 3 "023000000900000200" ∷ asks (request.Disc 48 0 []) ∷ [])
-        ≡ (sent 200 3 "0f09000000" ∷ []) ∷ (told 8 (tell.No reason.Unknown) ∷ []) ∷ [] }
+        ((sent 200 3 "0f09000000" ∷ []) ∷ (told 8 (tell.No reason.Unknown) ∷ []) ∷ []) }
 {}
 
 /// A silent section is tested, and ends.
-#[tactic(auto, unfolding(crate::specs::Played::played))]
 pub fn silence()
-    ensures { along first_lane cr (asks (request.Accept 16 2 0 []) ∷ replicate 900 tick)
-        ≡ Some ((sent 200 3 "020100001000000200" ∷ [])
+    ensures { Shows first_lane (cr ∷ asks (request.Accept 16 2 0 []) ∷ replicate 900 tick)
+        (offers 16
+        ∷ (sent 200 3 "020100001000000200" ∷ [])
         ∷ replicate 419 [] ++ (sent 200 3 "1001000010000002000000" ∷ [])
         ∷ replicate 419 [] ++ (sent 200 3 "1001000010000002000000" ∷ [])
         ∷ replicate 59 []
@@ -51,17 +50,16 @@ pub fn silence()
 {}
 
 /// A reference is free again as soon as it was frozen for its ticks.
-#[tactic(auto, unfolding(crate::specs::Played::played))]
+#[tactic(auto, using(crate::proofs::Showing::shows), unfolding(crate::specs::Played::played))]
 pub fn frozen_references()
-    ensures { played quick_lane (refused_at 16 ++ refused_at 16)
-        ≡ offers 16 ∷ (sent 200 3 "030100000300" ∷ []) ∷ []
-        ∷ offers 16 ∷ (sent 200 3 "030100000300" ∷ []) ∷ [] ∷ [] }
+    ensures { Shows quick_lane (refused_at 16 ++ refused_at 16)
+        (refused_outs 16 ++ refused_outs 16) }
 {}
 
 /// A late message for the former owner of a reference is lost by the state of the next one.
-#[tactic(auto, unfolding(crate::specs::Played::played))]
+#[tactic(auto, using(crate::proofs::Showing::shows), unfolding(crate::specs::Played::played))]
 pub fn late_message()
-    ensures { drop 4 (played quick_lane
-        (refused_at 16 ++ cr ∷ arrives 200 3 "0610000000010161" ∷ []))
-        ≡ (dropped lost.State ∷ []) ∷ [] }
+    ensures { Shows quick_lane
+        (refused_at 16 ++ cr ∷ arrives 200 3 "0610000000010161" ∷ [])
+        (refused_outs 16 ++ offers 16 ∷ (dropped lost.State ∷ []) ∷ []) }
 {}

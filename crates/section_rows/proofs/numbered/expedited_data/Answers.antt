@@ -1,0 +1,8 @@
+use Rattle.std.proofs.Common.{refl}
+use Rattle.section_rows.specs.Played.{played}
+use Rattle.section_rows.proofs.Showing.{shows}
+use Rattle.section_rows.proofs.numbered.expedited_data.Goals as goal
+
+pub returns : goal.returns
+unfolding played
+returns c = shows _ _ _ refl

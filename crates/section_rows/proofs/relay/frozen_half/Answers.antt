@@ -1,0 +1,8 @@
+use Rattle.std.proofs.Common.{refl}
+use Rattle.section_rows.specs.Played.{played}
+use Rattle.section_rows.proofs.Showing.{shows}
+use Rattle.section_rows.proofs.relay.frozen_half.Goals as goal
+
+pub returns : goal.returns
+unfolding played
+returns c = shows _ _ _ refl

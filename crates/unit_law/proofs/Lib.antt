@@ -1,0 +1,4 @@
+pub mod Splitting
+pub mod Playing
+pub mod Counting
+pub mod Owning

@@ -1,0 +1,2 @@
+pub mod OwnOutputs
+pub mod Played
