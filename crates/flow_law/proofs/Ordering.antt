@@ -14,7 +14,7 @@ use Rattle.section_model.specs.UserEnd.{user_takes}
 use Rattle.section_model.specs.Acting.{timed, by_windows, section_takes, end_takes}
 use Rattle.section_model.specs.Coupling.{exchange, settles}
 use Rattle.section_model.specs.Step.{hears, event_step, connection_step, on_windows, after_event}
-use Rattle.flow_law.specs.InStep.{IsInStep, AreInStep, passed_at, got_at, class_at}
+use Rattle.flow_law.specs.InStep.{IsInStep, AreInStep, passed_at, got_at, sent_at, class_at}
 use Rattle.flow_law.specs.SentUnits.{SentUnits, leaving_count, leaving, since_cleared, sent_next, sent_along, AreSentInOrder, OrderLaw}
 use Rattle.section_model.specs.Lane.{next, heard, follow}
 use Rattle.flow_law.proofs.Opening.{opening_begins}
@@ -24,11 +24,6 @@ use Rattle.flow_law.proofs.Ends.{kept_back}
 use Rattle.flow_law.proofs.Flowing.{either, IsSection}
 use Rattle.flow_law.proofs.Growing.{Growth, begins_anew, goes_on, StaysAs, CountsOn, GrowsAt}
 use Rattle.flow_law.proofs.Going.{Goes, event_goes}
-
--- the units sent on an end
-abbrev pub sent_at : End → ℕ
-sent_at (wire x) = x.windows.sent
-sent_at (owner u) = 0
 
 -- What an event does before units leave.
 
@@ -49,7 +44,7 @@ went_on passed passed' got got' before within e (goes_on more p g) = inl (rw (p,
 abbrev pub HasSent : List DataUnit → End → End → Type 0
 HasSent units e other = IsSection e → class_at e ≡ 3 → units ≡ take (passed_at other) (got_at other)
 
-event_sends : (before : List DataUnit) (e other e' other' : End) → AreInStep e other → AreInStep e' other' → HasSent before e other → StaysAs e e' → (IsSection e → GrowsAt other other')
+pub event_sends : (before : List DataUnit) (e other e' other' : End) → AreInStep e other → AreInStep e' other' → HasSent before e other → StaysAs e e' → (IsSection e → GrowsAt other other')
     → HasSent (since_cleared e' before) e' other'
 event_sends before (wire x) other (wire y) other' k l sent stays grows = λ s three. by_counts three stays
   where
@@ -81,7 +76,7 @@ pub record Stays (count : ℕ) (e e' : End) : Type 0 where
 stays_same : (e : End) → Stays 0 e e
 stays_same e = record { section = λ s. s; class = refl; got = refl; sent = sym (add-zero (sent_at e)) }
 
-stays_then : (m n : ℕ) (e f g : End) → Stays m e f → Stays n f g → Stays (m + n) e g
+pub stays_then : (m n : ℕ) (e f g : End) → Stays m e f → Stays n f g → Stays (m + n) e g
 stays_then m n e f g a b = record {
   section = λ s. a.section (b.section s);
   class = b.class ∙ a.class;
@@ -89,7 +84,7 @@ stays_then m n e f g a b = record {
   sent = rw (b.sent, a.sent) (omega arith);
 }
 
-stays_by : (m n : ℕ) (e f : End) → m ≡ n → Stays m e f → Stays n e f
+pub stays_by : (m n : ℕ) (e f : End) → m ≡ n → Stays m e f → Stays n e f
 stays_by m n e f same a = record { section = a.section; class = a.class; got = a.got; sent = rw (← same) a.sent }
 
 -- both ends
@@ -117,7 +112,7 @@ windows_leave ticks x that =
     handed_stay (is_expedited || nat_lt 0 (may_leave w)) (may_leave w) (may_leave w) is_expedited ticks _ x _ that
     (record { section = λ s. s; class = refl; got = refl; sent = refl })
 
-leaves_stay : (ticks : Ticks) (this that : End) → BothStay (leaving_count this) 0 (record { this = this; that = that }) (on_windows ticks leaves this that).0
+pub leaves_stay : (ticks : Ticks) (this that : End) → BothStay (leaving_count this) 0 (record { this = this; that = that }) (on_windows ticks leaves this that).0
 leaves_stay ticks (owner u) that = (stays_same (owner u), stays_same that)
 leaves_stay ticks (wire x) that =
     either (λ (r : Connection × List Output). BothStay (leaving_count (wire x)) 0 (record { this = wire x; that = that }) r.0) (is_up x.head.state && x.head.class == 3) _ _
@@ -135,10 +130,10 @@ acknowledges_stay ticks (wire x) that =
     (λ _. (stays_same (wire x), stays_same that))
 
 -- the connection after units left on its one end
-abbrev this_left : Ticks → Connection → Connection
+abbrev pub this_left : Ticks → Connection → Connection
 this_left ticks c = (on_windows ticks leaves c.this c.that).0
 
-after_event_stays : (ticks : Ticks) (r : Connection × List Output) → BothStay 0 (leaving_count (this_left ticks r.0).that) (this_left ticks r.0) (after_event ticks r).0
+pub after_event_stays : (ticks : Ticks) (r : Connection × List Output) → BothStay 0 (leaving_count (this_left ticks r.0).that) (this_left ticks r.0) (after_event ticks r).0
 unfolding after_event
 after_event_stays ticks r =
     let d = this_left ticks r.0 in
@@ -186,10 +181,10 @@ moved_sends before e other (owner v) other' k l stays got sent = λ s. absurd s
 
 -- One step, and many.
 
-abbrev SentOf : SentUnits → Connection → Type 0
+abbrev pub SentOf : SentUnits → Connection → Type 0
 SentOf sent c = HasSent sent.this c.this c.that × HasSent sent.that c.that c.this
 
-step_sends : (ticks : Ticks) (c : Connection) (event : Event) (sent : SentUnits) → IsInStep c → SentOf sent c → SentOf (sent_next ticks c event sent) (next ticks c event)
+pub step_sends : (ticks : Ticks) (c : Connection) (event : Event) (sent : SentUnits) → IsInStep c → SentOf sent c → SentOf (sent_next ticks c event sent) (next ticks c event)
 unfolding connection_step
 step_sends ticks c event sent k has =
     let acted = (event_step ticks c event).0 in

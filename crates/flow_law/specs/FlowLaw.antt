@@ -9,6 +9,7 @@
 --     while sent - acked is below the send credit: `within` of `SendingLaw`.
 -- (d) Whether ED is unanswered on Y is one truth value, so there is at most one such; and none leaves while it is true: `one_expedited`
 --     and `none_at_once` of `SendingLaw`. EA makes it false before what waits leaves, and lets nothing leave where it is false (`none_unasked`).
+-- What a connection sends by this as DT2 and ED, octet for octet, is the law of `message_law`.
 use Rattle.std.specs.Prelude.{◌≡◌, ℕ, ◌+◌, ◌-◌, ◌≤◌, ◌<◌, ◌==◌, ◌&&◌, not, true, false, List, [], ◌∷◌, ◌++◌, length, if◌then◌else◌, Option, Some, unwrap_or, is_some}
 use Rattle.relay_base.specs.declared.words.Event.{Event}
 use Rattle.plant_core.specs.declared.answer.Answer.{Answer}

@@ -26,6 +26,11 @@ abbrev pub passed_at : End → ℕ
 passed_at (wire x) = x.windows.passed
 passed_at (owner u) = u.passed
 
+-- the units sent on an end since then; a user's end sends none
+abbrev pub sent_at : End → ℕ
+sent_at (wire x) = x.windows.sent
+sent_at (owner u) = 0
+
 -- What came: the last P(R) sent is no more than what left on the other end, that no more than what came, and this within the credit.
 abbrev pub InCredit : ℕ → Windows → Type 0
 InCredit credit w = (w.told ≤ w.passed) × (w.passed ≤ length w.got) × (length w.got ≤ w.told + credit)

@@ -1,16 +1,19 @@
 -- What the two ends of a connection keep of windows, as the code keeps it.
 use Rattle.std.proofs.Common.{◌≡◌, ◌∙◌, ◌≤◌, ℕ, List, Some, subst, ap}
-use Rattle.std.specs.Prelude.{Option, IfSome, option_map}
+use Rattle.std.specs.Prelude.{Option, IfSome, IsTrue, option_map}
 use Rattle.relay_base.specs.declared.words.Event.{Event}
 use Rattle.plant_core.specs.declared.terms.Ticks.{Ticks}
 use Rattle.relay_base.specs.declared.words.Output.{Output}
 use Rattle.plant_core.specs.declared.answer.Answer.{Answer}
 use Rattle.plant_core.specs.declared.terms.Terms.{Terms}
-use Rattle.section_model.specs.Step.{after_event, connection_step, event_step}
+use Rattle.section_model.specs.Step.{after_event, connection_step, event_step, hears}
 use Rattle.section_model.specs.Opening.{wish_of, opened}
 use Rattle.flow_law.specs.InStep.{AreInStep, IsInStep}
 use Rattle.flow_law.proofs.Step.{step_keeps}
 use Rattle.flow_law.proofs.Opening.{opening_keeps}
+use Rattle.message_law.specs.DataSent.{SendsData}
+use Rattle.message_law.specs.ExpeditedSent.{SendsExpedited}
+use Rattle.message_law.proofs.Sent.{data_sent, expedited_sent}
 use Rattle.section_coupling.specs.declared.side.Side.{Side}
 use Rattle.section_coupling.specs.declared.side.Side.TheVariants as side
 use Rattle.section_coupling.specs.declared.pair.Pair.{Pair}
@@ -33,13 +36,33 @@ kept-after ticks now later event p q outs k e =
     at-any later 0 q (subst (λ r. IsInStep r.0) e (step_keeps ticks (connection_at now p) event (at-any 0 now p k)))
 
 -- in its two parts
+step_joined : (ticks : Ticks) (now later then : ℕ) (event : Event) (p q r : Pair) (outs more : List Output) → then ≡ later
+    → event_step ticks (connection_at now p) event ≡ (connection_at later q, outs) → after_event ticks (connection_at then q, outs) ≡ (connection_at then r, more)
+    → connection_step ticks (connection_at now p) event ≡ (connection_at later r, more)
+unfolding connection_step
+step_joined ticks now later then event p q r outs more same e f =
+    ap (after_event ticks) e ∙ subst (λ t. after_event ticks (connection_at t q, outs) ≡ (connection_at t r, more)) same f
+
 pub kept-step : (ticks : Ticks) (now later then : ℕ) (event : Event) (p q r : Pair) (outs more : List Output) → IsInStep (connection_at 0 p) → then ≡ later
     → event_step ticks (connection_at now p) event ≡ (connection_at later q, outs) → after_event ticks (connection_at then q, outs) ≡ (connection_at then r, more)
     → IsInStep (connection_at 0 r)
-unfolding connection_step
 kept-step ticks now later then event p q r outs more k same e f =
-    kept-after ticks now later event p r more k
-    (ap (after_event ticks) e ∙ subst (λ t. after_event ticks (connection_at t q, outs) ≡ (connection_at t r, more)) same f)
+    kept-after ticks now later event p r more k (step_joined ticks now later then event p q r outs more same e f)
+
+-- what such a step sends
+pub data-step : (ticks : Ticks) (now later then : ℕ) (event : Event) (p q r : Pair) (outs more : List Output) → IsInStep (connection_at 0 p) → then ≡ later
+    → event_step ticks (connection_at now p) event ≡ (connection_at later q, outs) → after_event ticks (connection_at then q, outs) ≡ (connection_at then r, more)
+    → SendsData ticks (connection_at now p) event more
+data-step ticks now later then event p q r outs more k same e f =
+    subst (λ done. SendsData ticks (connection_at now p) event done.1) (step_joined ticks now later then event p q r outs more same e f)
+    (data_sent ticks (connection_at now p) event (at-any 0 now p k))
+
+pub expedited-step : (ticks : Ticks) (now later then : ℕ) (event : Event) (p q r : Pair) (outs more : List Output) → IsTrue (hears (connection_at now p) event) → then ≡ later
+    → event_step ticks (connection_at now p) event ≡ (connection_at later q, outs) → after_event ticks (connection_at then q, outs) ≡ (connection_at then r, more)
+    → SendsExpedited ticks (connection_at now p) event more
+expedited-step ticks now later then event p q r outs more h same e f =
+    subst (λ done. SendsExpedited ticks (connection_at now p) event done.1) (step_joined ticks now later then event p q r outs more same e f)
+    (expedited_sent ticks (connection_at now p) event h)
 
 -- and from the opening on
 pub kept-opened : (terms : Terms) (event : Event) (answer : Option Answer) (references : List ℕ) (now : ℕ) (pair : Option Pair) (p : Pair) (outs : List Output) → terms.credit ≤ 127

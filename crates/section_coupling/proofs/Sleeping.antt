@@ -1,22 +1,19 @@
 -- A tick on a connection that rests, and of which no timer is due, gives it back.
-use Rattle.std.proofs.Common.{◌≡◌, ℕ, ◌+◌, ◌-◌, ◌<◌, ◌==◌, ◌&&◌, ◌||◌, not, nat_lt, Bool, true, false, List, [], ◌∷◌, ◌++◌, drop, take, min, fold, if◌then◌else◌, Option, Some, None, unwrap_or, is_some, refl, ap, ◌∙◌, arith, add-zero}
+use Rattle.std.proofs.Common.{◌≡◌, ℕ, ◌+◌, ◌-◌, ◌<◌, ◌==◌, ◌&&◌, true, false, List, [], ◌∷◌, min, fold, if◌then◌else◌, Option, Some, None, refl, ap, ◌∙◌, arith, add-zero}
 use Rattle.std.proofs.Math.Bool.{or-false}
 use Rattle.std.proofs.lemmas.Bool.{eqb-false, ne_eqb}
 use Rattle.relay_base.specs.declared.words.Event.TheVariants.{Tick}
 use Rattle.relay_base.specs.declared.words.Output.{Output}
-use Rattle.q713_codec.specs.declared.message.Message.TheVariants.{Ed}
 use Rattle.plant_core.specs.declared.terms.Ticks.{Ticks}
 use Rattle.section_model.specs.declared.cell.Timer.{Timer}
 use Rattle.section_model.specs.declared.cell.Timer.TheVariants.{Connect, Reset, Iar, Ias, Rel, Int, Repeat}
 use Rattle.section_model.specs.declared.cell.SectionState.{SectionState}
 use Rattle.section_model.specs.declared.cell.SectionState.TheVariants as section
 use Rattle.section_model.specs.declared.hand.Acted.{Acted}
-use Rattle.section_model.specs.declared.hand.Hand.TheVariants as hand
-use Rattle.section_model.specs.Ends.{End, wire, owner, Section, Timers, Connection, turned, no_effect, gives_then, is_up}
-use Rattle.section_model.specs.Line.{sent_on}
+use Rattle.section_model.specs.Ends.{End, wire, owner, Section, Timers, Connection, turned, no_effect, is_up}
 use Rattle.section_model.specs.Timing.{firing_order, timers_after}
 use Rattle.section_model.specs.Acting.{timed, by_windows}
-use Rattle.section_model.specs.Windowed.{Windowed, leaves, acknowledges, numbered}
+use Rattle.section_model.specs.Windowed.{Windowed, leaves, acknowledges}
 use Rattle.section_model.specs.Coupling.{exchange, settles}
 use Rattle.section_model.specs.Step.{is_due_at, fires, fires_at, fires_next, fires_due, ticked, on_windows, on_each, after_event, connection_step}
 use Rattle.flow_law.proofs.Flowing.{either}

@@ -1,5 +1,5 @@
 -- Which events open a connection, and what the code keeps of what they want.
-use Rattle.std.specs.Prelude.{◌≡◌, ℕ, Bool, true, false, ◌==◌, ◌||◌, ◌≤◌, IsTrue, List, [], ◌∷◌, length, Option, Some, None, is_some, IfSome}
+use Rattle.std.specs.Prelude.{◌≡◌, ℕ, Bool, true, false, ◌==◌, ◌||◌, ◌≤◌, IsTrue, List, length, Option, Some, None, is_some, IfSome}
 use Rattle.std.specs.Option.{option_map}
 use Rattle.plant_core.specs.declared.answer.Answer.{Answer}
 use Rattle.sccp_address.specs.Subsystems.{subsystem_address}

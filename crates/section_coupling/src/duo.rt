@@ -10,6 +10,8 @@ ghost use Rattle.section_coupling.specs.Views.{connection_at, left_at, IsStep};
 ghost use Rattle.section_coupling.specs.Sound.{IsCredit, SoundPair};
 ghost use Rattle.flow_law.specs.InStep.{IsInStep};
 ghost use Rattle.flow_law.specs.FlowLaw.{FlowKept};
+ghost use Rattle.message_law.specs.DataSent.{SendsData};
+ghost use Rattle.message_law.specs.ExpeditedSent.{SendsExpedited};
 ghost use Rattle.relay_base.specs.declared.words.Event.TheVariants.{Tick};
 ghost use Rattle.section_coupling.specs.Duos.{duo_at, taken_after, end_numbered, end_named, left_of_timer, ticks_left, fewest_left};
 
@@ -172,7 +174,8 @@ impl Duo {
 
     /// The connection after an event that it hears, and its outputs. `now` is the number of ticks that its lane took before the event,
     /// 0 to 4,294,967,295. It works on a copy. The law of the windows holds of what it leaves, as of every connection: what was sent is the first
-    /// of what came in at the other end, and no window is overrun.
+    /// of what came in at the other end, and no window is overrun. Of its outputs the DT2 are, octet for octet, the next units of either end,
+    /// numbered on; of ED there is at most one on a section, and none while one is unanswered.
     #[tactic(auto, unfolding(section_model::specs::Step::connection_step))]
     pub fn hear(&self, now: u64, event: &Event) -> Result<Heard, Memory>
         requires now { now ≤ 4_294_967_295 }
@@ -183,6 +186,10 @@ impl Duo {
         ensures ticks { IfOk result (λ heard. heard.duo.ticks ≡ self.now.ticks) }
         ensures windows { IfOk result (λ heard.
             FlowKept (duo_at (taken_after now event.now) heard.duo)) }
+        ensures data { IfOk result (λ heard.
+            SendsData self.now.ticks (duo_at now self.now) event.now heard.outs) }
+        ensures expedited { IfOk result (λ heard.
+            SendsExpedited self.now.ticks (duo_at now self.now) event.now heard.outs) }
     {
         let Duo { alloc, ticks, pair } = self.copy()?;
         let before = now as u32;

@@ -1,7 +1,11 @@
-use Rattle.std.proofs.Common.{refl}
+use Rattle.std.proofs.Common.{◌∙◌, refl, sym, subst}
+use Rattle.std.specs.Prelude.{IsTrue}
 use Rattle.flow_law.proofs.Following.{flow_kept}
-use Rattle.section_coupling.specs.Duos.{taken_after}
-use Rattle.section_coupling.proofs.Keeping.{at-any, kept-step}
+use Rattle.section_model.specs.Step.{hears}
+use Rattle.message_law.specs.DataSent.{SendsData}
+use Rattle.message_law.specs.ExpeditedSent.{SendsExpedited}
+use Rattle.section_coupling.specs.Duos.{DuoState, duo_at, taken_after}
+use Rattle.section_coupling.proofs.Keeping.{at-any, kept-step, data-step, expedited-step}
 use Rattle.section_coupling.proofs.Resting.{rests_step}
 use Rattle.section_coupling.proofs.duo.Duo.hear.Goals as goal
 
@@ -17,3 +21,14 @@ returns-clause-windows c =
     flow_kept _
     (at-any 0 (taken_after c.args.now c.args.event.now) c.in_ok-pair-2.pair
     (kept-step c.pair.inside.ticks c.args.now c.taken_after.result c.taken_after.result c.args.event.now c.pair.inside.pair c.in_ok-pair.pair c.in_ok-pair-2.pair _ _ c.pair.invariant.1 refl c.in_ok-pair.ensures.step c.in_ok-pair-2.ensures.follows))
+
+pub returns-clause-data : goal.returns-clause-data
+returns-clause-data c =
+    subst (λ (d : DuoState). SendsData d.ticks (duo_at c.args.now d) c.args.event.now c.in_ok-pair-2.outs) (c.pair.view_is ∙ c.in_ok-alloc.ensures)
+    (data-step c.pair.inside.ticks c.args.now c.taken_after.result c.taken_after.result c.args.event.now c.pair.inside.pair c.in_ok-pair.pair c.in_ok-pair-2.pair _ _ c.pair.invariant.1 refl c.in_ok-pair.ensures.step c.in_ok-pair-2.ensures.follows)
+
+pub returns-clause-expedited : goal.returns-clause-expedited
+returns-clause-expedited c =
+    subst (λ (d : DuoState). SendsExpedited d.ticks (duo_at c.args.now d) c.args.event.now c.in_ok-pair-2.outs) (c.pair.view_is ∙ c.in_ok-alloc.ensures)
+    (expedited-step c.pair.inside.ticks c.args.now c.taken_after.result c.taken_after.result c.args.event.now c.pair.inside.pair c.in_ok-pair.pair c.in_ok-pair-2.pair _ _
+    (subst (λ (d : DuoState). IsTrue (hears (duo_at c.args.now d) c.args.event.now)) (sym (c.pair.view_is ∙ c.in_ok-alloc.ensures)) c.requires.hears) refl c.in_ok-pair.ensures.step c.in_ok-pair-2.ensures.follows)

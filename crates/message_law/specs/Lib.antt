@@ -1,0 +1,4 @@
+pub mod Messages
+pub mod DataSent
+pub mod DataAlong
+pub mod ExpeditedSent
