@@ -21,9 +21,10 @@ fn source_of(alloc: Global, fails: &[u64]) -> Result<MemSource, AllocError> {
     })
 }
 
+/// A sink with room for five bytes.
 fn sink_of(alloc: Global, fails: &[u64]) -> Result<MemSink, AllocError> {
     Ok(MemSink {
-        held: Vec::new(alloc),
+        held: Vec::with_capacity(alloc, 5)?,
         most: 2,
         fails: Vec::from_slice(alloc, fails)?,
         calls: 0,
@@ -58,6 +59,9 @@ fn writes_whole_pieces(rt: HostRuntime) -> Result<(), Fail> {
     assert_same(&rt, &sink.held.as_slice(), &b"abcde".as_slice());
     let mut sink = sink_of(alloc, &[3])?;
     assert_same(&rt, &write_all(&mut sink, b"abcde"), &Err(Failed));
+    assert_same(&rt, &sink.held.as_slice(), &b"abcd".as_slice());
+    let mut sink = sink_of(alloc, &[])?;
+    assert_same(&rt, &write_all(&mut sink, b"abcdef"), &Err(Failed));
     assert_same(&rt, &sink.held.as_slice(), &b"abcd".as_slice());
     Ok(())
 }

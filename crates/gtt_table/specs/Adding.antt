@@ -1,4 +1,4 @@
--- Which rows are added, and why the others aren't.
+-- Which rows are added to the translation (Q.714, 2.4), and why the others aren't.
 use Rattle.std.specs.Prelude.{◌≡◌, nat_le, List, length, if◌then◌else◌, Option, Some, None, Ok, Err}
 use Rattle.std.specs.declared.result.Result.{Result}
 use Rattle.gtt_table.specs.declared.row.Row.{Row}

@@ -1,4 +1,4 @@
--- The rows of the translation as a list, in the order in which they were added.
+-- The rows of the translation (Q.714, 2.4) as a list, in the order in which they were added.
 use Rattle.std.specs.Prelude.{ℕ, ◌≡◌, ◌==◌, ◌&&◌, nat_eq, not, Bool, false, List, filter, AllPairs}
 use Rattle.std.specs.List.{list_any, starts_with}
 use lib.Pointwise.{pointwise}

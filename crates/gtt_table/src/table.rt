@@ -52,7 +52,7 @@ pub struct NoSuchRow;
 
 impl Table {
     /// The most rows that a table holds.
-    pub const MOST: usize = 4096;
+    pub const MOST: usize = 4_096;
 
     /// No rows.
     pub fn new(alloc: Global) -> Table

@@ -6,7 +6,7 @@ use Rattle.toml.specs.Data.{Members}
 use Rattle.node_head.specs.declared.fault.HeadFault.{HeadFault}
 use Rattle.node_head.specs.declared.section.Place.{Place}
 use Rattle.node_head.specs.Timers.{ticks_at, ticks_of}
-use Rattle.node_head.specs.Inner.Timers.{connection_ticks, release_ticks, waiting_ticks, management_ticks, grouped_ticks}
+use Rattle.node_head.specs.Inner.Timers.{connection_ticks, release_ticks, waiting_ticks, management_ticks, all_ticks, grouped_ticks}
 
 one-flat : {C D T F : Type 0} (r : Result C F) (t : C → T) (k : T → Result D F) → ((r >>= (λ c. Ok (t c))) >>= k) ≡ (r >>= (λ c. k (t c)))
 one-flat (Ok c) t k = refl
@@ -21,25 +21,6 @@ three-flat : {D : Type 0} (p : Result ℕ HeadFault) (q : ℕ → Result ℕ Hea
     → ((p >>= (λ a. q a >>= (λ b. r >>= (λ c. Ok (a, b, c))))) >>= k) ≡ (p >>= (λ a. q a >>= (λ b. r >>= (λ c. k (a, b, c)))))
 three-flat (Ok a) q r k = two-flat (q a) (λ b. r) (λ b c. (a, b, c)) k
 three-flat (Err e) q r k = refl
-
-abbrev Three : Type 0
-Three = ℕ × ℕ × ℕ
-
-abbrev all_ticks : Three → Three → Three → Three → Result Ticks HeadFault
-all_ticks connection release waiting management = Ok (record {
-  connect = connection.0;
-  ias = connection.1;
-  iar = connection.2;
-  rel = release.0;
-  repeat = release.1;
-  int = release.2;
-  reset = waiting.0;
-  reassembly = waiting.1;
-  freeze = waiting.2;
-  status = management.0;
-  status_max = management.1;
-  coord = management.2;
-})
 
 pub grouped-flat : (place : Place) (ms : Members) → grouped_ticks place ms ≡ ticks_of place ms
 unfolding grouped_ticks connection_ticks release_ticks waiting_ticks management_ticks ticks_of

@@ -1,5 +1,6 @@
 -- The texts of a row: the digits of a prefix, and where a translation leads.
 use Rattle.std.specs.Prelude.{ℕ, ◌+◌, ◌-◌, ◌==◌, ◌&&◌, not, nat_lt, nat_le, true, false, codes, List, [], ◌∷◌, ◌++◌, length, take, drop, position, if◌then◌else◌, Option, Some, None, option_map, option_and_then}
+use Rattle.relay_base.specs.declared.limits.TheConstants.{MOST_DIGITS, POINT_CODES, SUBSYSTEM_NUMBERS}
 use Rattle.relay_base.specs.Decimal.{number_of}
 use Rattle.gtt_table.specs.declared.row.Entity.{Entity}
 use Rattle.node_head.specs.Keys.{same}
@@ -23,7 +24,7 @@ digits_after found (c ∷ cs) = option_and_then (λ d. digits_after (found ++ d 
 
 -- at most 24 hex digits
 unfoldable pub digits_of : List ℕ → Option (List ℕ)
-digits_of text = if nat_lt 24 (length text) then None else digits_after [] text
+digits_of text = if nat_lt MOST_DIGITS (length text) then None else digits_after [] text
 
 -- a number below a limit
 abbrev pub number_below : ℕ → List ℕ → Option ℕ
@@ -31,7 +32,7 @@ number_below limit word = option_and_then (λ n. if nat_lt n limit then Some n e
 
 -- a subsystem, or a dash where none is named
 abbrev pub optional_subsystem : List ℕ → Option (Option ℕ)
-optional_subsystem word = if same word (codes "-") then Some None else option_map Some (number_below 256 word)
+optional_subsystem word = if same word (codes "-") then Some None else option_map Some (number_below SUBSYSTEM_NUMBERS word)
 
 -- what stands before the first slash, and what behind it
 abbrev pub parted : List ℕ → Option (List ℕ × List ℕ)
@@ -40,7 +41,7 @@ parted text = option_map (λ n. (take n text, drop (n + 1) text)) (position (λ 
 -- `s`: the address goes on routing on this subsystem; `g`: it goes on routing on its title, at another point
 abbrev pub leading : ℕ → ℕ → List ℕ → List ℕ → Option Entity
 leading own point ssn way =
-    if same way (codes "s") then option_map (λ s. record { point = point; ssn = Some s; on_ssn = true }) (number_below 256 ssn)
+    if same way (codes "s") then option_map (λ s. record { point = point; ssn = Some s; on_ssn = true }) (number_below SUBSYSTEM_NUMBERS ssn)
     else if same way (codes "g") && not (point == own) then option_map (λ s. record { point = point; ssn = s; on_ssn = false }) (optional_subsystem ssn)
     else None
 
@@ -49,5 +50,5 @@ unfoldable pub entity_of : ℕ → List ℕ → Option Entity
 entity_of own text = do
   head ← parted text
   tail ← parted head.1
-  point ← number_below 16384 head.0
+  point ← number_below POINT_CODES head.0
   leading own point tail.0 tail.1

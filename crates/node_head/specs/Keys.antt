@@ -1,8 +1,9 @@
 -- The keys of a head, and the reading of a number or a text at one.
-use Rattle.std.specs.Prelude.{ℕ, ℤ, pos, negsuc, ◌+◌, ◌&&◌, ◌||◌, nat_eq, nat_le, codes, Bool, List, ◌++◌, if◌then◌else◌, Option, Some, None, Ok, Err, unwrap_or, option_and_then}
+use Rattle.std.specs.Prelude.{ℕ, ℤ, pos, negsuc, ◌+◌, ◌-◌, ◌&&◌, ◌||◌, nat_eq, nat_le, codes, Bool, List, ◌++◌, if◌then◌else◌, Option, Some, None, Ok, Err, unwrap_or, option_and_then}
 use lib.Pointwise.{pointwise}
 use Rattle.std.specs.Fmt.{decimal}
 use Rattle.std.specs.declared.result.Result.{Result}
+use Rattle.relay_base.specs.declared.limits.TheConstants.{POINT_CODES}
 use Rattle.relay_base.specs.Giving.{◌>>=◌}
 use Rattle.toml.specs.Data.{Data, Items, no_items, item, Members, no_members, member, get_member, as_integer, as_str, as_array, as_table}
 use Rattle.node_head.specs.declared.fault.HeadFault.{HeadFault}
@@ -106,7 +107,7 @@ number_at place ms key bounds = number_value (path place key) bounds (get_member
 
 -- a point code
 unfoldable pub point_at : Place → Members → Result ℕ HeadFault
-point_at place ms = number_at place ms (codes "point") (required 0 16383)
+point_at place ms = number_at place ms (codes "point") (required 0 (POINT_CODES - 1))
 
 -- a text that must be there
 abbrev pub text_value : List ℕ → Option Data → Result (List ℕ) HeadFault

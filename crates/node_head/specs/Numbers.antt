@@ -1,9 +1,11 @@
 -- The lists of different numbers in a head: its local users, and the points that are concerned.
-use Rattle.std.specs.Prelude.{ℕ, ℤ, ◌==◌, nat_lt, codes, List, [], ◌∷◌, ◌++◌, length, if◌then◌else◌, Option, Some, None, Ok, Err, option_and_then}
+use Rattle.std.specs.Prelude.{ℕ, ℤ, ◌-◌, ◌==◌, nat_lt, codes, List, [], ◌∷◌, ◌++◌, length, if◌then◌else◌, Option, Some, None, Ok, Err, option_and_then}
 use Rattle.std.specs.List.{list_any}
 use Rattle.std.specs.declared.result.Result.{Result}
+use Rattle.relay_base.specs.declared.limits.TheConstants.{POINT_CODES}
 use Rattle.relay_base.specs.Giving.{◌>>=◌}
 use Rattle.toml.specs.Data.{Data, Items, no_items, item, as_integer, as_array}
+use Rattle.node_head.specs.declared.numbers.TheConstants.{MOST_NUMBERS}
 use Rattle.node_head.specs.declared.fault.HeadFault.{HeadFault}
 use Rattle.node_head.specs.declared.fault.HeadKind.TheVariants as kind
 use Rattle.node_head.specs.declared.section.Bounds.{Bounds}
@@ -30,7 +32,7 @@ numbers_value key b None = Ok []
 numbers_value key b (Some d) = do
   items ← or_fault (as_array d) (fault kind.Kind key)
   numbers ← or_fault (integers_after [] items) (fault kind.Kind key)
-  or_fault (if nat_lt 16 (length numbers) then None else numbers_after b [] numbers) (fault kind.Range key)
+  or_fault (if nat_lt MOST_NUMBERS (length numbers) then None else numbers_after b [] numbers) (fault kind.Range key)
 
 -- the local users
 abbrev pub users_value : Option Data → Result (List ℕ) HeadFault
@@ -42,4 +44,4 @@ other_points own points = if list_any (λ point. point == own) points then Err (
 
 -- the points that are concerned
 unfoldable pub concerned_value : ℕ → Option Data → Result (List ℕ) HeadFault
-concerned_value own d = numbers_value (codes "concerned") (required 0 16383) d >>= other_points own
+concerned_value own d = numbers_value (codes "concerned") (required 0 (POINT_CODES - 1)) d >>= other_points own

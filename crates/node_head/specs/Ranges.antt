@@ -1,6 +1,8 @@
 -- The ranges of what a head states.
-use Rattle.std.specs.Prelude.{◌≡◌, ℕ, ◌==◌, ◌≤◌, nat_eq, true, false, List, [], length, map, IsTrue}
+use Rattle.std.specs.Prelude.{◌≡◌, ℕ, ◌-◌, ◌==◌, ◌≤◌, nat_eq, true, false, List, [], length, map, IsTrue}
 use Rattle.std.specs.List.{AllByRecursion, IsDistinct, list_any}
+use Rattle.relay_base.specs.declared.limits.TheConstants.{GREATEST_CREDIT, MOST_LANES, POINT_CODES}
+use Rattle.node_head.specs.declared.numbers.TheConstants.{MOST_NUMBERS}
 use Rattle.plant_core.specs.Terms.{IsWithin, AreTicks}
 use Rattle.plant_core.specs.declared.terms.Replicate.{Replicate}
 use Rattle.node_head.specs.declared.head.Head.{Head}
@@ -10,7 +12,7 @@ use Rattle.node_head.specs.Addable.{are_addable}
 pub record AreNumbers (least : ℕ) (numbers : List ℕ) (most : ℕ) : Type 0 where
   pub each : AllByRecursion (λ n. IsWithin least n most) numbers
   pub distinct : IsDistinct nat_eq numbers
-  pub few : length numbers ≤ 16
+  pub few : length numbers ≤ MOST_NUMBERS
 
 -- a user, and another point that has it too
 pub record IsReplicate (own : ℕ) (users : List ℕ) (replicate : Replicate) : Type 0 where
@@ -25,11 +27,11 @@ pub record AreReplicates (own : ℕ) (users : List ℕ) (replicates : List Repli
 -- what a head that was read states is in its ranges
 pub record IsHead (head : Head) : Type 0 where
   pub users : AreNumbers 2 head.users 254
-  pub conn_lanes : IsWithin 1 head.conn_lanes 16
-  pub data_lanes : IsWithin 1 head.data_lanes 16
+  pub conn_lanes : IsWithin 1 head.conn_lanes MOST_LANES
+  pub data_lanes : IsWithin 1 head.data_lanes MOST_LANES
   pub links : IsWithin 1 head.links 8
-  pub credit : IsWithin 1 head.credit 127
-  pub concerned : AreNumbers 0 head.concerned 16383
+  pub credit : IsWithin 1 head.credit GREATEST_CREDIT
+  pub concerned : AreNumbers 0 head.concerned (POINT_CODES - 1)
   pub concerned_others : list_any (λ point. point == head.point) head.concerned ≡ false
   pub timers : AreTicks head.timers
   pub rows : IsTrue (are_addable [] head.row)

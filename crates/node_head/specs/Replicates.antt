@@ -1,7 +1,8 @@
 -- The replicates of a head (Q.714, 5.3.5).
-use Rattle.std.specs.Prelude.{ℕ, ◌+◌, ◌==◌, ◌&&◌, not, codes, Bool, List, [], ◌∷◌, ◌++◌, length, if◌then◌else◌, Option, Ok, Err}
+use Rattle.std.specs.Prelude.{ℕ, ◌+◌, ◌-◌, ◌==◌, ◌&&◌, not, codes, Bool, List, [], ◌∷◌, ◌++◌, length, if◌then◌else◌, Option, Ok, Err}
 use Rattle.std.specs.List.{list_any}
 use Rattle.std.specs.declared.result.Result.{Result}
+use Rattle.relay_base.specs.declared.limits.TheConstants.{SUBSYSTEM_NUMBERS}
 use Rattle.relay_base.specs.Giving.{◌>>=◌}
 use Rattle.plant_core.specs.declared.terms.Replicate.{Replicate}
 use Rattle.toml.specs.Data.{Data, Members}
@@ -23,7 +24,7 @@ is_new_user users found ssn = list_any (λ user. user == ssn) users && not (has_
 
 unfoldable pub user_at : List ℕ → List Replicate → Place → Members → Result ℕ HeadFault
 user_at users found place ms = do
-  ssn ← number_at place ms (codes "ssn") (required 0 255)
+  ssn ← number_at place ms (codes "ssn") (required 0 (SUBSYSTEM_NUMBERS - 1))
   if is_new_user users found ssn then Ok ssn else Err (fault kind.Range (path place (codes "ssn")))
 
 -- another point

@@ -1,7 +1,9 @@
 -- The rows of a head (Q.714, 2.4).
-use Rattle.std.specs.Prelude.{ℕ, ◌+◌, ◌==◌, nat_lt, codes, List, [], ◌∷◌, ◌++◌, length, if◌then◌else◌, Option, Some, None, option_and_then, Ok, Err}
+use Rattle.std.specs.Prelude.{ℕ, ◌+◌, ◌-◌, ◌==◌, nat_lt, codes, List, [], ◌∷◌, ◌++◌, length, if◌then◌else◌, Option, Some, None, option_and_then, Ok, Err}
 use Rattle.std.specs.declared.result.Result.{Result}
+use Rattle.relay_base.specs.declared.limits.TheConstants.{GREATEST_OCTET}
 use Rattle.relay_base.specs.Giving.{◌>>=◌}
+use Rattle.sccp_address.specs.declared.address.TheConstants.{NATURES, NUMBERING_PLANS}
 use Rattle.sccp_address.specs.declared.address.Selector.{Selector}
 use Rattle.gtt_table.specs.declared.row.Row.{Row}
 use Rattle.gtt_table.specs.declared.row.Entity.{Entity}
@@ -24,13 +26,13 @@ indicator_at place ms = do
   gti ← number_at place ms (codes "gti") (required 1 4)
   if gti == 2 then Err (fault kind.Range (path place (codes "gti"))) else Ok gti
 
--- what the titles of the indicator carry; 0 stands for what they don't
+-- what the titles of the indicator carry (Q.713, 3.4); 0 stands for what they don't
 unfoldable pub selector_at : Place → Members → Result Selector HeadFault
 selector_at place ms = do
   gti ← indicator_at place ms
-  tt ← number_at place ms (codes "tt") (usual 0 0 (if gti == 1 then 0 else 255))
-  np ← number_at place ms (codes "np") (usual 0 0 (if gti == 1 then 0 else 15))
-  nai ← number_at place ms (codes "nai") (usual 0 0 (if gti == 3 then 0 else 127))
+  tt ← number_at place ms (codes "tt") (usual 0 0 (if gti == 1 then 0 else GREATEST_OCTET))
+  np ← number_at place ms (codes "np") (usual 0 0 (if gti == 1 then 0 else NUMBERING_PLANS - 1))
+  nai ← number_at place ms (codes "nai") (usual 0 0 (if gti == 3 then 0 else NATURES - 1))
   Ok (record { gti = gti; tt = tt; np = np; nai = nai })
 
 -- digits under which, with this selector, no row was found

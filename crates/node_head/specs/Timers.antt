@@ -8,7 +8,7 @@ use Rattle.node_head.specs.declared.fault.HeadFault.{HeadFault}
 use Rattle.node_head.specs.declared.fault.HeadKind.TheVariants as kind
 use Rattle.node_head.specs.declared.section.Place.{Place}
 use Rattle.node_head.specs.declared.section.Place.TheVariants.{Timers}
-use Rattle.node_head.specs.declared.timers.TheConstants.{MOST_TICKS}
+use Rattle.plant_core.specs.declared.terms.TheConstants.{MOST_TICKS}
 use Rattle.node_head.specs.Keys.{usual, number_at}
 use Rattle.node_head.specs.Refusals.{fault, or_fault}
 

@@ -3,6 +3,7 @@ ghost use Rattle.std.specs.Prelude.{◌≡◌, ◌==◌, length, position, optio
 ghost use Rattle.node_head.specs.Entity.{hex_digit, digits_of, number_below, optional_subsystem, parted, leading, entity_of};
 
 use gtt_table::Entity;
+use relay_base::limits::{MOST_DIGITS, POINT_CODES, SUBSYSTEM_NUMBERS};
 use relay_base::{Digit, Digits, Pc, Ssn, number_of};
 
 /// The value of a hex digit of either case.
@@ -22,7 +23,7 @@ fn hex_digit(octet: u8) -> Option<Digit>
 pub fn digits_of(text: &[u8]) -> Option<Digits>
     ensures { result ≡ digits_of text.now }
 {
-    if text.len() > 24 {
+    if text.len() > MOST_DIGITS {
         return None;
     }
     let mut digits = Digits::new();
@@ -33,7 +34,7 @@ pub fn digits_of(text: &[u8]) -> Option<Digits>
 }
 
 fn point_of(word: &[u8]) -> Option<Pc>
-    ensures { result ≡ number_below 16384 word.now }
+    ensures { result ≡ number_below POINT_CODES word.now }
 {
     match u32::try_from(number_of(word)?) {
         Ok(number) => Pc::new(number),
@@ -42,7 +43,7 @@ fn point_of(word: &[u8]) -> Option<Pc>
 }
 
 fn subsystem_of(word: &[u8]) -> Option<Ssn>
-    ensures { result ≡ number_below 256 word.now }
+    ensures { result ≡ number_below SUBSYSTEM_NUMBERS word.now }
 {
     match u32::try_from(number_of(word)?) {
         Ok(number) => Ssn::new(number),

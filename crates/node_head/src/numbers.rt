@@ -8,6 +8,7 @@ ghost use Rattle.node_head.specs.Numbers.{integers_after, new_number, numbers_af
 
 use crate::fault::{HeadKind, HeadRefused};
 use crate::section::{Bounds, refuse};
+use relay_base::limits::POINT_CODES;
 use relay_base::{Below, Memory, Pc, PcList, PlainList, SsnList};
 use std::alloc::{AllocError, Global};
 use toml::Value;
@@ -127,6 +128,11 @@ fn other_points(alloc: Global, own: Pc, points: PcList) -> Result<PcList, HeadRe
 pub fn concerned_of(alloc: Global, own: Pc, value: Option<&Value>) -> Result<PcList, HeadRefused>
     ensures { Reads result (concerned_value own (data_in value.entry)) }
 {
-    let points = numbers_of(alloc, "concerned", &Bounds::required(0, 16_383), value)?;
+    let points = numbers_of(
+        alloc,
+        "concerned",
+        &Bounds::required(0, POINT_CODES - 1),
+        value,
+    )?;
     other_points(alloc, own, points)
 }

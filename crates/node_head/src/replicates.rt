@@ -9,6 +9,7 @@ use crate::fault::{HeadKind, HeadRefused};
 use crate::section::{Bounds, Place, Section, TableArray};
 use crate::tables::tables_of;
 use plant_core::{Replicate, ReplicateList};
+use relay_base::limits::SUBSYSTEM_NUMBERS;
 use relay_base::{Pc, Ssn};
 use std::alloc::Global;
 use toml::{Table, Value};
@@ -31,7 +32,7 @@ impl Section<'_> {
     fn user(&self, alloc: Global, users: &[Ssn], found: &[Replicate]) -> Result<Ssn, HeadRefused>
         ensures { Reads result (user_at users.now found.now self.now.place (members_of self.now)) }
     {
-        let ssn = Ssn::from(self.octet(alloc, "ssn", &Bounds::required(0, 255))?);
+        let ssn = Ssn::from(self.octet(alloc, "ssn", &Bounds::required(0, SUBSYSTEM_NUMBERS - 1))?);
         if !is_new_user(users, found, ssn) {
             return Err(self.refuse(alloc, HeadKind::Range, "ssn"));
         }

@@ -13,8 +13,9 @@ use crate::head::RowList;
 use crate::section::{Bounds, Place, Section, TableArray, refuse};
 use crate::tables::tables_of;
 use gtt_table::{Entity, Row, Table as RowTable};
+use relay_base::limits::GREATEST_OCTET;
 use relay_base::{Digits, Pc};
-use sccp_address::Selector;
+use sccp_address::{NATURES, NUMBERING_PLANS, Selector};
 use std::alloc::Global;
 use toml::{Table, Value};
 
@@ -57,17 +58,33 @@ impl Section<'_> {
         let tt = self.octet(
             alloc,
             "tt",
-            &Bounds::usual(0, 0, if gti == 1 { 0 } else { 255 }),
+            &Bounds::usual(
+                0,
+                0,
+                if gti == 1 {
+                    0
+                } else {
+                    u32::from(GREATEST_OCTET)
+                },
+            ),
         )?;
         let np = self.octet(
             alloc,
             "np",
-            &Bounds::usual(0, 0, if gti == 1 { 0 } else { 15 }),
+            &Bounds::usual(
+                0,
+                0,
+                if gti == 1 {
+                    0
+                } else {
+                    u32::from(NUMBERING_PLANS) - 1
+                },
+            ),
         )?;
         let nai = self.octet(
             alloc,
             "nai",
-            &Bounds::usual(0, 0, if gti == 3 { 0 } else { 127 }),
+            &Bounds::usual(0, 0, if gti == 3 { 0 } else { u32::from(NATURES) - 1 }),
         )?;
         Ok(Selector { gti, tt, np, nai })
     }

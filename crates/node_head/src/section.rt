@@ -8,6 +8,7 @@ ghost use Rattle.node_head.specs.Refusals.{Reads, ReadsAs, fault};
 ghost use Rattle.node_head.specs.Keys.{array_key, path, is_stated, known_keys, number_in, number_at, point_at, text_at, required, usual};
 
 use crate::fault::{HeadFault, HeadKind, HeadRefused};
+use relay_base::limits::{OCTET_VALUES, POINT_CODES};
 use relay_base::{Memory, Octets, Pc};
 use std::alloc::Global;
 use toml::{Table, Value};
@@ -266,10 +267,10 @@ impl<'a> Section<'a> {
         }
     }
 
-    /// The integer at a key whose greatest value is below 256.
+    /// The integer at a key, whose greatest value one octet holds.
     pub fn octet(&self, alloc: Global, key: &str, bounds: &Bounds) -> Result<u8, HeadRefused>
         requires bounds { IsBounds bounds.now }
-        requires small { bounds.now.most < 256 }
+        requires small { bounds.now.most < OCTET_VALUES }
         ensures value { Reads result (number_at self.now.place (members_of self.now) key.now bounds.now) }
         ensures most { IfOk result (λ n. n ≤ bounds.now.most) }
     {
@@ -282,7 +283,7 @@ impl<'a> Section<'a> {
     pub fn point(&self, alloc: Global) -> Result<Pc, HeadRefused>
         ensures { Reads result (point_at self.now.place (members_of self.now)) }
     {
-        let number = self.number(alloc, "point", &Bounds::required(0, 16_383))?;
+        let number = self.number(alloc, "point", &Bounds::required(0, POINT_CODES - 1))?;
         Ok(Pc::new(number).unwrap())
     }
 

@@ -8,12 +8,9 @@ ghost use Rattle.node_head.specs.Inner.Timers.{connection_ticks, release_ticks, 
 
 use crate::fault::{HeadKind, HeadRefused};
 use crate::section::{Bounds, Place, Section, refuse};
-use plant_core::Ticks;
+use plant_core::{MOST_TICKS, Ticks};
 use std::alloc::Global;
 use toml::Value;
-
-/// The greatest number of ticks.
-const MOST_TICKS: u32 = 65_535;
 
 impl Section<'_> {
     /// The ticks at a key.

@@ -1,6 +1,6 @@
 -- An address as it is spelled has no more octets than it was read from.
 use Rattle.std.proofs.Common.{◌≡◌, ℕ, ◌+◌, ◌-◌, ◌*◌, ◌/◌, ◌%◌, ◌≤◌, List, [], ◌∷◌, ◌++◌, length, take, drop, Bool, true, false, if◌then◌else◌, refl, arith, length-append, length-drop, length-take}
-use Rattle.std.specs.Prelude.{◌==◌, ◌||◌, ◌&&◌, nat_lt, nat_le, is_some, slice_index, Option, Some, None, Ok, Err, IfOk}
+use Rattle.std.specs.Prelude.{◌==◌, ◌||◌, ◌&&◌, nat_lt, is_some, slice_index, Option, Some, None, Ok, Err, IfOk}
 use Rattle.std.specs.declared.result.Result.{Result}
 use Rattle.std.proofs.lemmas.Bool.{eqb-false, ltb-false}
 use Rattle.relay_base.specs.Giving.{◌>>=◌}
@@ -100,7 +100,7 @@ first-of-and false b c e = cc
 bcd-within : (gti : ℕ) (octets : List ℕ) → is_title_short gti octets ≡ false → is_bcd gti octets ≡ true
     → length (lead_octets (selector_of gti octets) (is_odd (digits_in (encoding_of gti octets == 1) (drop (lead_of gti) octets))) ++ digit_octets (digits_in (encoding_of gti octets == 1) (drop (lead_of gti) octets))) ≤ length octets
 bcd-within gti octets long digits =
-    let has : has_digits gti ≡ true = first-of-and (has_digits gti) (is_some (parity_of gti octets)) (nat_le (length octets) (lead_of gti + 12)) digits in
+    let has : has_digits gti ≡ true = first-of-and (has_digits gti) (is_some (parity_of gti octets)) _ digits in
     let whole : nat_lt (length octets) (lead_of gti) ≡ false = not-short (has_digits gti) (nat_lt (length octets) (lead_of gti)) (encoding_of gti octets == 1) (length octets == lead_of gti) long has in
     let odd = encoding_of gti octets == 1 in
     let rest = drop (lead_of gti) octets in

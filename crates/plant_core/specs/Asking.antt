@@ -1,4 +1,4 @@
--- What routing control is asked, and the routing that an entry of a journal has.
+-- What routing control is asked (Q.714, 2.3), and the routing that an entry of a journal has.
 use Rattle.std.specs.Prelude.{ℕ, Option, option_map}
 use Rattle.sccp_address.specs.Form.{Form, seen}
 use Rattle.plant_core.specs.declared.answer.Ask.{Ask}

@@ -1,4 +1,5 @@
--- What changes do to the routing data.
+-- What changes do to the routing data: edits of the translation (Q.714, 2.4), the status of points (Q.714, 5.2), that of subsystems of
+-- other points (Q.714, 5.3.2 and 5.3.3), and users that go in and out of service (Q.714, 5.3).
 use Rattle.std.specs.Prelude.{ℕ, ◌==◌, ◌&&◌, not, Bool, true, false, List, [], ◌∷◌, ◌++◌, filter, if◌then◌else◌, Option, Some, None}
 use Rattle.gtt_table.specs.Adding.{add_refusal}
 use Rattle.gtt_table.specs.Rows.{has_row, without}

@@ -17,7 +17,7 @@ use Rattle.plant_core.specs.declared.answer.RouteCause.{RouteCause}
 use Rattle.plant_core.specs.declared.answer.RouteCause.TheVariants.{NoNature, NoAddress, PointBarred, SubsystemBarred, Unequipped, Hop}
 use Rattle.plant_core.specs.Plant.{RoutingData, is_among, is_barred_subsystem}
 
--- a subsystem of this node
+-- a subsystem of this node (Q.714, 2.3 and 2.6)
 unfoldable pub local_answer : RoutingData → ℕ → Answer
 local_answer p ssn =
     if not (is_among ssn p.users) then Refused Unequipped None
@@ -47,7 +47,7 @@ ssn_answer p a hop FromUser = from_user a.point
     from_user (Some point) =
         if point == p.own then local_answer p (unwrap_or a.ssn 0) else remote_answer p point a.ssn hop
 
--- whether an entity is available, and else why not: one at the own point is where it names a user that is in service,
+-- whether an entity is available, and else why not (Q.714, 2.4 and 2.6): one at the own point is where it names a user that is in service,
 -- another where neither its point nor, where it routes on it, its subsystem is barred
 abbrev pub own_entity : RoutingData → Option ℕ → Result (Unit {0}) RouteCause
 own_entity p None = Err Unequipped

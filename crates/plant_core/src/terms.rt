@@ -1,6 +1,9 @@
 //! What a lane is told at its start.
 use relay_base::{Pc, PlainList, Ssn};
 
+/// The most ticks of a timer.
+pub const MOST_TICKS: u32 = 65_535;
+
 /// The ticks of each timer (Q.714, timers), and those of this node's own: for freezing a reference, and for a repeated release.
 #[derive(Clone, Copy, Debug, PartialEq, Eq)]
 pub struct Ticks {
@@ -30,7 +33,7 @@ pub struct Ticks {
     pub coord: u32,
 }
 
-/// What a connection is opened with: the own point code, the greatest credit (1 to 127), and the ticks.
+/// What a connection is opened with: the own point code, the greatest credit (1 to 127; Q.713, 3.10), and the ticks.
 #[derive(Clone, Copy)]
 pub struct Terms {
     pub own: Pc,

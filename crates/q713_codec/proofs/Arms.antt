@@ -1,7 +1,7 @@
 -- A message as it is written, and what its definition says.
 use Rattle.std.proofs.Common.{◌≡◌, ap, ◌∙◌}
-use Rattle.std.specs.Prelude.{IsTrue}
-use Rattle.q713_shape.specs.Format.{Format, Values, nameless}
+use Rattle.q713_shape.specs.Format.{Format, Values}
+use Rattle.q713_shape.specs.Inner.Nameless.{nameless}
 use Rattle.q713_shape.specs.Writing.{are_in_range, octets_of}
 use Rattle.q713_codec.specs.Names.{Message}
 use Rattle.q713_codec.specs.Messages.{values_of_message, format_in}

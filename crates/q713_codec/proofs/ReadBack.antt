@@ -1,5 +1,5 @@
 -- What is written reads back as the message.
-use Rattle.std.proofs.Common.{◌≡◌, ℕ, ◌+◌, ◌*◌, ◌/◌, ◌%◌, ◌<◌, ◌^◌, List, [], ◌∷◌, length, take, nat_le, Ok, Err, IfOk, refl, ap, sym, ◌∙◌, subst, arith, leb-true, eqb-true, length-append}
+use Rattle.std.proofs.Common.{◌≡◌, ℕ, ◌+◌, ◌*◌, ◌/◌, ◌%◌, ◌<◌, ◌^◌, List, [], ◌∷◌, length, take, nat_le, Ok, Err, IfOk, refl, ap, ◌∙◌, subst, arith, leb-true, eqb-true, length-append}
 use Rattle.std.specs.Prelude.{Option, Some, None, IsTrue}
 use Rattle.std.specs.declared.result.Result.{Result}
 use Rattle.relay_base.specs.Giving.{◌>>=◌}

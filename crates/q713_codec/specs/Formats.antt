@@ -1,5 +1,6 @@
 -- The formats of the messages (Q.713, 4.2 to 4.21), as one table.
 use Rattle.std.specs.Prelude.{ℕ, true, false, List, [], ◌∷◌, ◌++◌, replicate, Option, Some, None}
+use Rattle.relay_base.specs.declared.limits.TheConstants.{LONGEST_EXPEDITED, LONGEST_PARAMETER}
 use Rattle.q713_shape.specs.declared.rules.VarRule.{VarRule}
 use Rattle.q713_shape.specs.Format.{Format}
 use Rattle.q713_codec.specs.declared.shapes.TheConstants.{LONG_DATA_OCTETS}
@@ -77,7 +78,7 @@ numbers = replicate 2 sequencing
 
 -- the variable parameters, with the least and the greatest number of their octets
 abbrev pub address : ℕ → VarRule
-address name = record { name = name; least = 0; most = 255 }
+address name = record { name = name; least = 0; most = LONGEST_PARAMETER }
 
 abbrev pub within : ℕ → ℕ → ℕ → VarRule
 within name least most = record { name = name; least = least; most = most }
@@ -108,22 +109,22 @@ abbrev pub rlc_format : Format
 rlc_format = narrow 0x05 (to ++ from) [] None
 
 abbrev pub dt1_format : Format
-dt1_format = narrow 0x06 (to ++ one segmenting) (within user_data 1 255 ∷ []) None
+dt1_format = narrow 0x06 (to ++ one segmenting) (within user_data 1 LONGEST_PARAMETER ∷ []) None
 
 abbrev pub dt2_format : Format
-dt2_format = narrow 0x07 (to ++ numbers) (within user_data 1 255 ∷ []) None
+dt2_format = narrow 0x07 (to ++ numbers) (within user_data 1 LONGEST_PARAMETER ∷ []) None
 
 abbrev pub ak_format : Format
 ak_format = narrow 0x08 (to ++ one receive_number ++ one credit) [] None
 
 abbrev pub udt_format : Format
-udt_format = narrow 0x09 (one protocol_class) (unitdata (within user_data 0 255)) None
+udt_format = narrow 0x09 (one protocol_class) (unitdata (within user_data 0 LONGEST_PARAMETER)) None
 
 abbrev pub udts_format : Format
-udts_format = narrow 0x0A (one return_cause) (unitdata (within user_data 0 255)) None
+udts_format = narrow 0x0A (one return_cause) (unitdata (within user_data 0 LONGEST_PARAMETER)) None
 
 abbrev pub ed_format : Format
-ed_format = narrow 0x0B to (within user_data 1 32 ∷ []) None
+ed_format = narrow 0x0B to (within user_data 1 LONGEST_EXPEDITED ∷ []) None
 
 abbrev pub ea_format : Format
 ea_format = narrow 0x0C to [] None
@@ -141,10 +142,10 @@ abbrev pub it_format : Format
 it_format = narrow 0x10 (to ++ from ++ one protocol_class ++ numbers ++ one credit) [] None
 
 abbrev pub xudt_format : Format
-xudt_format = narrow 0x11 (one protocol_class ++ one hop_counter) (unitdata (within user_data 0 255)) (Some (segmentation ∷ importance ∷ []))
+xudt_format = narrow 0x11 (one protocol_class ++ one hop_counter) (unitdata (within user_data 0 LONGEST_PARAMETER)) (Some (segmentation ∷ importance ∷ []))
 
 abbrev pub xudts_format : Format
-xudts_format = narrow 0x12 (one return_cause ++ one hop_counter) (unitdata (within user_data 0 255)) (Some (segmentation ∷ importance ∷ []))
+xudts_format = narrow 0x12 (one return_cause ++ one hop_counter) (unitdata (within user_data 0 LONGEST_PARAMETER)) (Some (segmentation ∷ importance ∷ []))
 
 abbrev pub ludt_format : Format
 ludt_format = wide 0x13 (one protocol_class ++ one hop_counter) (unitdata (within long_data 0 LONG_DATA_OCTETS)) (Some (segmentation ∷ importance ∷ []))

@@ -91,7 +91,7 @@ ludt_of values = Ludt (octet_at 0 values.fixed) (octet_at 1 values.fixed) (varia
 abbrev pub ludts_of : Values → Message
 ludts_of values = Ludts (octet_at 0 values.fixed) (octet_at 1 values.fixed) (variable_in 0 values) (variable_in 1 values) (variable_in 2 values) (four_octets (optional_in 0 values)) (one_octet (optional_in 1 values))
 
--- a reference in three octets, the least significant first
+-- a reference in three octets, the least significant first (Q.713, 3.2, 3.3 and 3.17)
 abbrev pub octets3 : ℕ → List ℕ
 octets3 n = n % 256 ∷ n / 256 % 256 ∷ n / 65_536 % 256 ∷ []
 
@@ -145,26 +145,3 @@ values_of_message (Xudt class hop called calling body segmentation importance) =
 values_of_message (Xudts cause hop called calling body segmentation importance) = values_in (cause ∷ hop ∷ []) (called ∷ calling ∷ body ∷ []) (segmentation ∷ in_one importance ∷ [])
 values_of_message (Ludt class hop called calling body segmentation importance) = values_in (class ∷ hop ∷ []) (called ∷ calling ∷ body ∷ []) (segmentation ∷ in_one importance ∷ [])
 values_of_message (Ludts cause hop called calling body segmentation importance) = values_in (cause ∷ hop ∷ []) (called ∷ calling ∷ body ∷ []) (segmentation ∷ in_one importance ∷ [])
-
--- the references of a message
-abbrev pub references_in : Message → List ℕ
-references_in (Cr slr _ _ _ _ _ _ _) = slr ∷ []
-references_in (Cc dlr slr _ _ _ _ _) = dlr ∷ slr ∷ []
-references_in (Cref dlr _ _ _ _) = dlr ∷ []
-references_in (Rlsd dlr slr _ _ _) = dlr ∷ slr ∷ []
-references_in (Rlc dlr slr) = dlr ∷ slr ∷ []
-references_in (Dt1 dlr _ _) = dlr ∷ []
-references_in (Dt2 dlr _ _) = dlr ∷ []
-references_in (Ak dlr _ _) = dlr ∷ []
-references_in (Udt _ _ _ _) = []
-references_in (Udts _ _ _ _) = []
-references_in (Ed dlr _) = dlr ∷ []
-references_in (Ea dlr) = dlr ∷ []
-references_in (Rsr dlr slr _) = dlr ∷ slr ∷ []
-references_in (Rsc dlr slr) = dlr ∷ slr ∷ []
-references_in (Error dlr _) = dlr ∷ []
-references_in (It dlr slr _ _ _) = dlr ∷ slr ∷ []
-references_in (Xudt _ _ _ _ _ _ _) = []
-references_in (Xudts _ _ _ _ _ _ _) = []
-references_in (Ludt _ _ _ _ _ _ _) = []
-references_in (Ludts _ _ _ _ _ _ _) = []

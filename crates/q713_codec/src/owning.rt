@@ -1,6 +1,7 @@
 //! Owning a message.
-ghost use Rattle.std.specs.Prelude.{◌≡◌, IfOk};
+ghost use Rattle.std.specs.Prelude.{◌≡◌, IfOk, IsTrue};
 ghost use Rattle.q713_codec.specs.Reading.{seen, optional_seen};
+ghost use Rattle.q713_codec.specs.Inner.Groups.{is_unitdata, is_extended, is_long, is_opening, is_ending, is_data};
 
 use crate::message::{Message, View};
 use relay_base::{Memory, Octets};
@@ -72,41 +73,109 @@ fn own_answer(
     })
 }
 
+/// The message with copies of the parts of a view: for each type the fields that are copied as they are, then those of octets.
+macro_rules! copied {
+    ($alloc:ident, $view:ident; $($parted:ident { $($field:ident),* } $own:ident { $($part:ident),* })*;
+        $($single:ident { $($beside:ident),* } $from:ident $octets:ident)*) => {
+        match *$view {
+            $(View::$parted { $($field,)* $($part,)* } => {
+                let parts = $own($alloc, $($part),*)?;
+                Ok(Message::$parted { $($field,)* $($part: parts.$part,)* })
+            })*
+            $(View::$single { $($beside,)* $octets } => {
+                let copy = Octets::$from($alloc, $octets)?;
+                Ok(Message::$single { $($beside,)* $octets: copy })
+            })*
+            _ => unreachable!(),
+        }
+    };
+}
+
+/// UDT or UDTS.
+fn own_unitdata(alloc: Global, view: &View<'_>) -> Result<Message, Memory>
+    requires { IsTrue (is_unitdata view.now) }
+    ensures { IfOk result (λ message. message ≡ seen view.now) }
+{
+    copied! { alloc, view;
+        Udt { class_octet } own_unit { called, calling, body }
+        Udts { cause } own_unit { called, calling, body };
+    }
+}
+
+/// XUDT or XUDTS.
+fn own_extended(alloc: Global, view: &View<'_>) -> Result<Message, Memory>
+    requires { IsTrue (is_extended view.now) }
+    ensures { IfOk result (λ message. message ≡ seen view.now) }
+{
+    copied! { alloc, view;
+        Xudt { class_octet, hop, segmentation, importance } own_unit { called, calling, body }
+        Xudts { cause, hop, segmentation, importance } own_unit { called, calling, body };
+    }
+}
+
+/// LUDT or LUDTS.
+fn own_long(alloc: Global, view: &View<'_>) -> Result<Message, Memory>
+    requires { IsTrue (is_long view.now) }
+    ensures { IfOk result (λ message. message ≡ seen view.now) }
+{
+    copied! { alloc, view;
+        Ludt { class_octet, hop, segmentation, importance } own_unit { called, calling, body }
+        Ludts { cause, hop, segmentation, importance } own_unit { called, calling, body };
+    }
+}
+
+/// CR or CC.
+fn own_opening(alloc: Global, view: &View<'_>) -> Result<Message, Memory>
+    requires { IsTrue (is_opening view.now) }
+    ensures { IfOk result (λ message. message ≡ seen view.now) }
+{
+    copied! { alloc, view;
+        Cr { slr, class_octet, credit, hop, importance } own_request { called, calling, body }
+        Cc { dlr, slr, class_octet, credit, importance } own_answer { called, body };
+    }
+}
+
+/// CREF or RLSD.
+fn own_ending(alloc: Global, view: &View<'_>) -> Result<Message, Memory>
+    requires { IsTrue (is_ending view.now) }
+    ensures { IfOk result (λ message. message ≡ seen view.now) }
+{
+    copied! { alloc, view;
+        Cref { dlr, cause, importance } own_answer { called, body };
+        Rlsd { dlr, slr, cause, importance } from_optional body
+    }
+}
+
+/// DT1, DT2 or ED.
+fn own_data(alloc: Global, view: &View<'_>) -> Result<Message, Memory>
+    requires { IsTrue (is_data view.now) }
+    ensures { IfOk result (λ message. message ≡ seen view.now) }
+{
+    copied! { alloc, view; ;
+        Dt1 { dlr, segmenting } from_slice body
+        Dt2 { dlr, sequencing } from_slice body
+        Ed { dlr } from_slice body
+    }
+}
+
 /// The message whose parts lie in octets, with copies of them.
 pub fn own(alloc: Global, view: &View<'_>) -> Result<Message, Memory>
     ensures { IfOk result (λ message. message ≡ seen view.now) }
 {
-    // The messages with several fields of octets, then those with one, then those with none; each first with the fields that are copied as they are.
-    macro_rules! copied {
-        ($($parted:ident { $($field:ident),* } $own:ident { $($part:ident),* })*;
-            $($single:ident { $($beside:ident),* } $from:ident $octets:ident)*; $($variant:ident { $($plain:ident),* })*) => {
+    macro_rules! plain {
+        ($($variant:ident { $($field:ident),* })*) => {
             match *view {
-                $(View::$parted { $($field,)* $($part,)* } => {
-                    let parts = $own(alloc, $($part),*)?;
-                    Ok(Message::$parted { $($field,)* $($part: parts.$part,)* })
-                })*
-                $(View::$single { $($beside,)* $octets } => {
-                    let copy = Octets::$from(alloc, $octets)?;
-                    Ok(Message::$single { $($beside,)* $octets: copy })
-                })*
-                $(View::$variant { $($plain,)* } => Ok(Message::$variant { $($plain,)* }),)*
+                View::Udt { .. } | View::Udts { .. } => own_unitdata(alloc, view),
+                View::Xudt { .. } | View::Xudts { .. } => own_extended(alloc, view),
+                View::Ludt { .. } | View::Ludts { .. } => own_long(alloc, view),
+                View::Cr { .. } | View::Cc { .. } => own_opening(alloc, view),
+                View::Cref { .. } | View::Rlsd { .. } => own_ending(alloc, view),
+                View::Dt1 { .. } | View::Dt2 { .. } | View::Ed { .. } => own_data(alloc, view),
+                $(View::$variant { $($field,)* } => Ok(Message::$variant { $($field,)* }),)*
             }
         };
     }
-    copied! {
-        Udt { class_octet } own_unit { called, calling, body }
-        Udts { cause } own_unit { called, calling, body }
-        Xudt { class_octet, hop, segmentation, importance } own_unit { called, calling, body }
-        Xudts { cause, hop, segmentation, importance } own_unit { called, calling, body }
-        Ludt { class_octet, hop, segmentation, importance } own_unit { called, calling, body }
-        Ludts { cause, hop, segmentation, importance } own_unit { called, calling, body }
-        Cr { slr, class_octet, credit, hop, importance } own_request { called, calling, body }
-        Cc { dlr, slr, class_octet, credit, importance } own_answer { called, body }
-        Cref { dlr, cause, importance } own_answer { called, body };
-        Rlsd { dlr, slr, cause, importance } from_optional body
-        Dt1 { dlr, segmenting } from_slice body
-        Dt2 { dlr, sequencing } from_slice body
-        Ed { dlr } from_slice body;
+    plain! {
         Rlc { dlr, slr }
         Ak { dlr, receive, credit }
         Ea { dlr }

@@ -4,40 +4,41 @@ ghost use Rattle.q713_shape.specs.Parts.{format_of};
 ghost use Rattle.q713_codec.specs.Formats.{cr_format, cc_format, cref_format, rlsd_format, rlc_format, dt1_format, dt2_format, ak_format, udt_format, udts_format, ed_format, ea_format, rsr_format, rsc_format, err_format, it_format, xudt_format, xudts_format, ludt_format, ludts_format};
 
 use q713_shape::{OptionRule, Shape, VarRule};
+use relay_base::limits::{LONGEST_EXPEDITED, LONGEST_PARAMETER};
 
 /// An address at a pointer.
 const CALLED: VarRule = VarRule {
     name: 0x03,
     least: 0,
-    most: 255,
+    most: LONGEST_PARAMETER as u16,
 };
 
 const CALLING: VarRule = VarRule {
     name: 0x04,
     least: 0,
-    most: 255,
+    most: LONGEST_PARAMETER as u16,
 };
 
 /// User data at a pointer, of a message of the connectionless service and of a data form.
 const UNITDATA: VarRule = VarRule {
     name: 0x0F,
     least: 0,
-    most: 255,
+    most: LONGEST_PARAMETER as u16,
 };
 
 const DATA: VarRule = VarRule {
     name: 0x0F,
     least: 1,
-    most: 255,
+    most: LONGEST_PARAMETER as u16,
 };
 
 const EXPEDITED: VarRule = VarRule {
     name: 0x0F,
     least: 1,
-    most: 32,
+    most: LONGEST_EXPEDITED as u16,
 };
 
-/// The most octets of long data.
+/// The most octets of long data (Q.713, 3.20).
 const LONG_DATA_OCTETS: u16 = 3_952;
 
 const LONG_DATA: VarRule = VarRule {

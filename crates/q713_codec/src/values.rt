@@ -1,31 +1,24 @@
 //! The fields of a message as the octets of its parts.
-ghost use Rattle.std.specs.Prelude.{◌≡◌, ◌+◌, ◌*◌, ◌/◌, ◌%◌, ◌<◌, ◌^◌};
+ghost use Rattle.std.specs.Prelude.{◌≡◌, ◌<◌};
 ghost use Rattle.std.specs.Option.{option_map};
-ghost use Rattle.q713_codec.specs.Messages.{in_one};
+ghost use Rattle.q713_codec.specs.Messages.{in_one, octets3};
 
+use relay_base::limits::REFERENCES;
 use relay_base::{Octets, Ref24};
 use std::slice;
 
-/// The least significant octet of a reference.
-pub fn low(reference: Ref24) -> u8
-    ensures value { result ≡ reference % 256 }
-    ensures range { reference < 2 ^ 24 }
+/// The octets of a reference, the least significant one first: of a local reference (Q.713, 3.2 and 3.3), and of that of segments
+/// (Q.713, 3.17).
+pub fn octets3(reference: Ref24) -> [u8; 3]
+    ensures value { result ≡ octets3 reference }
+    ensures range { reference < REFERENCES }
 {
-    (reference.number() % 256) as u8
-}
-
-/// The octet in the middle of a reference.
-pub fn middle(reference: Ref24) -> u8
-    ensures { result ≡ reference / 256 % 256 }
-{
-    (reference.number() / 256 % 256) as u8
-}
-
-/// The most significant octet of a reference.
-pub fn high(reference: Ref24) -> u8
-    ensures { result ≡ reference / 65_536 % 256 }
-{
-    (reference.number() / 65_536 % 256) as u8
+    let number = reference.number();
+    [
+        (number % 256) as u8,
+        (number / 256 % 256) as u8,
+        (number / 65_536 % 256) as u8,
+    ]
 }
 
 /// The octets of an optional parameter of one octet.

@@ -1,10 +1,11 @@
 //! A message as it is written, whatever its type.
-ghost use Rattle.std.specs.Prelude.{◌≡◌, ◌+◌, ◌^◌, ◌<◌, ◌≤◌, ◌++◌, [], length, IsTrue};
+ghost use Rattle.std.specs.Prelude.{◌≡◌, ◌+◌, ◌<◌, ◌≤◌, ◌++◌, [], length, IsTrue};
 ghost use Rattle.q713_shape.specs.Rules.{has_few_names};
 
-use crate::values::{high, low, middle};
+use crate::values::octets3;
 use q713_shape::{Layout, OptionRule, Shape, VarRule};
 use relay_base::Ref24;
+use relay_base::limits::REFERENCES;
 
 /// The octets of a fixed part, which are ten at most.
 #[derive(Clone, Copy)]
@@ -46,9 +47,9 @@ impl FixedPart {
         requires { self.count ≤ 7 }
         ensures octets { octets_in result ≡ octets_in self ++ octets3 reference }
         ensures count { result.count ≡ self.count + 3 }
-        ensures range { reference < 2 ^ 24 }
+        ensures range { reference < REFERENCES }
     {
-        self.with(&[low(reference), middle(reference), high(reference)])
+        self.with(&octets3(reference))
     }
 
     fn as_slice(&self) -> &[u8]
@@ -105,7 +106,7 @@ pub struct Written<'a> {
 }
 
 impl<'a> Written<'a> {
-    ghost use Rattle.q713_shape.specs.Format.{nameless};
+    ghost use Rattle.q713_shape.specs.Inner.Nameless.{nameless};
     ghost use Rattle.q713_shape.specs.Parts.{format_of, layout_format, layout_values};
     ghost use Rattle.q713_codec.specs.Inner.Written.{octets_in, written_format, written_values, values_with};
 

@@ -1,6 +1,7 @@
 -- The octets of a message (Q.713, 2.3): the type, the fixed part, the pointers, the variable parameters, and the optional part last.
 use Rattle.std.specs.Prelude.{ℕ, ◌+◌, ◌*◌, ◌/◌, ◌%◌, ◌==◌, ◌&&◌, nat_le, Bool, true, List, [], ◌∷◌, ◌++◌, length, map, if◌then◌else◌, Option, Some, None}
 use Rattle.std.specs.List.{concat, list_all}
+use Rattle.relay_base.specs.declared.limits.TheConstants.{GREATEST_OCTET}
 use Rattle.q713_shape.specs.declared.rules.VarRule.{VarRule}
 use Rattle.q713_shape.specs.Format.{Format, Values, option_count, pointer_width, is_long, is_length_of, is_option_length}
 
@@ -84,7 +85,7 @@ are_options (Some names) values = have_option_lengths names values
 
 -- a pointer fits its octets
 abbrev pub fits_pointer : Bool → ℕ → Bool
-fits_pointer wide n = nat_le n (if wide then 65_535 else 255)
+fits_pointer wide n = nat_le n (if wide then 65_535 else GREATEST_OCTET)
 
 -- the values may be written in this format
 unfoldable pub are_in_range : Format → Values → Bool

@@ -8,6 +8,7 @@ ghost use Rattle.q713_shape.specs.Writing.{variable, variables, all_given, given
 ghost use Rattle.std.specs.Option.{option_map};
 
 use crate::rules::{OptionRule, VarRule};
+use relay_base::limits::{LONGEST_DATA, LONGEST_PARAMETER};
 
 /// How many octets a pointer has.
 pub fn pointer_octets(wide: bool) -> usize
@@ -25,13 +26,13 @@ pub fn pointers_len(rules: &[VarRule], options: &OptionRule, wide: bool) -> usiz
     pointer_octets(wide) * (rules.len() + options.count())
 }
 
-/// Whether a length is one that the optional parameter of this name may have.
+/// Whether a length is one that the optional parameter of this name may have (Q.713, 3.4, 3.5, 3.16 and 3.17).
 pub fn is_option_len(name: u8, len: usize) -> bool
     ensures { result ≡ is_option_length name len }
 {
     match name {
-        0x03 | 0x04 => len <= 255,
-        0x0F => 1 <= len && len <= 128,
+        0x03 | 0x04 => len <= LONGEST_PARAMETER,
+        0x0F => 1 <= len && len <= LONGEST_DATA,
         0x10 => len == 4,
         _ => len == 1,
     }
@@ -79,8 +80,7 @@ pub fn variable_len(rule: &VarRule, value: &[u8]) -> usize
     ensures value { result ≡ length (variable rule.now value.now) }
     ensures small { result ≤ 65_537 }
 {
-    let most = rule.most;
-    value.len() + if most > 255 { 2 } else { 1 }
+    value.len() + if rule.is_long() { 2 } else { 1 }
 }
 
 /// The octets of the variable parameters, with those of their lengths.

@@ -32,7 +32,7 @@ fn value<'a>(bytes: &'a [u8], rule: &VarRule, place: usize) -> Result<&'a [u8], 
     requires { place < length bytes.now }
     ensures { Gives (λ v. v.now) result (value_at bytes.now rule.now place) }
 {
-    let long = rule.most > 255;
+    let long = rule.is_long();
     let width = if long { 2 } else { 1 };
     let start = place + width;
     if bytes.len() < start {

@@ -24,7 +24,7 @@ pub struct Shape<const F: usize, const V: usize> {
 
 impl<const F: usize, const V: usize> Shape<F, V> {
     ghost use Rattle.std.specs.Prelude.{◌≡◌, length, IsTrue, IfOk};
-    ghost use Rattle.q713_shape.specs.Format.{nameless};
+    ghost use Rattle.q713_shape.specs.Inner.Nameless.{nameless};
     ghost use Rattle.q713_shape.specs.Parts.{format_of, values_seen, layout_format, layout_values};
     ghost use Rattle.q713_shape.specs.Writing.{are_in_range, octets_of};
 

@@ -8,6 +8,7 @@ ghost use Rattle.q713_shape.specs.Writing.{number_octets, variable, variables, a
 
 use crate::lengths::{pointer_octets, variable_len};
 use crate::rules::VarRule;
+use relay_base::limits::GREATEST_OCTET;
 use relay_base::{Memory, Octets};
 
 /// Writes the low octet of a number, or its two low octets, the least significant first.
@@ -34,7 +35,12 @@ fn skip(behind: usize, before: usize, wide: bool) -> usize
 pub fn fits(number: usize, wide: bool) -> bool
     ensures { result ≡ fits_pointer wide number }
 {
-    number <= if wide { 65_535 } else { 255 }
+    number
+        <= if wide {
+            65_535
+        } else {
+            usize::from(GREATEST_OCTET)
+        }
 }
 
 /// Whether each pointer of the variable parameters fits its octets. Behind them may stand the one of the optional part.
@@ -84,7 +90,7 @@ pub fn put_pointers(
 fn put_variable(out: &mut Octets, rule: &VarRule, value: &[u8]) -> Result<(), Memory>
     ensures { OnOk result (out.new ≡ out.old ++ variable rule.now value.now) }
 {
-    put_number(out, value.len(), rule.most > 255)?;
+    put_number(out, value.len(), rule.is_long())?;
     out.extend(value)?;
     Ok(())
 }

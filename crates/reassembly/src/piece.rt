@@ -24,21 +24,21 @@ pub struct Piece {
 pub type PieceList = PlainList<Piece>;
 
 impl Piece {
-    /// Whether this is the first segment of a message.
+    /// Whether this is the first segment of a message (Q.713, 3.17).
     pub(crate) fn is_first(&self) -> bool
         ensures { result ≡ is_first self.now }
     {
         self.segmentation[0] >= 0x80
     }
 
-    /// How many segments remain behind this one, at most 15.
+    /// How many segments remain behind this one, at most 15 (Q.713, 3.17).
     pub(crate) fn remaining(&self) -> u8
         ensures { result ≡ remaining self.now }
     {
         self.segmentation[0] % 16
     }
 
-    /// Whether the two are segments of one message.
+    /// Whether the two are segments of one message (Q.714, 4.1.1).
     pub(crate) fn has_key_of(&self, other: &Piece) -> bool
         ensures { result ≡ same_key (key_of self.now) (key_of other.now) }
     {

@@ -1,5 +1,6 @@
 pub mod Causes
 pub mod Decimal
+pub mod Devices
 pub mod Giving
 pub mod Streams
 pub mod Inner

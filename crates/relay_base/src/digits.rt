@@ -1,14 +1,15 @@
 //! The digits of a global title.
-ghost use Rattle.std.specs.Prelude.{◌≡◌, ◌<◌, ◌==◌, [], ◌∷◌, ◌++◌, length, All, nat_eq};
+ghost use Rattle.std.specs.Prelude.{◌≡◌, ◌<◌, ◌≤◌, ◌==◌, [], ◌∷◌, ◌++◌, length, All, nat_eq};
 ghost use Rattle.std.specs.List.{starts_with};
 
+use crate::limits::{DIGIT_VALUES, MOST_DIGITS};
 use crate::numbers::Digit;
 use std::marker::Model;
 
 /// At most 24 digits, kept in place. A clause sees their list.
 #[derive(Clone, Copy, Debug, PartialEq, Eq)]
 pub struct Digits {
-    digits: [u8; 24],
+    digits: [u8; MOST_DIGITS],
     count: usize,
 }
 
@@ -36,14 +37,14 @@ impl Digits {
         ensures { result ≡ [] }
     {
         Digits {
-            digits: [0; 24],
+            digits: [0; MOST_DIGITS],
             count: 0,
         }
     }
 
     /// Puts a digit at the end.
     pub fn push(&mut self, digit: Digit)
-        requires { length self.old < 24 }
+        requires { length self.old < MOST_DIGITS }
         ensures { self.new ≡ self.old ++ digit ∷ [] }
     {
         self.digits[self.count] = digit.number() as u8;
@@ -52,15 +53,15 @@ impl Digits {
 
     pub fn as_slice(&self) -> &[u8]
         ensures value { result.now ≡ self.now }
-        ensures small { All (λ d. d < 16) result.now }
-        ensures few { length result.now < 25 }
+        ensures small { All (λ d. d < DIGIT_VALUES) result.now }
+        ensures few { length result.now ≤ MOST_DIGITS }
     {
         &self.digits[..self.count]
     }
 
     pub fn len(&self) -> usize
         ensures value { result ≡ length self.now }
-        ensures few { length self.now < 25 }
+        ensures few { length self.now ≤ MOST_DIGITS }
     {
         self.count
     }

@@ -1,6 +1,7 @@
 //! Numbers of a stated range. A clause sees each as its number.
 ghost use Rattle.std.specs.Prelude.{◌≡◌, ℕ, ◌<◌, SomeIff};
 
+use crate::limits::{DIGIT_VALUES, LINK_SELECTIONS, POINT_CODES, REFERENCES, SUBSYSTEM_NUMBERS};
 use std::marker::Model;
 
 /// A number below a limit.
@@ -40,24 +41,24 @@ impl<const LIMIT: u32> Below<LIMIT> {
 }
 
 /// A point code, of 14 bits.
-pub type Pc = Below<16_384>;
+pub type Pc = Below<POINT_CODES>;
 
 /// A local reference, of 24 bits.
-pub type Ref24 = Below<16_777_216>;
+pub type Ref24 = Below<REFERENCES>;
 
 /// A signalling link selection, of 4 bits.
-pub type Sls = Below<16>;
+pub type Sls = Below<LINK_SELECTIONS>;
 
 /// A subsystem number, of 8 bits.
-pub type Ssn = Below<256>;
+pub type Ssn = Below<SUBSYSTEM_NUMBERS>;
 
 /// A digit of a global title, of 4 bits.
-pub type Digit = Below<16>;
+pub type Digit = Below<DIGIT_VALUES>;
 
-impl From<u8> for Below<256> {
+impl From<u8> for Below<SUBSYSTEM_NUMBERS> {
     ghost from_gives = { λ n s. s ≡ n };
 
-    fn from(number: u8) -> Below<256> {
+    fn from(number: u8) -> Below<SUBSYSTEM_NUMBERS> {
         Below {
             number: u32::from(number),
         }

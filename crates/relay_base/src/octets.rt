@@ -9,10 +9,13 @@ use smallvec::SmallVec;
 use std::alloc::{AllocError, Global};
 use std::marker::Model;
 
+/// How many octets are kept in place.
+const IN_PLACE: usize = 24;
+
 /// Octets: up to 24 are kept in place, as most addresses and short messages are, and more take memory.
 #[derive(Debug)]
 pub struct Octets {
-    octets: SmallVec<u8, 24>,
+    octets: SmallVec<u8, IN_PLACE>,
 }
 
 impl Drop for Octets {

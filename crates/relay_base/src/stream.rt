@@ -10,6 +10,9 @@ use crate::octets::Octets;
 use crate::outside::{Sink, Source};
 use std::alloc::Global;
 
+/// How many bytes one reading asks for.
+const PIECE: usize = 4_096;
+
 /// All the bytes up to the end.
 ///
 /// `TooLong` comes exactly where one byte more than `most` was taken, `Fault` only where the source failed in this call.
@@ -28,7 +31,7 @@ pub fn read_all<S: Source>(
     ensures kept { result ≢ Err ReadAllFault.Fault → S.faults source.new ≡ S.faults source.old }
 {
     let mut bytes = Octets::new(alloc);
-    let mut buf = [0u8; 4096];
+    let mut buf = [0u8; PIECE];
     while bytes.len() <= most {
         let want = buf.len().min(most + 1 - bytes.len());
         let count = source.read(&mut buf[..want])?;

@@ -16,6 +16,9 @@ pub struct Device {
     pub fails: u64,
 }
 
+/// How many bytes a sink has room for.
+const ROOM: usize = 1_048_576;
+
 pub const SOUND: Device = Device { most: 7, fails: 0 };
 
 /// What a call left.
@@ -40,7 +43,7 @@ fn source_of(alloc: Global, text: &[u8], device: Device) -> Result<MemSource, Al
 
 fn sink_of(alloc: Global, device: Device) -> Result<MemSink, AllocError> {
     Ok(MemSink {
-        held: Vec::new(alloc),
+        held: Vec::with_capacity(alloc, ROOM)?,
         most: device.most.max(1),
         fails: Vec::from_slice(alloc, &[device.fails])?,
         calls: 0,

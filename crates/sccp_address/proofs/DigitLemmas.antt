@@ -4,7 +4,8 @@ use Rattle.std.proofs.lemmas.List.{take_more, take_all}
 use Rattle.std.specs.Prelude.{◌==◌}
 use lib.Seq.{take-append_seam}
 use Rattle.sccp_address.specs.Spelling.{is_odd}
-use Rattle.sccp_address.specs.Digits.{halves, nibble_at, digits_in, digit_octets}
+use Rattle.sccp_address.specs.Digits.{halves, digits_in, digit_octets}
+use Rattle.sccp_address.specs.Inner.Halves.{nibble_at}
 
 pub length-halves : (octets : List ℕ) → length (halves octets) ≡ 2 * length octets
 length-halves [] = refl

@@ -3,6 +3,7 @@ use Rattle.std.proofs.Common.{◌≡◌, ℕ, suc, ◌+◌, ◌-◌, ◌*◌, �
 use Rattle.std.specs.Prelude.{◌==◌, ◌&&◌, ◌||◌, is_some, IfSome}
 use Rattle.std.proofs.lemmas.Bool.{ne_eqb, le-ltb, le-leb, eqb-true, ltb-true}
 use Rattle.std.proofs.lemmas.Bool.Decides.{eqb_tells}
+use Rattle.relay_base.specs.declared.limits.TheConstants.{MOST_DIGITS}
 use Rattle.sccp_address.specs.declared.address.Selector.{Selector}
 use Rattle.sccp_address.specs.declared.titles.Parity.TheVariants.{Odd, Even}
 use Rattle.sccp_address.specs.Form.{Form, TitleForm, no_title, bcd, other}
@@ -104,7 +105,7 @@ after_lead gti lead digits s digital nonzero size parity selected rest few =
     (not_short (nat_lt (lead_of gti + length (digit_octets digits)) (lead_of gti)) (is_odd digits) (lead_of gti + length (digit_octets digits) == lead_of gti)
     (le-ltb (lead_of gti + length (digit_octets digits)) (lead_of gti) (omega arith))
     (λ odd. ne_eqb (lead_of gti + length (digit_octets digits)) (lead_of gti) (λ e. absurd (omega (arith, e, octets_after digits odd))))))
-    (rw (digital, parity, encoding-some (is_odd digits), size) (le-leb (lead_of gti + length (digit_octets digits)) (lead_of gti + 12) (omega (arith, few.0, length-digit_octets digits))))
+    (rw (digital, parity, encoding-some (is_odd digits), size) (le-leb (2 * (lead_of gti + length (digit_octets digits) - lead_of gti)) MOST_DIGITS (omega (arith, few.0, length-digit_octets digits))))
     selected
     (rw (parity, encoding-is (is_odd digits), rest) (digits_in-digit_octets digits few.1))
 

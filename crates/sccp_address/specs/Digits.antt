@@ -1,15 +1,10 @@
 -- Digits in binary coded decimal: two in an octet, the first one in its low half (Q.713, 3.4).
-use Rattle.std.specs.Prelude.{ℕ, ◌+◌, ◌-◌, ◌*◌, ◌/◌, ◌%◌, ◌==◌, Bool, List, [], ◌∷◌, length, take, slice_index, if◌then◌else◌}
+use Rattle.std.specs.Prelude.{ℕ, ◌+◌, ◌-◌, ◌*◌, ◌/◌, ◌%◌, Bool, List, [], ◌∷◌, length, take, if◌then◌else◌}
 
 -- the halves of octets, each octet's low half first
 abbrev pub halves : List ℕ → List ℕ
 halves [] = []
 halves (octet ∷ rest) = octet % 16 ∷ octet / 16 ∷ halves rest
-
--- the half at a place
-abbrev pub nibble_at : List ℕ → ℕ → ℕ
-nibble_at octets place =
-    if place % 2 == 0 then slice_index octets (place / 2) % 16 else slice_index octets (place / 2) / 16
 
 -- the digits in octets: an odd number leaves the last half out
 unfoldable pub digits_in : Bool → List ℕ → List ℕ

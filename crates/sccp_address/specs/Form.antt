@@ -1,4 +1,4 @@
--- An address as numbers and lists, without where its octets lie.
+-- An address as numbers and lists, without where its octets lie (Q.713, 3.4 and 3.5).
 use Rattle.std.specs.Prelude.{ℕ, Bool, List, Option}
 use Rattle.sccp_address.specs.declared.address.Selector.{Selector}
 use Rattle.sccp_address.specs.declared.address.Address.{Address}

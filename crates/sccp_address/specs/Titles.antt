@@ -1,6 +1,8 @@
 -- The global title that octets spell under an indicator (Q.713, 3.4), and which titles reading gives.
-use Rattle.std.specs.Prelude.{ℕ, ◌+◌, ◌-◌, ◌/◌, ◌%◌, ◌==◌, ◌||◌, ◌&&◌, nat_lt, nat_le, not, is_some, Bool, true, false, List, length, drop, slice_index, if◌then◌else◌, Option, Some, None, Ok, Err}
+use Rattle.std.specs.Prelude.{ℕ, ◌-◌, ◌*◌, ◌/◌, ◌%◌, ◌==◌, ◌||◌, ◌&&◌, nat_lt, nat_le, not, is_some, Bool, true, false, List, length, drop, slice_index, if◌then◌else◌, Option, Some, None, Ok, Err}
 use Rattle.std.specs.declared.result.Result.{Result}
+use Rattle.relay_base.specs.declared.limits.TheConstants.{MOST_DIGITS}
+use Rattle.sccp_address.specs.declared.address.TheConstants.{NATURES, NUMBERING_PLANS, TITLE_INDICATORS}
 use Rattle.sccp_address.specs.declared.address.Selector.{Selector}
 use Rattle.sccp_address.specs.declared.address.AddressFault.{AddressFault}
 use Rattle.sccp_address.specs.declared.address.AddressFault.TheVariants.{TitleShort}
@@ -36,10 +38,10 @@ abbrev pub is_title_short : ℕ → List ℕ → Bool
 is_title_short gti octets =
     has_digits gti && (nat_lt (length octets) (lead_of gti) || (encoding_of gti octets == 1 && length octets == lead_of gti))
 
--- an encoding of digits, with at most 24 of them
+-- an encoding of digits, with octets for at most 24 of them
 abbrev pub is_bcd : ℕ → List ℕ → Bool
 is_bcd gti octets =
-    has_digits gti && is_some (parity_of gti octets) && nat_le (length octets) (lead_of gti + 12)
+    has_digits gti && is_some (parity_of gti octets) && nat_le (2 * (length octets - lead_of gti)) MOST_DIGITS
 
 unfoldable pub title_at : ℕ → List ℕ → Result TitleForm AddressFault
 title_at gti octets =
@@ -51,9 +53,9 @@ title_at gti octets =
 -- an indicator with digits, its fields in their ranges, and 0 in the fields that it doesn't carry
 abbrev pub is_carried : Selector → Bool
 is_carried s =
-    if s.gti == 1 then s.tt == 0 && s.np == 0 && nat_lt s.nai 128
-    else if s.gti == 3 then nat_lt s.np 16 && s.nai == 0
-    else if s.gti == 4 then nat_lt s.np 16 && nat_lt s.nai 128
+    if s.gti == 1 then s.tt == 0 && s.np == 0 && nat_lt s.nai NATURES
+    else if s.gti == 3 then nat_lt s.np NUMBERING_PLANS && s.nai == 0
+    else if s.gti == 4 then nat_lt s.np NUMBERING_PLANS && nat_lt s.nai NATURES
     else false
 
 -- a title that reading gives: none, carried digits, or octets that are read as neither short nor digits
@@ -61,7 +63,7 @@ abbrev pub is_in_form : TitleForm → Bool
 is_in_form no_title = true
 is_in_form (bcd selector digits) = is_carried selector
 is_in_form (other gti octets) =
-    not (gti == 0) && nat_lt gti 16 && not (is_title_short gti octets) && not (is_bcd gti octets)
+    not (gti == 0) && nat_lt gti TITLE_INDICATORS && not (is_title_short gti octets) && not (is_bcd gti octets)
 
 -- the selector and the digits of a title
 abbrev pub dialled_of : TitleForm → Option (Selector × List ℕ)

@@ -1,7 +1,9 @@
 //! Digits in binary coded decimal: two in an octet, the first one in its low half.
-ghost use Rattle.std.specs.Prelude.{◌≡◌, ◌-◌, ◌*◌, ◌<◌, ◌++◌, length, if◌then◌else◌, All, OnOk};
-ghost use Rattle.sccp_address.specs.Digits.{nibble_at, digits_in, digit_octets};
+ghost use Rattle.std.specs.Prelude.{◌≡◌, ◌-◌, ◌*◌, ◌<◌, ◌≤◌, ◌++◌, length, if◌then◌else◌, All, OnOk};
+ghost use Rattle.sccp_address.specs.Digits.{digits_in, digit_octets};
+ghost use Rattle.sccp_address.specs.Inner.Halves.{nibble_at};
 
+use relay_base::limits::{DIGIT_VALUES, MOST_DIGITS};
 use relay_base::{Digit, Digits, Memory, Octets};
 
 /// The digit at a place, counted from 0 over the halves of the octets.
@@ -33,7 +35,7 @@ fn digit_count(is_odd: bool, octets: &[u8]) -> usize
 /// The digits in these octets. Where their number is odd, the high half of the last octet is passed over.
 #[tactic(auto, using(crate::proofs::DigitLemmas::octets_of_digits), unfolding(crate::specs::Digits::digits_in))]
 pub fn read_digits(is_odd: bool, octets: &[u8]) -> Digits
-    requires { length octets.now < 13 }
+    requires { 2 * length octets.now ≤ MOST_DIGITS }
     ensures { result ≡ digits_in is_odd octets.now }
 {
     let mut digits = Digits::new();
@@ -47,8 +49,8 @@ pub fn read_digits(is_odd: bool, octets: &[u8]) -> Digits
 #[tactic(auto, using(crate::proofs::DigitLemmas::octets_of_digits))]
 pub fn put_digits(octets: &mut Octets, digits: &Digits) -> Result<(), Memory>
     ensures value { OnOk result (octets.new ≡ octets.old ++ digit_octets digits.now) }
-    ensures few { length digits.now < 25 }
-    ensures small { All (λ d. d < 16) digits.now }
+    ensures few { length digits.now ≤ MOST_DIGITS }
+    ensures small { All (λ d. d < DIGIT_VALUES) digits.now }
 {
     let all = digits.as_slice();
     for place in 0..all.len() / 2 {

@@ -8,6 +8,7 @@ ghost use Rattle.sccp_address.specs.Spelling.{point_octets, lead_octets, title_o
 
 use crate::address::{Address, Selector, Title};
 use crate::digits::put_digits;
+use relay_base::limits::POINT_CODES;
 use relay_base::{Memory, Octets, Pc};
 use std::alloc::Global;
 
@@ -66,7 +67,7 @@ fn put_title(octets: &mut Octets, title: &Title<'_>) -> Result<(), Memory>
 
 fn put_point(octets: &mut Octets, point: Option<Pc>) -> Result<(), Memory>
     ensures value { OnOk result (octets.new ≡ octets.old ++ point_octets point) }
-    ensures range { IfSome point (λ p. p < 16384) }
+    ensures range { IfSome point (λ p. p < POINT_CODES) }
 {
     if let Some(point) = point {
         let number = point.number();

@@ -4,9 +4,10 @@ ghost use Rattle.relay_base.specs.Giving.{Gives};
 ghost use Rattle.sccp_address.specs.Form.{other, seen, seen_title};
 ghost use Rattle.sccp_address.specs.Titles.{has_digits, lead_of, parity_of, selector_of, is_carried, is_in_form, title_at, dialled_of};
 
-use crate::address::{Address, AddressFault, Selector, Title};
+use crate::address::{Address, AddressFault, Selector, TITLE_INDICATORS, Title};
 use crate::digits::read_digits;
 use relay_base::Digits;
+use relay_base::limits::MOST_DIGITS;
 
 /// Whether a title has an odd or an even number of digits.
 #[derive(Clone, Copy, Debug, PartialEq, Eq)]
@@ -69,7 +70,7 @@ fn digital(gti: u8, octets: &[u8]) -> Result<Title<'_>, AddressFault>
     let digits = &octets[lead(gti)..];
     match parity_at(gti, octets) {
         Some(Parity::Odd) if digits.is_empty() => Err(AddressFault::TitleShort),
-        Some(parity) if digits.len() <= 12 => Ok(Title::Bcd {
+        Some(parity) if 2 * digits.len() <= MOST_DIGITS => Ok(Title::Bcd {
             selector: selector_at(gti, octets),
             digits: read_digits(parity == Parity::Odd, digits),
         }),
@@ -80,7 +81,7 @@ fn digital(gti: u8, octets: &[u8]) -> Result<Title<'_>, AddressFault>
 /// The title of this indicator (0 to 15) that the octets spell.
 #[tactic(auto, unfolding(crate::specs::Titles::title_at))]
 pub fn read_title(gti: u8, octets: &[u8]) -> Result<Title<'_>, AddressFault>
-    requires { gti < 16 }
+    requires { gti < TITLE_INDICATORS }
     ensures value { Gives seen_title result (title_at gti octets.now) }
     ensures in_form { IfOk result (λ t. IsTrue (is_in_form (seen_title t))) }
 {
@@ -96,7 +97,7 @@ pub fn read_title(gti: u8, octets: &[u8]) -> Result<Title<'_>, AddressFault>
 pub fn is_other(gti: u8, octets: &[u8]) -> bool
     ensures { result ≡ is_in_form (other gti octets.now) }
 {
-    if gti == 0 || gti > 15 {
+    if gti == 0 || gti >= TITLE_INDICATORS {
         return false;
     }
     match read_title(gti, octets) {

@@ -1,6 +1,7 @@
 -- Messages of SCCP management (Q.713, 5): UDT of class 0 between subsystems 1, with a format, a subsystem and its point in its data.
 use Rattle.std.specs.Prelude.{ℕ, ◌+◌, ◌*◌, ◌/◌, ◌%◌, ◌==◌, ◌&&◌, nat_lt, Bool, false, List, [], ◌∷◌, length, slice_index, if◌then◌else◌, Option, Some, None, Ok, Err, option_map, unwrap_or}
 use Rattle.std.specs.declared.result.Result.{Result}
+use Rattle.relay_base.specs.declared.limits.TheConstants.{POINT_CODES}
 use Rattle.relay_base.specs.declared.words.ReadFault.{ReadFault}
 use Rattle.relay_base.specs.declared.words.Output.{Output}
 use Rattle.relay_base.specs.declared.words.Output.TheVariants.{Sent}
@@ -60,7 +61,7 @@ format_of code =
 
 -- of the point code 14 bits count
 abbrev pub notice_by : List ℕ → Format → Notice
-notice_by b format = record { format = format; ssn = slice_index b 1; point = (slice_index b 2 + 256 * slice_index b 3) % 16384 }
+notice_by b format = record { format = format; ssn = slice_index b 1; point = (slice_index b 2 + 256 * slice_index b 3) % POINT_CODES }
 
 -- what data say: they have five octets or more, and a format that is known
 abbrev pub notice_in : List ℕ → Option Notice

@@ -4,6 +4,7 @@ ghost use Rattle.std.specs.Option.{option_map};
 ghost use Rattle.scmg_messages.specs.Messages.{code_of, octets_of, sent, status_outputs, format_of, notice_in, is_for_management, data_in};
 
 use q713_codec::{LONGEST, View, read};
+use relay_base::limits::POINT_CODES;
 use relay_base::{Memory, Octets, Output, Outs, Pc, Sls, Ssn};
 use sccp_address::parse;
 use std::alloc::Global;
@@ -118,7 +119,7 @@ pub fn notice_in(told: &[u8]) -> Option<Notice>
         return None;
     }
     let format = Format::of_code(told[0])?;
-    let point = (u32::from(told[2]) + 256 * u32::from(told[3])) % 16_384;
+    let point = (u32::from(told[2]) + 256 * u32::from(told[3])) % POINT_CODES;
     Some(Notice {
         format,
         ssn: Ssn::from(told[1]),

@@ -414,7 +414,7 @@ fn lane_of_outputs(alloc: Global) -> Result<EntryList, Memory> {
 /// A sink that takes eight bytes at a time, and fails at the calls of these numbers.
 fn sink_of(alloc: Global, fails: &[u64]) -> Result<MemSink, AllocError> {
     Ok(MemSink {
-        held: Vec::new(alloc),
+        held: Vec::with_capacity(alloc, 65_536)?,
         most: 8,
         fails: Vec::from_slice(alloc, fails)?,
         calls: 0,

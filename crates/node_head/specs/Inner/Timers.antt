@@ -40,23 +40,30 @@ management_ticks place ms = do
   coord ← ticks_at place ms (codes "coord") 90 1
   Ok (status, status_max, coord)
 
+abbrev pub Three : Type 0
+Three = ℕ × ℕ × ℕ
+
+-- the timers of the four groups
+abbrev pub all_ticks : Three → Three → Three → Three → Result Ticks HeadFault
+all_ticks connection release waiting management = Ok (record {
+  connect = connection.0;
+  ias = connection.1;
+  iar = connection.2;
+  rel = release.0;
+  repeat = release.1;
+  int = release.2;
+  reset = waiting.0;
+  reassembly = waiting.1;
+  freeze = waiting.2;
+  status = management.0;
+  status_max = management.1;
+  coord = management.2;
+})
+
 unfoldable pub grouped_ticks : Place → Members → Result Ticks HeadFault
 grouped_ticks place ms = do
   connection ← connection_ticks place ms
   release ← release_ticks place ms
   waiting ← waiting_ticks place ms
   management ← management_ticks place ms
-  Ok (record {
-    connect = connection.0;
-    ias = connection.1;
-    iar = connection.2;
-    rel = release.0;
-    repeat = release.1;
-    int = release.2;
-    reset = waiting.0;
-    reassembly = waiting.1;
-    freeze = waiting.2;
-    status = management.0;
-    status_max = management.1;
-    coord = management.2;
-  })
+  all_ticks connection release waiting management

@@ -2,7 +2,8 @@
 use Rattle.std.specs.Prelude.{◌≡◌, ℕ, List, [], take, Option}
 use Rattle.std.specs.Borrow.{Bor}
 use Rattle.q713_shape.specs.declared.rules.VarRule.{VarRule}
-use Rattle.q713_shape.specs.Format.{Format, Values, nameless}
+use Rattle.q713_shape.specs.Format.{Format, Values}
+use Rattle.q713_shape.specs.Inner.Nameless.{nameless}
 use Rattle.q713_shape.specs.Parts.{slices, optional_slices}
 use Rattle.q713_shape.specs.Rules.{names_of}
 use Rattle.q713_codec.specs.declared.written.FixedPart.{FixedPart}

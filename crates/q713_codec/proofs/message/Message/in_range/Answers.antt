@@ -1,6 +1,4 @@
-use Rattle.std.proofs.Common.{◌∙◌, ap, sym}
-use Rattle.q713_shape.specs.Writing.{are_in_range}
-use Rattle.q713_shape.specs.Parts.{layout_format, layout_values}
+use Rattle.std.proofs.Common.{◌∙◌}
 use Rattle.q713_codec.proofs.Arms.{is_in_range-written}
 use Rattle.q713_codec.proofs.message.Message.in_range.Goals as goal
 

@@ -1,0 +1,11 @@
+-- What the devices over memory count.
+use Rattle.std.specs.Prelude.{ℕ, ◌+◌, ◌-◌, ◌^◌, min, Bool, List, nat_eq}
+use Rattle.std.specs.List.{list_any}
+
+-- one more, where a count stays at its last value
+abbrev pub one_more : ℕ → ℕ
+one_more count = min (count + 1) (2 ^ 64 - 1)
+
+-- the list of the calls that fail names this one
+abbrev pub is_named : List ℕ → ℕ → Bool
+is_named fails call = list_any (λ named. nat_eq named call) fails
