@@ -17,15 +17,12 @@ use Rattle.node_head.specs.declared.head.Head.{Head}
 use Rattle.capture_form.specs.declared.lane_place.LanePlace.{LanePlace}
 use Rattle.capture_form.specs.declared.lane_place.LanePlace.TheVariants.{All, Control, Conn, Unit as Data}
 
--- the lane of a number, among so many
-abbrev pub lane_among : ℕ → ℕ → ℕ
-lane_among lanes number = if lanes == 0 then 0 else number % lanes
-
+-- the lane of a number, among the lanes of its kind that a head has
 abbrev pub in_conn : Head → ℕ → LanePlace
-in_conn head number = Conn (lane_among head.conn_lanes number)
+in_conn head number = Conn (number % head.conn_lanes)
 
 abbrev pub in_data : Head → ℕ → LanePlace
-in_data head number = Data (lane_among head.data_lanes number)
+in_data head number = Data (number % head.data_lanes)
 
 -- a local reference has its lane in the last four bits
 abbrev pub of_reference : Head → ℕ → LanePlace

@@ -1,7 +1,8 @@
 //! In which lane an event stands.
 ghost use Rattle.std.specs.Prelude.{◌≡◌};
+ghost use Rattle.node_head.specs.Ranges.{IsHead};
 ghost use Rattle.q713_codec.specs.Reading.{seen};
-ghost use Rattle.capture_form.specs.Place.{lane_among, in_conn, in_data, of_reference, place_of_udt, place_of_message, place_of_octets, place_of_request, place_of_event, place_of};
+ghost use Rattle.capture_form.specs.Place.{in_conn, in_data, of_reference, place_of_udt, place_of_message, place_of_octets, place_of_request, place_of_event, place_of};
 
 use node_head::Head;
 use plant_core::ControlEvent;
@@ -18,37 +19,32 @@ pub enum LanePlace {
     Unit(u8),
 }
 
-/// The lane of a number, among so many. A head has at least one lane of each kind.
-fn lane_among(lanes: u8, number: u32) -> u8
-    ensures { result ≡ lane_among lanes number }
-{
-    if lanes == 0 {
-        0
-    } else {
-        (number % u32::from(lanes)) as u8
-    }
-}
-
+/// The connection lane of a number.
 fn in_conn(head: &Head, number: u32) -> LanePlace
+    requires { IsHead head.now }
     ensures { result ≡ in_conn head.now number }
 {
-    LanePlace::Conn(lane_among(head.conn_lanes, number))
+    LanePlace::Conn((number % u32::from(head.conn_lanes)) as u8)
 }
 
+/// The data lane of a link selection.
 fn in_data(head: &Head, sls: Sls) -> LanePlace
+    requires { IsHead head.now }
     ensures { result ≡ in_data head.now sls }
 {
-    LanePlace::Unit(lane_among(head.data_lanes, sls.number()))
+    LanePlace::Unit((sls.number() % u32::from(head.data_lanes)) as u8)
 }
 
 /// The lane of a local reference, which is in its last four bits.
 fn of_reference(head: &Head, reference: Ref24) -> LanePlace
+    requires { IsHead head.now }
     ensures { result ≡ of_reference head.now reference }
 {
     in_conn(head, reference.number() % 16)
 }
 
 fn place_of_udt(head: &Head, sls: Sls, called: &[u8]) -> LanePlace
+    requires { IsHead head.now }
     ensures { result ≡ place_of_udt head.now sls called.now }
 {
     if is_for_management(called) {
@@ -61,6 +57,7 @@ fn place_of_udt(head: &Head, sls: Sls, called: &[u8]) -> LanePlace
 /// The lane of a message that was read.
 #[tactic(auto, unfolding(crate::specs::Place::place_of_message))]
 fn place_of_message(head: &Head, opc: Pc, sls: Sls, view: &View<'_>) -> LanePlace
+    requires { IsHead head.now }
     ensures { result ≡ place_of_message head.now opc sls (seen view.now) }
 {
     match *view {
@@ -89,6 +86,7 @@ fn place_of_message(head: &Head, opc: Pc, sls: Sls, view: &View<'_>) -> LanePlac
 
 /// The lane of octets from the network.
 fn place_of_octets(head: &Head, opc: Pc, sls: Sls, bytes: &[u8]) -> LanePlace
+    requires { IsHead head.now }
     ensures { result ≡ place_of_octets head.now opc sls bytes.now }
 {
     if is_too_long(bytes) {
@@ -103,6 +101,7 @@ fn place_of_octets(head: &Head, opc: Pc, sls: Sls, bytes: &[u8]) -> LanePlace
 /// The lane of a user's request.
 #[tactic(auto, unfolding(crate::specs::Place::place_of_request))]
 fn place_of_request(head: &Head, request: &Request) -> LanePlace
+    requires { IsHead head.now }
     ensures { result ≡ place_of_request head.now request.now }
 {
     match request {
@@ -121,6 +120,7 @@ fn place_of_request(head: &Head, request: &Request) -> LanePlace
 /// The lane of a message, a request or a tick.
 #[tactic(auto, unfolding(crate::specs::Place::place_of_event))]
 fn place_of_event(head: &Head, event: &Event) -> LanePlace
+    requires { IsHead head.now }
     ensures { result ≡ place_of_event head.now event.now }
 {
     match event {
@@ -139,6 +139,7 @@ fn place_of_event(head: &Head, event: &Event) -> LanePlace
 /// lane, and each other one in the connection lane of its reference.
 #[tactic(auto, unfolding(crate::specs::Place::place_of))]
 pub fn place(head: &Head, event: &ControlEvent) -> LanePlace
+    requires { IsHead head.now }
     ensures { result ≡ place_of head.now event.now }
 {
     match event {

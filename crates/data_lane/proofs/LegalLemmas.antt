@@ -12,7 +12,7 @@ use Rattle.reassembly.specs.Reassembly.{Reassemblies}
 use Rattle.connectionless.specs.Asking.{matter_of}
 use Rattle.plant_core.specs.Asking.{Question, asked_at, answer_in}
 use Rattle.data_lane.specs.declared.effect.Effect.{Effect}
-use Rattle.data_lane.specs.Legal.{State, at_first, Step, step_of, step_by, joined, worked, effect_by, ticks_of, IsLegalEntry, LegalFrom, entry_after, state_after, question_of, asked_of}
+use Rattle.data_lane.specs.Legal.{State, at_first, Step, step_of, step_by, joined, worked, effect_by, IsLegalEntry, LegalFrom, entry_after, state_after, question_of, asked_of}
 use Rattle.data_lane.specs.Inner.Lane.{reduced, IsLane}
 use Rattle.data_lane.proofs.CountLemmas.{reduced-add, effect-reduced}
 
@@ -31,7 +31,7 @@ asks_so edition routing (Some q) = refl
 
 -- what an event gives by its effect
 step-effect : (head : LaneHead) (number : ℕ) (s : State) (e : Event) (asked : Option Asked) (effect : Effect) → effect ≡ effect_by head number (reduced s.cut) (matter_of e) (answer_in asked)
-    → step_of head number s e (answer_in asked) ≡ joined s.cut effect (worked head.terms.own (ticks_of head) s.processes effect.work)
+    → step_of head number s e (answer_in asked) ≡ joined s.cut effect (worked head.terms.own head.reassembly s.processes effect.work)
 unfolding step_of
 step-effect head number s e asked effect t = ap (step_by head s) (sym (t ∙ effect-reduced head number s.cut (matter_of e) (answer_in asked)))
 
@@ -60,15 +60,15 @@ lane-goes head number journal plant e count bench after effect entry lane writte
     ap is_some written.asked ∙ asks_so plant.edition plant.routing (question_of e) ∙ ap (λ f. is_some (question_of f)) (sym written.of_event) in
     let by : effect ≡ effect_by head number (reduced s.cut) (matter_of entry.event) (answer_in entry.asked) =
     written.by ∙ ap (λ n. effect_by head number n (matter_of e) (answer_in entry.asked)) lane.cut ∙ ap (λ f. effect_by head number (reduced s.cut) (matter_of f) (answer_in entry.asked)) (sym written.of_event) in
-    let same : worked head.terms.own bench.ticks bench.processes effect.work ≡ worked head.terms.own (ticks_of head) s.processes effect.work =
-    ap (λ n. worked head.terms.own n bench.processes effect.work) lane.ticks ∙ ap (λ p. worked head.terms.own (ticks_of head) p effect.work) lane.processes in
-    let step : step_of head number s entry.event (answer_in entry.asked) ≡ joined s.cut effect (worked head.terms.own (ticks_of head) s.processes effect.work) =
+    let same : worked head.terms.own bench.ticks bench.processes effect.work ≡ worked head.terms.own head.reassembly s.processes effect.work =
+    ap (λ n. worked head.terms.own n bench.processes effect.work) lane.ticks ∙ ap (λ p. worked head.terms.own head.reassembly p effect.work) lane.processes in
+    let step : step_of head number s entry.event (answer_in entry.asked) ≡ joined s.cut effect (worked head.terms.own head.reassembly s.processes effect.work) =
     step-effect head number s entry.event entry.asked effect by in
     let legal : IsLegalEntry head number s entry = record {
       routed = routed;
       outputs = written.outs ∙ ap (λ w. effect.outs ++ w.outs) same ∙ sym (ap (λ (x : Step). x.outs) step);
     } in
-    let left : state_after head number at_first (journal ++ entry ∷ []) ≡ (joined s.cut effect (worked head.terms.own (ticks_of head) s.processes effect.work)).after =
+    let left : state_after head number at_first (journal ++ entry ∷ []) ≡ (joined s.cut effect (worked head.terms.own head.reassembly s.processes effect.work)).after =
     state-push head number at_first journal entry ∙ ap (λ (x : Step). x.after) step in
     record {
       legal = legal-push head number at_first journal entry lane.legal legal;

@@ -115,10 +115,6 @@ taken_outs own taken = failures own taken.failed ++ of_now own taken.now
 abbrev pub of_taken : ℕ → List Process × Taken → Worked
 of_taken own x = record { processes = x.0; outs = taken_outs own x.1 }
 
--- a reassembly has at least one tick
-abbrev pub ticks_of : LaneHead → ℕ
-ticks_of head = if head.reassembly == 0 then 1 else head.reassembly
-
 abbrev pub worked : ℕ → ℕ → List Process → Work → Worked
 worked own ticks processes work.Nothing = record { processes = processes; outs = [] }
 worked own ticks processes (work.Segment piece) = of_taken own (takes ticks processes piece)
@@ -141,7 +137,7 @@ abbrev pub joined : ℕ → Effect → Worked → Step
 joined cut effect done = record { outs = effect.outs ++ done.outs; after = record { cut = cut + (if effect.is_cut then 1 else 0); processes = done.processes } }
 
 abbrev pub step_by : LaneHead → State → Effect → Step
-step_by head s effect = joined s.cut effect (worked head.terms.own (ticks_of head) s.processes effect.work)
+step_by head s effect = joined s.cut effect (worked head.terms.own head.reassembly s.processes effect.work)
 
 unfoldable pub step_of : LaneHead → ℕ → State → Event → Option Answer → Step
 step_of head number s e answer = step_by head s (effect_by head number s.cut (matter_of e) answer)

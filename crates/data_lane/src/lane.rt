@@ -1,7 +1,8 @@
 //! The data lane.
 ghost use Rattle.std.specs.Prelude.{◌≡◌, ◌+◌, ◌++◌, ◌∷◌, [], if◌then◌else◌, IfOk, OnOk, OnErr};
 ghost use Rattle.reassembly.specs.Laws.{IsWithinBounds};
-ghost use Rattle.data_lane.specs.Legal.{ticks_of, worked};
+ghost use Rattle.plant_core.specs.Terms.{IsLaneHead};
+ghost use Rattle.data_lane.specs.Legal.{worked};
 ghost use Rattle.data_lane.specs.Inner.Lane.{reduced};
 
 use crate::effect::{Context, Work};
@@ -37,17 +38,6 @@ impl Model for DataLane {
     ghost view = { λ l. record { head = l.head; number = l.number; journal = l.journal } };
 
     ghost invariant = { λ l. IsLane l.head l.number l.journal l.cut l.bench };
-}
-
-/// The ticks of a reassembly, at least one.
-fn ticks_of(head: &LaneHead) -> u32
-    ensures { result ≡ ticks_of head.now }
-{
-    if head.reassembly == 0 {
-        1
-    } else {
-        head.reassembly
-    }
 }
 
 /// The count after one more event.
@@ -100,6 +90,7 @@ impl DataLane {
 
     /// The data lane of this number, from 0, before its first event.
     pub fn new(alloc: Global, head: &LaneHead, number: u8) -> Result<DataLane, Memory>
+        requires { IsLaneHead head.now }
         ensures { IfOk result (λ x. x ≡ record { head = head.now; number = number; journal = [] }) }
     {
         Ok(DataLane {
@@ -108,7 +99,7 @@ impl DataLane {
             number,
             journal: EntryList::new(alloc),
             cut: 0,
-            bench: Bench::new(alloc, ticks_of(head)),
+            bench: Bench::new(alloc, head.reassembly),
         })
     }
 

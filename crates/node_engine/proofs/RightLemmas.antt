@@ -14,6 +14,7 @@ use Rattle.conn_lane.specs.Journals.{IsConnJournal}
 use Rattle.conn_lane.specs.Lanes.{ConnLaneState}
 use Rattle.scmg.specs.Control.{IsControlJournal}
 use Rattle.node_head.specs.declared.head.Head.{Head}
+use Rattle.node_head.specs.Ranges.{IsHead}
 use Rattle.capture_form.specs.Events.{Stamped, phase_events, AreOfLinks}
 use Rattle.capture_form.specs.Place.{place_of}
 use Rattle.capture_form.specs.declared.lane_place.LanePlace.{LanePlace}
@@ -157,8 +158,9 @@ right-done head phases node (Err f) lanes served legal same = tt
 
 -- ---- what the first lanes can take
 
-pub first-can : (head : Head) (events : Stamped) (node : Node) → length events < 4294967296 → IsFirst head node → CanTake head events node
-first-can head events node few first = record {
+pub first-can : (head : Head) (events : Stamped) (node : Node) → IsHead head → length events < 4294967296 → IsFirst head node → CanTake head events node
+first-can head events node stated few first = record {
+  stated = stated;
   lanes = first.lanes;
   room = record {
     control = omega (arith, few, ap length first.control);

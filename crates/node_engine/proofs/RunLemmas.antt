@@ -94,12 +94,14 @@ can-first : (head : Head) (xs ys : Stamped) (node : Node) → CanTake head (xs +
 can-first head xs ys node h =
     let le : length xs ≤ length (xs ++ ys) = omega (arith, length-append xs ys) in
     record {
+      stated = h.stated;
       lanes = h.lanes;
       room = record { control = omega (arith, le, h.room.control); conns = all-bound (length (xs ++ ys)) (length xs) (conn_journals node.conns.items) le h.room.conns };
     }
 
 can-rest : (head : Head) (xs ys : Stamped) (a b : Node) → CanTake head (xs ++ ys) a → Went head xs a b → CanTake head ys b
 can-rest head xs ys a b h g = record {
+  stated = h.stated;
   lanes = g.lanes;
   room = room-left head xs ys a b h.room g;
 }

@@ -16,6 +16,7 @@ use Rattle.data_lane.specs.Legal.{question_of as question_of_unit}
 use Rattle.conn_lane.specs.Journals.{IsConnJournal}
 use Rattle.conn_lane.specs.Lanes.{ConnLaneState}
 use Rattle.node_head.specs.declared.head.Head.{Head}
+use Rattle.node_head.specs.Ranges.{IsHead}
 use Rattle.capture_form.specs.declared.lane_place.LanePlace.{LanePlace}
 use Rattle.journal_text.specs.declared.book.Book.{Book}
 use Rattle.scmg.specs.Control.{IsControlJournal, routing_after}
@@ -155,8 +156,9 @@ pub record HasRoom (events : ℕ) (node : Node) : Type 0 where
   pub control : length node.control.journal + events < 4294967296
   pub conns : AllByRecursion (λ journal. length journal + events < 4294967296) (conn_journals node.conns.items)
 
--- the lanes can take the events
+-- the lanes can take the events of a capture with this head
 pub record CanTake (head : Head) (events : Stamped) (node : Node) : Type 0 where
+  pub stated : IsHead head
   pub lanes : IsOf head node
   pub room : HasRoom (length events) node
 

@@ -3,6 +3,7 @@ ghost use Rattle.std.specs.Prelude.{◌≡◌, ◌++◌, ◌≤◌, ◌+◌, [],
 ghost use Rattle.std.specs.List.{AllByRecursion};
 ghost use Rattle.node_head.specs.Addable.{are_addable};
 ghost use Rattle.node_head.specs.Ranges.{IsHead};
+ghost use Rattle.plant_core.specs.Terms.{IsLaneHead};
 ghost use Rattle.node_engine.specs.Heads.{routing_of, lane_head_of, control_head_of};
 ghost use Rattle.node_engine.specs.Lanes.{LanesFrom};
 ghost use Rattle.node_engine.specs.Running.{IsFirst, IsConnLaneOf, IsDataLaneOf};
@@ -32,7 +33,8 @@ pub struct Node {
 
 /// What a connection lane or a data lane is told of a head.
 fn lane_head_of(head: &Head) -> LaneHead
-    ensures { result ≡ lane_head_of head.now }
+    ensures value { result ≡ lane_head_of head.now }
+    ensures range { IsHead head.now → IsLaneHead result }
 {
     LaneHead {
         terms: Terms {
@@ -115,6 +117,7 @@ fn conn_lanes(alloc: Global, head: &Head) -> Result<ConnLaneList, Memory>
 
 /// The data lanes of a head, before their first events.
 fn data_lanes(alloc: Global, head: &Head) -> Result<DataLaneList, Memory>
+    requires { IsHead head.now }
     ensures count { IfOk result (λ lanes. length lanes.items ≡ head.now.data_lanes) }
     ensures lanes { IfOk result (λ lanes. LanesFrom (IsDataLaneOf head.now) 0 lanes.items) }
     ensures empty { IfOk result (λ lanes. AllByRecursion (λ l. l.journal ≡ []) lanes.items) }

@@ -1,4 +1,6 @@
 //! The points, titles and octets of the tests.
+ghost use Rattle.plant_core.specs.Terms.{AreTicks};
+
 use gtt_table::{Entity, Row};
 use plant_core::Ticks;
 use relay_base::{Digit, Digits, Octets, Pc, Sls, Ssn};
@@ -61,7 +63,9 @@ pub fn row(rt: &impl Abort, prefix: &[u8], number: u32) -> Row {
 }
 
 /// Status tests are sent after 2 ticks, then 4, then at most 5; a coordinated change has 3 ticks, a reassembly 15.
-pub fn ticks() -> Ticks {
+pub fn ticks() -> Ticks
+    ensures { AreTicks result }
+{
     Ticks {
         connect: 90,
         ias: 420,

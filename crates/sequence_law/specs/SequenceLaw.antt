@@ -1,6 +1,6 @@
 -- The law of the sequenced service (class 1; Q.714, 4.1), over a right book: the units of one key, which are those of one originating point and one
 -- link selection, stand in one lane as they came, and with them what was sent and told. Messages of management are apart.
-use Rattle.std.specs.Prelude.{◌≡◌, ◌≢◌, ◌<◌, ℕ, ◌==◌, ◌&&◌, not, Bool, true, false, List, [], ◌∷◌, ◌++◌, length, filter, slice_get, slice_index_or, Ok, Err, Some}
+use Rattle.std.specs.Prelude.{◌≡◌, ◌≢◌, ◌<◌, ℕ, ◌==◌, ◌&&◌, not, Bool, true, false, List, [], ◌∷◌, ◌++◌, length, filter, slice_get, slice_index_or, Ok, Err, Some, ◌%◌}
 use Rattle.std.specs.declared.result.Result.{Result}
 use Rattle.std.specs.List.{flat_map}
 use Rattle.relay_base.specs.declared.words.ReadFault.{ReadFault}
@@ -17,7 +17,6 @@ use Rattle.plant_core.specs.declared.entry.ControlEvent.TheVariants.{Plain, Chan
 use Rattle.node_head.specs.declared.head.Head.{Head}
 use Rattle.journal_text.specs.declared.book.Book.{Book}
 use Rattle.capture_form.specs.Events.{Stamped}
-use Rattle.capture_form.specs.Place.{lane_among}
 use Rattle.unit_law.specs.OwnOutputs.{StandsAlone, outputs_after}
 use Rattle.node_engine.specs.Own.{pairs_of}
 use Rattle.node_engine.specs.Heads.{lane_head_of}
@@ -61,7 +60,7 @@ events_on phases link = flat_map (λ phase. slice_index_or phase link []) phases
 
 -- the data lane of a link selection
 abbrev pub lane_of : Head → ℕ → ℕ
-lane_of head sls = lane_among head.data_lanes sls
+lane_of head sls = sls % head.data_lanes
 
 pub record IsInSequence (head : Head) (phases : List (List Stamped)) (book : Book) (point sls : ℕ) : Type 0 where
   -- there is a lane for it

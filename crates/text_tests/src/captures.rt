@@ -659,7 +659,10 @@ fn place_of(alloc: Global, line: &str) -> Result<Option<LanePlace>, CaptureFault
         "point = 100\nusers = [8]\nconn_lanes = 5\ndata_lanes = 3\n%%\n{line}\n"
     )?;
     let capture = read_capture(alloc, text.as_bytes())?;
-    Ok(first_event(&capture).map(|(_, event)| place(&capture.head, event)))
+    let Some((_, event)) = first_event(&capture) else {
+        return Ok(None);
+    };
+    Ok(Some(place(&capture.head, event)))
 }
 
 /// The lanes of event lines, each behind an arrow.

@@ -10,7 +10,7 @@ use Rattle.connectionless.specs.Asking.{Matter}
 use Rattle.data_lane.specs.declared.effect.Context.{Context}
 use Rattle.data_lane.specs.declared.effect.Effect.{Effect}
 use Rattle.data_lane.specs.declared.lane.TheConstants.{REFERENCES}
-use Rattle.data_lane.specs.Legal.{at_first, state_after, ticks_of, effect_by, IsDataJournal}
+use Rattle.data_lane.specs.Legal.{at_first, state_after, effect_by, IsDataJournal}
 
 -- A count of units that were cut, as far as references tell them apart.
 abbrev pub reduced : ℕ → ℕ
@@ -21,7 +21,7 @@ pub record IsLane (head : LaneHead) (number : ℕ) (journal : List Entry) (count
   pub legal : IsDataJournal head number journal
   pub cut : count ≡ reduced (state_after head number at_first journal).cut
   pub processes : bench.processes ≡ (state_after head number at_first journal).processes
-  pub ticks : bench.ticks ≡ ticks_of head
+  pub ticks : bench.ticks ≡ head.reassembly
   pub bounds : IsWithinBounds bench.processes
 
 -- The routing for what is asked, and what comes of a matter by the routing that was asked, with what a lane knows as it takes an event.
