@@ -6,6 +6,7 @@ ghost use Rattle.capture_form.specs.Place.{lane_among, in_conn, in_data, of_refe
 use node_head::Head;
 use plant_core::ControlEvent;
 use q713_codec::{View, is_too_long, read};
+use relay_base::limits::MOST_LANES;
 use relay_base::{Event, Pc, Ref24, Request, Sls};
 use scmg_messages::is_for_management;
 
@@ -45,7 +46,7 @@ fn in_data(head: &Head, sls: Sls) -> LanePlace
 fn of_reference(head: &Head, reference: Ref24) -> LanePlace
     ensures { result ≡ of_reference head.now reference }
 {
-    in_conn(head, reference.number() % 16)
+    in_conn(head, reference.number() % u32::from(MOST_LANES))
 }
 
 fn place_of_udt(head: &Head, sls: Sls, called: &[u8]) -> LanePlace
