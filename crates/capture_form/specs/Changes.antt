@@ -1,7 +1,9 @@
 -- What the lines of an operator change in the routing data, or what is wrong with their words.
 use Rattle.std.specs.Prelude.{ℕ, ◌==◌, ◌||◌, nat_lt, codes, List, [], ◌∷◌, length, if◌then◌else◌, Option, Some, None, Ok, Err}
 use Rattle.std.specs.declared.result.Result.{Result}
+use Rattle.relay_base.specs.declared.limits.TheConstants.{OCTET_VALUES}
 use Rattle.relay_base.specs.Giving.{◌>>=◌}
+use Rattle.sccp_address.specs.declared.address.TheConstants.{NATURES, NUMBERING_PLANS}
 use Rattle.sccp_address.specs.declared.address.Selector.{Selector}
 use Rattle.gtt_table.specs.declared.row.Entity.{Entity}
 use Rattle.gtt_table.specs.declared.row.Row.{Row}
@@ -19,12 +21,12 @@ indicator_of word = do
   gti ← below 5 word
   if gti == 1 || gti == 3 || gti == 4 then Ok gti else Err Number
 
--- what the titles of an indicator carry; 0 stands for what they don't
+-- what the titles of an indicator carry (Q.713, 3.4); 0 stands for what they don't
 abbrev pub carried : ℕ → List ℕ → List ℕ → List ℕ → Result Selector LineKind
 carried gti type plan nature = do
-  tt ← below (if gti == 1 then 1 else 256) type
-  np ← below (if gti == 1 then 1 else 16) plan
-  nai ← below (if gti == 3 then 1 else 128) nature
+  tt ← below (if gti == 1 then 1 else OCTET_VALUES) type
+  np ← below (if gti == 1 then 1 else NUMBERING_PLANS) plan
+  nai ← below (if gti == 3 then 1 else NATURES) nature
   Ok (record { gti = gti; tt = tt; np = np; nai = nai })
 
 abbrev pub selector_of : List ℕ → List ℕ → List ℕ → List ℕ → Result Selector LineKind

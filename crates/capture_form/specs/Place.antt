@@ -1,6 +1,7 @@
 -- In which lane an event stands, by the head and the event alone.
 use Rattle.std.specs.Prelude.{ℕ, ◌+◌, ◌%◌, ◌==◌, List, if◌then◌else◌, Ok, Err}
 use Rattle.std.specs.declared.result.Result.{Result}
+use Rattle.relay_base.specs.declared.limits.TheConstants.{MOST_LANES}
 use Rattle.relay_base.specs.declared.words.ReadFault.{ReadFault}
 use Rattle.relay_base.specs.declared.words.Event.{Event}
 use Rattle.relay_base.specs.declared.words.Event.TheVariants.{Message as Arrived, Asked as Requested, Tick}
@@ -26,7 +27,7 @@ in_data head number = Data (number % head.data_lanes)
 
 -- a local reference has its lane in the last four bits
 abbrev pub of_reference : Head → ℕ → LanePlace
-of_reference head reference = in_conn head (reference % 16)
+of_reference head reference = in_conn head (reference % MOST_LANES)
 
 -- UDT, by its called address
 abbrev pub place_of_udt : Head → ℕ → List ℕ → LanePlace

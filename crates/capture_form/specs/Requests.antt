@@ -1,7 +1,7 @@
 -- What a user asks for in the words of a request, or what is wrong with them.
 use Rattle.std.specs.Prelude.{ℕ, ◌==◌, codes, Bool, false, List, [], ◌∷◌, length, if◌then◌else◌, Option, Some, None, Ok, Err}
 use Rattle.std.specs.declared.result.Result.{Result}
-use Rattle.relay_base.specs.declared.limits.TheConstants.{LONGEST_GIVEN_UNIT, LONGEST_DATA, LONGEST_EXPEDITED, LONGEST_TEXT}
+use Rattle.relay_base.specs.declared.limits.TheConstants.{CREDITS, LINK_SELECTIONS, OCTET_VALUES, POINT_CODES, REFERENCES, LONGEST_GIVEN_UNIT, LONGEST_DATA, LONGEST_EXPEDITED, LONGEST_TEXT}
 use Rattle.relay_base.specs.Giving.{◌>>=◌}
 use Rattle.relay_base.specs.declared.words.Request.{Request}
 use Rattle.relay_base.specs.declared.words.Request.TheVariants as request
@@ -15,7 +15,7 @@ use Rattle.capture_form.specs.declared.fault.LineKind.TheVariants.{Words}
 -- what asks for a unit: selection, class, the word on return on error, called and calling address, body
 abbrev pub unit_of : List ℕ → List ℕ → List ℕ → List ℕ → List ℕ → List ℕ → Result Request LineKind
 unit_of sls class ret called calling body = do
-  selection ← below 16 sls
+  selection ← below LINK_SELECTIONS sls
   number ← below 2 class
   to ← called_of called
   from ← calling_of calling
@@ -27,7 +27,7 @@ abbrev pub conn_of : List ℕ → List ℕ → List ℕ → List ℕ → List �
 conn_of tag class credit called body = do
   name ← below 65536 tag
   number ← class_of class
-  granted ← below 128 credit
+  granted ← below CREDITS credit
   to ← called_of called
   octets ← body_of LONGEST_DATA body
   Ok (request.Conn name number granted to octets)
@@ -73,41 +73,41 @@ request_of form.Unit (sls ∷ class ∷ ret ∷ called ∷ calling ∷ body ∷ 
 request_of form.Conn (tag ∷ class ∷ credit ∷ called ∷ body ∷ []) = conn_of tag class credit called body
 -- accept <ref> <class> <credit> <hex>
 request_of form.Accept (reference ∷ class ∷ credit ∷ body ∷ []) = do
-  mine ← below 16777216 reference
+  mine ← below REFERENCES reference
   number ← class_of class
-  granted ← below 128 credit
+  granted ← below CREDITS credit
   octets ← body_of LONGEST_DATA body
   Ok (request.Accept mine number granted octets)
 -- refuse <ref> <cause> <hex>
 request_of form.Refuse (reference ∷ cause ∷ body ∷ []) = do
-  mine ← below 16777216 reference
-  number ← below 256 cause
+  mine ← below REFERENCES reference
+  number ← below OCTET_VALUES cause
   octets ← body_of LONGEST_DATA body
   Ok (request.Refuse mine number octets)
 -- send <ref> <hex>
 request_of form.Send (reference ∷ body ∷ []) = do
-  mine ← below 16777216 reference
+  mine ← below REFERENCES reference
   octets ← text_of LONGEST_TEXT body
   Ok (request.Send mine octets)
 -- ed <ref> <hex>
 request_of form.Expedite (reference ∷ body ∷ []) = do
-  mine ← below 16777216 reference
+  mine ← below REFERENCES reference
   octets ← text_of LONGEST_EXPEDITED body
   Ok (request.Expedite mine octets)
 -- reset <ref>
 request_of form.Reset (reference ∷ []) = do
-  mine ← below 16777216 reference
+  mine ← below REFERENCES reference
   Ok (request.Reset mine)
 -- disc <ref> <cause> <hex>
 request_of form.Disc (reference ∷ cause ∷ body ∷ []) = do
-  mine ← below 16777216 reference
-  number ← below 256 cause
+  mine ← below REFERENCES reference
+  number ← below OCTET_VALUES cause
   octets ← body_of LONGEST_DATA body
   Ok (request.Disc mine number octets)
 -- coord
 request_of form.Coord [] = Ok request.Coord
 -- grant <point>
 request_of form.Grant (point ∷ []) = do
-  to ← below 16384 point
+  to ← below POINT_CODES point
   Ok (request.Grant to)
 request_of _ _ = Err Words

@@ -2,7 +2,7 @@
 use Rattle.std.specs.Prelude.{ℕ, ◌==◌, ◌||◌, ◌&&◌, nat_lt, nat_le, codes, Bool, List, [], length, if◌then◌else◌, Option, Some, None, Ok, Err, is_ok}
 use Rattle.std.specs.List.{list_any}
 use Rattle.std.specs.declared.result.Result.{Result}
-use Rattle.relay_base.specs.declared.limits.TheConstants.{LONGEST_GIVEN_ADDRESS}
+use Rattle.relay_base.specs.declared.limits.TheConstants.{LONGEST_GIVEN_ADDRESS, POINT_CODES, SUBSYSTEM_NUMBERS}
 use Rattle.relay_base.specs.Giving.{◌>>=◌}
 use Rattle.relay_base.specs.Decimal.{number_of}
 use Rattle.sccp_address.specs.Parsing.{address_of}
@@ -44,13 +44,13 @@ class_of word = class_in (number_of word)
 -- the subsystem number of a user
 abbrev pub user_of : List ℕ → List ℕ → Result ℕ LineKind
 user_of users word = do
-  ssn ← below 256 word
+  ssn ← below SUBSYSTEM_NUMBERS word
   if list_any (λ user. user == ssn) users then Ok ssn else Err User
 
 -- a point other than the own one
 abbrev pub other_point_of : ℕ → List ℕ → Result ℕ LineKind
 other_point_of own word = do
-  point ← below 16384 word
+  point ← below POINT_CODES word
   if point == own then Err Point else Ok point
 
 -- the digits of a prefix, or a dash for none

@@ -8,8 +8,9 @@ use crate::words::{lead, octet, other_point, prefix, user};
 use gtt_table::{Entity, Row};
 use node_head::Head;
 use plant_core::Change;
+use relay_base::limits::OCTET_VALUES;
 use relay_base::{Pc, Ssn};
-use sccp_address::Selector;
+use sccp_address::{NATURES, NUMBERING_PLANS, Selector};
 
 /// A global title indicator: 1, 3 or 4.
 fn indicator(word: &[u8]) -> Result<u8, LineKind>
@@ -27,9 +28,16 @@ fn indicator(word: &[u8]) -> Result<u8, LineKind>
 fn carried(gti: u8, tt: &[u8], np: &[u8], nai: &[u8]) -> Result<Selector, LineKind>
     ensures { result ≡ carried gti tt.now np.now nai.now }
 {
-    let tt = octet(if gti == 1 { 1 } else { 256 }, tt)?;
-    let np = octet(if gti == 1 { 1 } else { 16 }, np)?;
-    let nai = octet(if gti == 3 { 1 } else { 128 }, nai)?;
+    let tt = octet(if gti == 1 { 1 } else { OCTET_VALUES }, tt)?;
+    let np = octet(
+        if gti == 1 {
+            1
+        } else {
+            u32::from(NUMBERING_PLANS)
+        },
+        np,
+    )?;
+    let nai = octet(if gti == 3 { 1 } else { u32::from(NATURES) }, nai)?;
     Ok(Selector { gti, tt, np, nai })
 }
 

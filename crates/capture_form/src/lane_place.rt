@@ -7,6 +7,7 @@ ghost use Rattle.capture_form.specs.Place.{in_conn, in_data, of_reference, place
 use node_head::Head;
 use plant_core::ControlEvent;
 use q713_codec::{View, is_too_long, read};
+use relay_base::limits::MOST_LANES;
 use relay_base::{Event, Pc, Ref24, Request, Sls};
 use scmg_messages::is_for_management;
 
@@ -40,7 +41,7 @@ fn of_reference(head: &Head, reference: Ref24) -> LanePlace
     requires { IsHead head.now }
     ensures { result ≡ of_reference head.now reference }
 {
-    in_conn(head, reference.number() % 16)
+    in_conn(head, reference.number() % u32::from(MOST_LANES))
 }
 
 fn place_of_udt(head: &Head, sls: Sls, called: &[u8]) -> LanePlace

@@ -7,7 +7,10 @@ use crate::fault::LineKind;
 use crate::refused::LineRefused;
 use crate::words::{asks_return, below, body, boxed_body, called, calling, class, is_return, text};
 use relay_base::Request;
-use relay_base::limits::{LONGEST_DATA, LONGEST_EXPEDITED, LONGEST_GIVEN_UNIT, LONGEST_TEXT};
+use relay_base::limits::{
+    CREDITS, LINK_SELECTIONS, LONGEST_DATA, LONGEST_EXPEDITED, LONGEST_GIVEN_UNIT, LONGEST_TEXT,
+    OCTET_VALUES, POINT_CODES, REFERENCES,
+};
 use std::alloc::Global;
 
 /// What asks for a unit.
@@ -22,7 +25,7 @@ fn unit_of(
 ) -> Result<Request, LineRefused>
     ensures { States result (unit_of sls.now class.now ret.now to.now from.now body_word.now) }
 {
-    let sls = below::<16>(sls)?;
+    let sls = below::<LINK_SELECTIONS>(sls)?;
     let class = below::<2>(class)?.number() as u8;
     let ret = asks_return(ret);
     let called = called(alloc, to)?;
@@ -63,7 +66,7 @@ fn conn_of(
 {
     let tag = below::<65_536>(tag)?.number() as u16;
     let class = class(class_word)?;
-    let credit = below::<128>(credit)?.number() as u8;
+    let credit = below::<CREDITS>(credit)?.number() as u8;
     let called = called(alloc, to)?;
     let body = body(alloc, LONGEST_DATA, body_word)?;
     Ok(Request::Conn {
@@ -92,9 +95,9 @@ fn accept_asked(alloc: Global, words: &[&[u8]]) -> Result<Request, LineRefused>
     if words.len() != 4 {
         return Err(LineRefused::Kind(LineKind::Words));
     }
-    let mine = below::<16_777_216>(words[0])?;
+    let mine = below::<REFERENCES>(words[0])?;
     let class = class(words[1])?;
-    let credit = below::<128>(words[2])?.number() as u8;
+    let credit = below::<CREDITS>(words[2])?.number() as u8;
     let body = body(alloc, LONGEST_DATA, words[3])?;
     Ok(Request::Accept {
         mine,
@@ -111,8 +114,8 @@ fn refuse_asked(alloc: Global, words: &[&[u8]]) -> Result<Request, LineRefused>
     if words.len() != 3 {
         return Err(LineRefused::Kind(LineKind::Words));
     }
-    let mine = below::<16_777_216>(words[0])?;
-    let cause = below::<256>(words[1])?.number() as u8;
+    let mine = below::<REFERENCES>(words[0])?;
+    let cause = below::<OCTET_VALUES>(words[1])?.number() as u8;
     let body = body(alloc, LONGEST_DATA, words[2])?;
     Ok(Request::Refuse { mine, cause, body })
 }
@@ -124,7 +127,7 @@ fn send_asked(alloc: Global, words: &[&[u8]]) -> Result<Request, LineRefused>
     if words.len() != 2 {
         return Err(LineRefused::Kind(LineKind::Words));
     }
-    let mine = below::<16_777_216>(words[0])?;
+    let mine = below::<REFERENCES>(words[0])?;
     let body = text(alloc, LONGEST_TEXT, words[1])?;
     Ok(Request::Send { mine, body })
 }
@@ -136,7 +139,7 @@ fn ed_asked(alloc: Global, words: &[&[u8]]) -> Result<Request, LineRefused>
     if words.len() != 2 {
         return Err(LineRefused::Kind(LineKind::Words));
     }
-    let mine = below::<16_777_216>(words[0])?;
+    let mine = below::<REFERENCES>(words[0])?;
     let body = text(alloc, LONGEST_EXPEDITED, words[1])?;
     Ok(Request::Expedite { mine, body })
 }
@@ -148,7 +151,7 @@ fn reset_asked(words: &[&[u8]]) -> Result<Request, LineRefused>
     if words.len() != 1 {
         return Err(LineRefused::Kind(LineKind::Words));
     }
-    let mine = below::<16_777_216>(words[0])?;
+    let mine = below::<REFERENCES>(words[0])?;
     Ok(Request::Reset { mine })
 }
 
@@ -159,8 +162,8 @@ fn disc_asked(alloc: Global, words: &[&[u8]]) -> Result<Request, LineRefused>
     if words.len() != 3 {
         return Err(LineRefused::Kind(LineKind::Words));
     }
-    let mine = below::<16_777_216>(words[0])?;
-    let cause = below::<256>(words[1])?.number() as u8;
+    let mine = below::<REFERENCES>(words[0])?;
+    let cause = below::<OCTET_VALUES>(words[1])?.number() as u8;
     let body = body(alloc, LONGEST_DATA, words[2])?;
     Ok(Request::Disc { mine, cause, body })
 }
@@ -183,7 +186,7 @@ fn grant_asked(words: &[&[u8]]) -> Result<Request, LineRefused>
     if words.len() != 1 {
         return Err(LineRefused::Kind(LineKind::Words));
     }
-    let point = below::<16_384>(words[0])?;
+    let point = below::<POINT_CODES>(words[0])?;
     Ok(Request::Grant { point })
 }
 

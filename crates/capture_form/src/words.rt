@@ -10,7 +10,7 @@ use crate::refused::LineRefused;
 use crate::text::{is_dash, octets};
 use gtt_table::Entity;
 use node_head::{digits_of, entity_of};
-use relay_base::limits::LONGEST_GIVEN_ADDRESS;
+use relay_base::limits::{LONGEST_GIVEN_ADDRESS, OCTET_VALUES, POINT_CODES, SUBSYSTEM_NUMBERS};
 use relay_base::{Below, BoxedOctets, Digits, Octets, Pc, Ssn, number_of};
 use sccp_address::parse;
 use std::alloc::Global;
@@ -25,9 +25,9 @@ pub fn below<const LIMIT: u32>(word: &[u8]) -> Result<Below<LIMIT>, LineKind>
     }
 }
 
-/// A number below a limit of at most 256.
+/// A number below a limit that one octet holds.
 pub fn octet(limit: u32, word: &[u8]) -> Result<u8, LineKind>
-    requires { limit ≤ 256 }
+    requires { limit ≤ OCTET_VALUES }
     ensures { result ≡ below limit word.now }
 {
     match number_of(word) {
@@ -61,7 +61,7 @@ pub fn class(word: &[u8]) -> Result<u8, LineKind>
 pub fn user(users: &[Ssn], word: &[u8]) -> Result<Ssn, LineKind>
     ensures { result ≡ user_of users.now word.now }
 {
-    let ssn = below::<256>(word)?;
+    let ssn = below::<SUBSYSTEM_NUMBERS>(word)?;
     if users.contains(&ssn) {
         Ok(ssn)
     } else {
@@ -73,7 +73,7 @@ pub fn user(users: &[Ssn], word: &[u8]) -> Result<Ssn, LineKind>
 pub fn other_point(own: Pc, word: &[u8]) -> Result<Pc, LineKind>
     ensures { result ≡ other_point_of own word.now }
 {
-    let point = below::<16_384>(word)?;
+    let point = below::<POINT_CODES>(word)?;
     if point == own {
         Err(LineKind::Point)
     } else {

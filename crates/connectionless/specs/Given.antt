@@ -1,7 +1,7 @@
 -- A user's unit (Q.711, N-UNITDATA request; Q.714, 4.1 and 4.1.1).
-use Rattle.std.specs.Prelude.{ℕ, ◌+◌, ◌-◌, ◌*◌, ◌/◌, ◌%◌, ◌^◌, ◌==◌, ◌&&◌, nat_le, not, is_ok, unwrap_or, Bool, true, false, List, [], ◌∷◌, length, map, take, drop, if◌then◌else◌, Option, Some, None}
+use Rattle.std.specs.Prelude.{ℕ, ◌+◌, ◌-◌, ◌*◌, ◌/◌, ◌%◌, ◌==◌, ◌&&◌, nat_le, not, is_ok, unwrap_or, Bool, true, false, List, [], ◌∷◌, length, map, take, drop, if◌then◌else◌, Option, Some, None}
 use Rattle.std.specs.List.{range_with_len}
-use Rattle.relay_base.specs.declared.limits.TheConstants.{LONGEST_GIVEN_ADDRESS, LONGEST_GIVEN_UNIT}
+use Rattle.relay_base.specs.declared.limits.TheConstants.{LONGEST_GIVEN_ADDRESS, LONGEST_GIVEN_UNIT, LONGEST_PARAMETER, MOST_LANES, REFERENCES}
 use Rattle.relay_base.specs.declared.words.Output.{Output}
 use Rattle.relay_base.specs.declared.words.Output.TheVariants.{Sent, Told, Lost as Dropped}
 use Rattle.relay_base.specs.declared.words.Lost.TheVariants.{Cause}
@@ -17,6 +17,7 @@ use Rattle.plant_core.specs.declared.answer.TheConstants.{MOST_HOPS}
 use Rattle.plant_core.specs.Causes.{return_code}
 use Rattle.q713_codec.specs.Messages.{octets3}
 use Rattle.q713_codec.specs.declared.longest.TheConstants.{LONGEST}
+use Rattle.connectionless.specs.declared.outgoing.TheConstants.{SEGMENT_ROOM}
 use Rattle.connectionless.specs.declared.unitdata.Kind.TheVariants.{Extended}
 use Rattle.connectionless.specs.Unitdata.{Unitdata, basic, with_hop}
 use Rattle.connectionless.specs.Leaving.{unit_octets}
@@ -74,12 +75,12 @@ whole u = basic false (u.given.class + return_bit u.given.ret) u.called u.given.
 -- it is cut into segments unless one UDT holds it
 abbrev pub is_cut : Outgoing → Bool
 is_cut u =
-    not (nat_le (length u.given.body) 255
+    not (nat_le (length u.given.body) LONGEST_PARAMETER
     && nat_le (8 + length u.called + length u.given.calling + length u.given.body) LONGEST)
 
--- the octets of data in a full segment, and how many segments there are
+-- the octets of data in a full segment (Q.713, 4.18), and how many segments there are
 abbrev pub segment_size : Outgoing → ℕ
-segment_size u = 251 - length u.called - length u.given.calling
+segment_size u = SEGMENT_ROOM - length u.called - length u.given.calling
 
 abbrev pub segment_count : Outgoing → ℕ
 segment_count u = (length u.given.body + segment_size u - 1) / segment_size u
@@ -140,6 +141,6 @@ given_outcome g (Local ssn) reference = uncut (told_output ssn g)
 given_outcome g (Forward point rewrite hop) reference = sending (outgoing g point rewrite reference)
 given_outcome g (Refused cause local) reference = uncut (refused_by g.ret (return_code cause) g)
 
--- the reference of the segments after so many units that were cut in this lane
+-- the reference of the segments (Q.713, 3.17) after so many units that were cut in this lane
 abbrev pub reference_after : ℕ → ℕ → ℕ
-reference_after lane count = (count * 16 + lane) % 2 ^ 24
+reference_after lane count = (count * MOST_LANES + lane) % REFERENCES

@@ -7,9 +7,13 @@ use crate::given::GivenView;
 use crate::leaving::octets_of;
 use crate::unitdata::{Kind, UnitView};
 use plant_core::MOST_HOPS;
-use q713_codec::LONGEST;
+use q713_codec::{LONGEST, octets3};
+use relay_base::limits::LONGEST_PARAMETER;
 use relay_base::{Memory, Output, Outs, Pc, Ref24};
 use std::alloc::Global;
+
+/// What the addresses and the data of a segment have room for: an XUDT with segmentation has 17 octets beside them (Q.713, 4.18).
+pub const SEGMENT_ROOM: usize = LONGEST - 17;
 
 /// A user's unit, with its called address as it goes on, the point that it goes to, and the reference that its segments have.
 #[derive(Clone, Copy)]
@@ -43,7 +47,7 @@ impl OutgoingUnit<'_> {
     {
         let given = self.given;
         let size = 8 + self.called.len() + given.calling.len() + given.body.len();
-        !(given.body.len() <= 255 && size <= LONGEST)
+        !(given.body.len() <= LONGEST_PARAMETER && size <= LONGEST)
     }
 
     /// The octets of data in a full segment.
@@ -52,7 +56,7 @@ impl OutgoingUnit<'_> {
         ensures value { result ≡ segment_size (seen_outgoing self.now) }
         ensures least { 170 ≤ result }
     {
-        251 - self.called.len() - self.given.calling.len()
+        SEGMENT_ROOM - self.called.len() - self.given.calling.len()
     }
 
     /// How many segments there are.
@@ -73,12 +77,12 @@ impl OutgoingUnit<'_> {
     {
         let first_bit = if place == 0 { 0x80 } else { 0 };
         let remaining = (self.segment_count() - 1 - place) as u8;
-        let reference = self.reference.number();
+        let [low, middle, high] = octets3(self.reference);
         [
             first_bit + 64 * self.given.class + remaining,
-            (reference % 256) as u8,
-            (reference / 256 % 256) as u8,
-            (reference / 65_536 % 256) as u8,
+            low,
+            middle,
+            high,
         ]
     }
 

@@ -7,6 +7,7 @@ ghost use Rattle.connectionless.specs.Inner.Units.{seen_given, IsInRange};
 use crate::given::{GivenView, given_in};
 use crate::outgoing::OutgoingUnit;
 use plant_core::{Answer, Rewrite, called_onward, return_cause};
+use relay_base::limits::{MOST_LANES, REFERENCES};
 use relay_base::{BoxedOctets, Lost, Memory, Output, Outs, Pc, Ref24, Request, Ssn, Tell};
 use sccp_address::subsystem_address;
 use std::alloc::Global;
@@ -93,7 +94,8 @@ fn outcome(
 fn reference_after(lane: u8, count: u32) -> Ref24
     ensures { result ≡ reference_after lane count }
 {
-    let number = (u64::from(count) * 16 + u64::from(lane)) % 16_777_216;
+    let number = (u64::from(count) * u64::from(MOST_LANES) + u64::from(lane))
+        % u64::from(REFERENCES);
     Ref24::new(number as u32).unwrap()
 }
 

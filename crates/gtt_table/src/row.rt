@@ -13,7 +13,7 @@ pub struct Entity {
     pub on_ssn: bool,
 }
 
-/// A row: the titles of this selector whose digits begin with this prefix lead to the first entity that is available.
+/// A row of the translation (Q.714, 2.4): the titles of this selector whose digits begin with this prefix lead to the first entity that is available.
 #[derive(Clone, Copy, Debug, PartialEq, Eq)]
 pub struct Row {
     pub selector: Selector,

@@ -161,7 +161,7 @@ impl Table {
         self.rows.iter().any(|row| row.selector == *selector)
     }
 
-    /// The row with the longest prefix that begins the digits.
+    /// The row with the longest prefix that begins the digits (Q.714, 2.4).
     fn longest_match(&self, selector: &Selector, digits: &Digits) -> Option<&Row>
         ensures { option_copied result ≡ longest_match selector.now digits.now self.now.rows }
     {
@@ -174,7 +174,7 @@ impl Table {
         longest
     }
 
-    /// The row that translates these digits.
+    /// The row that translates these digits (Q.714, 2.4).
     #[tactic(auto, unfolding(crate::specs::Translation::translation_of))]
     pub fn look(&self, selector: &Selector, digits: &Digits) -> Look<'_>
         ensures value { seen_look result ≡ translation_of self.now.rows selector.now digits.now }

@@ -6,17 +6,17 @@ use sccp_address::Selector;
 /// A change of the routing data.
 #[derive(Clone, Copy, PartialEq, Eq)]
 pub enum Change {
-    /// A row is added.
+    /// A row of the translation (Q.714, 2.4) is added.
     AddRow(Row),
     /// The row of this selector and prefix is taken away.
     DelRow(Selector, Digits),
-    /// MTP-PAUSE of another point.
+    /// MTP-PAUSE of another point (Q.714, 5.2).
     BarPoint(Pc),
-    /// MTP-RESUME of another point.
+    /// MTP-RESUME of another point (Q.714, 5.2).
     FreePoint(Pc),
-    /// A subsystem of another point is prohibited.
+    /// A subsystem of another point is prohibited (Q.714, 5.3.2).
     BarSub(Pc, Ssn),
-    /// A subsystem of another point is allowed.
+    /// A subsystem of another point is allowed (Q.714, 5.3.3).
     FreeSub(Pc, Ssn),
     /// A local user goes in service.
     LocalUp(Ssn),

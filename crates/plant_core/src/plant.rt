@@ -153,7 +153,7 @@ impl Plant {
         })
     }
 
-    /// The row that translates these digits.
+    /// The row that translates these digits (Q.714, 2.4).
     pub fn look(&self, selector: &Selector, digits: &Digits) -> Look<'_>
         ensures { seen_look result ≡ translation_of self.now.routing.rows selector.now digits.now }
     {
@@ -172,7 +172,7 @@ impl Plant {
         self.out_of_service.contains(&ssn)
     }
 
-    /// Whether a subsystem number is that of a user in service.
+    /// Whether a subsystem number is that of a user in service (Q.714, 2.3).
     pub fn is_in_service(&self, ssn: Ssn) -> bool
         ensures { result ≡ is_in_service self.now.routing ssn }
     {
@@ -331,7 +331,7 @@ impl Plant {
         Ok(())
     }
 
-    /// Whether this entity is available, and else why not.
+    /// Whether this entity is available, and else why not (Q.714, 2.4 and 2.6).
     #[tactic(auto, unfolding(crate::specs::Routing::availability_of))]
     pub fn stands(&self, entity: &Entity) -> Result<(), RouteCause>
         ensures { result ≡ availability_of self.now.routing entity.now }
@@ -394,7 +394,7 @@ impl Plant {
         }
     }
 
-    /// The answer for an address that routes on its subsystem number.
+    /// The answer for an address that routes on its subsystem number (Q.714, 2.3).
     #[tactic(auto, unfolding(crate::specs::Routing::route_of, crate::specs::Routing::ssn_answer))]
     pub fn answer(&self, ask: &Ask<'_>) -> Answer
         requires { IsTrue ask.now.called.on_ssn }

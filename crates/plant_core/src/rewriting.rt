@@ -10,7 +10,7 @@ use relay_base::{Memory, Octets};
 use sccp_address::{Address, parse, spell};
 use std::alloc::Global;
 
-/// The octets of a called address, in form, as it leaves.
+/// The octets of a called address, in form, as it leaves (Q.714, 2.4).
 pub fn rewritten(alloc: Global, called: &Address<'_>, rewrite: &Rewrite) -> Result<Octets, Memory>
     requires { IsInForm (seen called.now) }
     ensures value { let after = address_after (seen called.now) rewrite.now

@@ -6,7 +6,7 @@ ghost use Rattle.q713_codec.specs.Messages.{reference_at, two_at, one_octet, fou
 
 use relay_base::Ref24;
 
-/// The reference at a place of the fixed part, with its least significant octet first.
+/// The reference at a place of the fixed part, with its least significant octet first (Q.713, 3.2 and 3.3).
 pub fn reference(fixed: &[u8], place: usize) -> Ref24
     requires { place + 2 < length fixed.now }
     ensures { result ≡ reference_at place fixed.now }

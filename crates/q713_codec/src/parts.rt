@@ -1,4 +1,4 @@
-//! The messages of each type as they are written: what part of its shape each field of the message is.
+//! The messages of each type (Q.713, 4.2 to 4.21) as they are written: what part of its shape each field of the message is.
 ghost use Rattle.q713_codec.specs.Names.{Cr, Cc, Cref, Rlsd, Rlc, Dt1, Dt2, Ak, Udt, Udts, Ed, Ea, Rsr, Rsc, Error, It, Xudt, Xudts, Ludt, Ludts};
 ghost use Rattle.q713_codec.specs.Inner.Written.{IsWritten};
 

@@ -1,4 +1,4 @@
-//! The shapes of the twenty message types, each proved to be its format in the table of Q.713.
+//! The shapes of the twenty message types, each proved to be its format in the table of Q.713 (4.2 to 4.21).
 ghost use Rattle.std.specs.Prelude.{◌≡◌};
 ghost use Rattle.q713_shape.specs.Parts.{format_of};
 ghost use Rattle.q713_codec.specs.Formats.{cr_format, cc_format, cref_format, rlsd_format, rlc_format, dt1_format, dt2_format, ak_format, udt_format, udts_format, ed_format, ea_format, rsr_format, rsc_format, err_format, it_format, xudt_format, xudts_format, ludt_format, ludts_format};

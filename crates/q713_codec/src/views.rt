@@ -1,4 +1,4 @@
-//! Reading the messages of each type: what field of the message each part of its shape is.
+//! Reading the messages of each type (Q.713, 4.2 to 4.21): what field of the message each part of its shape is.
 ghost use Rattle.std.specs.Prelude.{◌≡◌, ◌<◌, length, slice_index};
 ghost use Rattle.relay_base.specs.Giving.{Gives};
 ghost use Rattle.q713_codec.specs.Formats.{cr_format, cc_format, cref_format, rlsd_format, rlc_format, dt1_format, dt2_format, ak_format, udt_format, udts_format, ed_format, ea_format, rsr_format, rsc_format, err_format, it_format, xudt_format, xudts_format, ludt_format, ludts_format};

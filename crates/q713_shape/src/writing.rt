@@ -1,4 +1,4 @@
-//! Writing the parts of a message.
+//! Writing the parts of a message (Q.713, 2.3).
 ghost use Rattle.std.specs.Prelude.{◌≡◌, ◌+◌, ◌*◌, ◌<◌, ◌≤◌, ◌++◌, map, length, IsTrue, OnOk};
 ghost use Rattle.std.specs.List.{concat, list_all};
 ghost use Rattle.std.specs.Option.{option_map};

@@ -1,4 +1,4 @@
-//! Digits in binary coded decimal: two in an octet, the first one in its low half.
+//! Digits in binary coded decimal: two in an octet, the first one in its low half (Q.713, 3.4).
 ghost use Rattle.std.specs.Prelude.{◌≡◌, ◌-◌, ◌*◌, ◌<◌, ◌≤◌, ◌++◌, length, if◌then◌else◌, All, OnOk};
 ghost use Rattle.sccp_address.specs.Digits.{digits_in, digit_octets};
 ghost use Rattle.sccp_address.specs.Inner.Halves.{nibble_at};

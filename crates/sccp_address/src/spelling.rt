@@ -1,4 +1,4 @@
-//! Spelling an address.
+//! Spelling an address (Q.713, 3.4 and 3.5).
 ghost use Rattle.std.specs.Prelude.{◌≡◌, ◌<◌, ◌++◌, IsTrue, IfOk, IfSome, OnOk, Ok};
 ghost use Rattle.sccp_address.specs.Form.{seen, seen_title};
 ghost use Rattle.sccp_address.specs.Titles.{is_carried, is_in_form};

@@ -1,4 +1,4 @@
-//! Reading a global title.
+//! Reading a global title (Q.713, 3.4).
 ghost use Rattle.std.specs.Prelude.{◌≡◌, ◌<◌, ◌≤◌, length, IsTrue, IfOk};
 ghost use Rattle.relay_base.specs.Giving.{Gives};
 ghost use Rattle.sccp_address.specs.Form.{other, seen, seen_title};
