@@ -116,7 +116,7 @@ pub both-left : (s t : Bool) → (s && t) ≡ true → s ≡ true
 both-left true t h = refl
 both-left false t h = h
 
-both-right : (s t : Bool) → (s && t) ≡ true → t ≡ true
+pub both-right : (s t : Bool) → (s && t) ≡ true → t ≡ true
 both-right true t h = h
 both-right false t h = cc
 

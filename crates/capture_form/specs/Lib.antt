@@ -3,6 +3,7 @@ pub mod Changes
 pub mod Events
 pub mod Inner
 pub mod Line
+pub mod Links
 pub mod Note
 pub mod Place
 pub mod Requests

@@ -6,6 +6,7 @@ ghost use Rattle.node_head.specs.Head.{begun};
 ghost use Rattle.node_head.specs.Ranges.{IsHead};
 ghost use Rattle.capture_form.specs.Capture.{Reads, at_head, capture_within, capture_of};
 ghost use Rattle.capture_form.specs.Events.{all_events, IsStamped};
+ghost use Rattle.capture_form.specs.Links.{AreLinked};
 ghost use Rattle.capture_form.specs.declared.steps.TheConstants.{MOST_LINES};
 ghost use Rattle.capture_form.specs.Inner.Reader.{Takes, HeadReads, reading_from, lines_taken, phases_read, capture_read};
 
@@ -123,6 +124,7 @@ fn capture_within(alloc: Global, bytes: &[u8]) -> Result<Capture, CaptureFault>
 pub fn read_capture(alloc: Global, bytes: &[u8]) -> Result<Capture, CaptureFault>
     ensures value { Reads result (capture_of bytes.now) }
     ensures stamped { IfOk result (λ c. IsStamped c.head c.phases) }
+    ensures linked { IfOk result (λ c. AreLinked c.phases) }
     ensures few { IfOk result (λ c. length (all_events c.phases) ≤ MOST_LINES) }
     ensures addable { IfOk result (λ c. IsTrue (are_addable [] c.head.row)) }
     ensures range { IfOk result (λ c. IsHead c.head) }

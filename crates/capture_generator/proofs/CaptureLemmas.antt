@@ -1,15 +1,24 @@
--- The phases of a generated capture: their stamps, and how many events they have.
+-- The phases of a generated capture: their stamps, their links, and how many events they have.
 use Rattle.std.proofs.Common.{◌≡◌, ◌∙◌, ℕ, zero, suc, ◌+◌, ◌*◌, ◌/◌, ◌%◌, ◌==◌, ◌≤◌, append_assoc, subst, Bool, true, false, cond, List, [], ◌∷◌, ◌++◌, length, refl, ap, arith, rules, length-append}
 use Rattle.std.proofs.lemmas.List.Concat.{flat_map-append}
 use Rattle.std.specs.List.{AllByRecursion, IsDistinct}
 use Rattle.plant_core.specs.Terms.{AreTicks}
 use Rattle.node_head.specs.Ranges.{AreNumbers, AreReplicates, IsHead}
+use Rattle.relay_base.specs.declared.words.Event.{Event}
+use Rattle.relay_base.specs.declared.words.Event.TheVariants.{Asked}
+use Rattle.relay_base.specs.declared.words.Request.TheVariants.{Accept}
+use Rattle.plant_core.specs.declared.entry.ControlEvent.{ControlEvent}
+use Rattle.plant_core.specs.declared.entry.ControlEvent.TheVariants.{Plain}
 use Rattle.capture_form.specs.Events.{Stamped, phase_events, all_events, AreOfLinks, AreOfPhases}
-use Rattle.capture_generator.specs.Generator.{usual_ticks, generator_head, Phases, number_after, stamped_at, events_after, block_phase, tick_phase, whole_blocks, phases_after}
+use Rattle.capture_form.specs.Links.{comes_on_link, AreOnLinks, AreLinked}
+use Rattle.capture_generator.specs.Generator.{usual_ticks, generator_head, Phases, number_after, reference_at, unit_octets, request_octets, data_octets, message_at, event_of_kind, stamped_at, events_after, block_phase, tick_phase, whole_blocks, phases_after}
+
+pub all-append : {A : Type 0} (P : A → Type 0) (xs ys : List A) → AllByRecursion P xs → AllByRecursion P ys → AllByRecursion P (xs ++ ys)
+all-append P [] ys f g = g
+all-append P (x ∷ xs) ys f g = (f.0, all-append P xs ys f.1 g)
 
 all-push : {A : Type 0} (P : A → Type 0) (xs : List A) (x : A) → AllByRecursion P xs → P x → AllByRecursion P (xs ++ x ∷ [])
-all-push P [] x h p = (p, tt)
-all-push P (y ∷ ys) x h p = (h.0, all-push P ys x h.1 p)
+all-push P xs x h p = all-append P xs (x ∷ []) h (p, tt)
 
 -- ---- the head
 
@@ -106,6 +115,49 @@ stamped-choice false x lines = block-push x (lines / 400) (lines % 400) (omega a
 
 pub phases-stamped : (x lines : ℕ) → AreOfPhases 1 1 (phases_after x lines)
 phases-stamped x lines = stamped-choice (lines == 0) x lines
+
+-- ---- each event, and each phase
+
+either : {A : Type 0} (P : A → Type 0) (t : Bool) (a b : A) → P a → P b → P (cond t a b)
+either P true a b f g = f
+either P false a b f g = g
+
+-- by the kind of the event
+pub of-kind :
+    (P : Event → Type 0) (i : ℕ) → P (message_at i unit_octets) → P (message_at i (request_octets (i + 1))) → P (Asked 8 (Accept (reference_at i) 2 0 []))
+    → P (message_at i (data_octets (reference_at i) (i % 256))) → (kind : ℕ) → P (event_of_kind kind i)
+of-kind P i unit request acceptance more kind =
+    either P (kind == 0) (message_at i unit_octets) _ unit
+    (either P (kind == 1) (message_at i (request_octets (i + 1))) _ request
+    (either P (kind == 2) (Asked 8 (Accept (reference_at i) 2 0 [])) (message_at i (data_octets (reference_at i) (i % 256))) acceptance more))
+
+pub each-event : (P : ControlEvent → Type 0) → ((kind i : ℕ) → P (Plain (event_of_kind kind i))) → (x i n : ℕ) → AllByRecursion (λ e. P e.1) (events_after x i n)
+unfolding events_after
+each-event P h x i zero = tt
+each-event P h x i (suc n) =
+    all-push (λ e. P e.1) (events_after x i n) (stamped_at (number_after x (suc n)) (i + n)) (each-event P h x i n) (h (number_after x (suc n) / 65536 % 4) (i + n))
+
+each-whole : (P : List Stamped → Type 0) → ((x b n : ℕ) → P (block_phase x b n)) → ((b : ℕ) → P (tick_phase b)) → (x b : ℕ) → AllByRecursion P (whole_blocks x b)
+unfolding whole_blocks
+each-whole P block tick x zero = tt
+each-whole P block tick x (suc b) =
+    all-append P (whole_blocks x b) (block_phase x b 400 ∷ tick_phase b ∷ []) (each-whole P block tick x b) (block x b 400, (tick b, tt))
+
+pub each-phase : (P : List Stamped → Type 0) → ((x b n : ℕ) → P (block_phase x b n)) → ((b : ℕ) → P (tick_phase b)) → (x lines : ℕ) → AllByRecursion P (phases_after x lines)
+each-phase P block tick x lines =
+    either (AllByRecursion P) (lines == 0) [] (whole_blocks x (lines / 400) ++ block_phase x (lines / 400) (lines % 400) ∷ []) tt
+    (all-push P (whole_blocks x (lines / 400)) (block_phase x (lines / 400) (lines % 400)) (each-whole P block tick x (lines / 400)) (block x (lines / 400) (lines % 400)))
+
+-- ---- links
+
+block-linked : (x b n : ℕ) → AreOnLinks (block_phase x b n)
+block-linked x b n =
+    let events : Stamped = events_after (number_after x (400 * b)) (400 * b) n in
+    let linked : (kind i : ℕ) → comes_on_link (Plain (event_of_kind kind i)) ≡ true = λ kind i. of-kind (λ e. comes_on_link (Plain e) ≡ true) i refl refl refl refl kind in
+    (tt, all-append (λ e. comes_on_link e.1 ≡ true) events [] (each-event (λ e. comes_on_link e ≡ true) linked (number_after x (400 * b)) (400 * b) n) tt)
+
+pub phases-linked : (x lines : ℕ) → AreLinked (phases_after x lines)
+phases-linked x lines = each-phase AreOnLinks block-linked (λ b. ((refl, tt), tt)) x lines
 
 -- ---- how many events there are
 

@@ -3,6 +3,7 @@ ghost use Rattle.std.specs.Prelude.{◌≡◌, ◌≤◌, [], length, IsTrue, If
 ghost use Rattle.node_head.specs.Addable.{are_addable};
 ghost use Rattle.node_head.specs.Ranges.{IsHead};
 ghost use Rattle.capture_form.specs.Events.{all_events, IsStamped};
+ghost use Rattle.capture_form.specs.Links.{AreLinked};
 ghost use Rattle.capture_form.specs.declared.steps.TheConstants.{MOST_LINES};
 ghost use Rattle.capture_generator.specs.Generator.{usual_ticks, generator_head, generated_capture};
 
@@ -58,6 +59,7 @@ pub fn generated(alloc: Global, number: u32, lines: u32) -> Result<Capture, Memo
     requires { lines ≤ 199000 }
     ensures value { IfOk result (λ c. c ≡ generated_capture number lines) }
     ensures stamped { IfOk result (λ c. IsStamped c.head c.phases) }
+    ensures linked { IfOk result (λ c. AreLinked c.phases) }
     ensures addable { IfOk result (λ c. IsTrue (are_addable [] c.head.row)) }
     ensures range { IfOk result (λ c. IsHead c.head) }
     ensures few { IfOk result (λ c. length (all_events c.phases) ≤ MOST_LINES) }

@@ -1,5 +1,5 @@
 -- What a command states.
-use Rattle.std.proofs.Common.{◌≡◌, ℕ, ◌≤◌, ◌&&◌, nat_le, codes, Bool, true, false, List, [], ◌∷◌, Some, None, refl, sym, subst, if◌then◌else◌, leb-true}
+use Rattle.std.proofs.Common.{◌≡◌, ℕ, ◌≤◌, ◌&&◌, nat_le, codes, Bool, true, false, List, [], ◌∷◌, Some, None, refl, subst, if◌then◌else◌, leb-true}
 use Rattle.std.specs.Prelude.{Option}
 use Rattle.command_words.specs.declared.command.Command.{Command}
 use Rattle.command_words.specs.declared.command.Command.TheVariants.{Run, Generate}

@@ -21,6 +21,7 @@ use Rattle.command_words.specs.declared.command.Command.TheVariants.{Run, Genera
 use Rattle.capture_generator.specs.Generator.{generated_capture}
 use Rattle.capture_generator.specs.Counts.{counts_of, counts_text}
 use Rattle.node_engine.specs.Right.{IsRight}
+use Rattle.book_law.specs.Sequential.{IsSequential}
 
 -- The bytes that a device tells before a call and after it: those that a source still has, or those that a sink holds.
 pub record Bytes : Type 0 where
@@ -101,6 +102,21 @@ IsDone stated read written book = DoneAs (Wrote written) stated read book
 -- but for a part of the output
 abbrev pub IsDonePartly : Option Command → Bytes → Bytes → Book → Type 0
 IsDonePartly stated read written book = DoneAs (WrotePart written) stated read book
+
+-- ---- what is determined
+
+-- the capture of a command: that of all bytes which the source tells, or the one that is made
+abbrev pub IsCaptureOf : Command → Option (List ℕ) → Capture → Type 0
+IsCaptureOf Run left capture = (came : List ℕ) × (left ≡ Some came) × (capture_of came ≡ Ok capture)
+IsCaptureOf (Generate number lines) left capture = capture ≡ generated_capture number lines
+
+-- where the events of the capture come one after another, each right book of it is this one, and what the command writes of it was written
+abbrev pub IsDetermined : Option Command → Bytes → Bytes → Book → Type 0
+IsDetermined stated read written book =
+    (command : Command) (capture : Capture) (right : Book)
+    → stated ≡ Some command → IsCaptureOf command read.before capture
+    → IsSequential capture.head capture.phases → IsRight capture.head capture.phases right
+    → (right ≡ book) × Wrote written (output_of command right)
 
 -- ---- the statuses whose note needs no input
 

@@ -6,7 +6,7 @@ ghost use Rattle.relay_base.specs.Causes.{Rose};
 ghost use Rattle.journal_text.specs.Book.{IsEmpty};
 ghost use Rattle.command_words.specs.Commands.{command_in};
 ghost use Rattle.command_words.specs.declared.command.Command.TheVariants.{Run, Generate};
-ghost use Rattle.relay_call.specs.Outcome.{bytes, ReadAs, Untouched, IsDone, IsDonePartly, PassesLimit, IsHeadFault, IsLineFault, Says, plain_note, IsDue};
+ghost use Rattle.relay_call.specs.Outcome.{bytes, ReadAs, Untouched, IsDone, IsDonePartly, IsDetermined, PassesLimit, IsHeadFault, IsLineFault, Says, plain_note, IsDue};
 
 mod serving;
 mod stop;
@@ -60,6 +60,13 @@ pub fn relay<R: Threads + Wait + Sync, S: Source, K: Sink, N: Sink, P: Pace>(
         let read = bytes (S.left source.old) (S.left source.new) in
         let written = bytes (K.held out.old) (K.held out.new) in
         result ≡ 0 → IsDone command read written book.new }
+
+    // Where the events come one after another, the book is every right book of the capture: so what is written is a function of
+    // the words and of the bytes read.
+    ensures determined { let command = command_in (map string_bytes words.now) in
+        let read = bytes (S.left source.old) (S.left source.new) in
+        let written = bytes (K.held out.old) (K.held out.new) in
+        result ≡ 0 → IsDetermined command read written book.new }
 
     // Words that are no command.
     ensures usage { result ≡ 1 → command_in (map string_bytes words.now) ≡ None }

@@ -1,0 +1,9 @@
+pub mod Events
+pub mod Journals
+pub mod Editions
+pub mod Places
+pub mod Quiet
+pub mod Published
+pub mod Routings
+pub mod Books
+pub mod Made

@@ -1,0 +1,181 @@
+-- Each event of a capture that was read stands under the link that its line states, or under link 0 where the line states none.
+use Rattle.std.proofs.Common.{◌≡◌, ◌∙◌, ℕ, zero, suc, ◌+◌, ◌≤◌, ◌==◌, ◌&&◌, nat_lt, nat_le, codes, Bool, true, false, cond, List, [], ◌∷◌, ◌++◌, length, map, Option, Some, None, option_map, Result, Ok, Err, IfOk, refl, sym, subst, arith, leb-true, lt-ltb}
+use Rattle.std.specs.List.{AllByRecursion, filter, filter_map, cons_option, range_with_len}
+use Rattle.std.specs.Result.{result_ok}
+use Rattle.relay_base.specs.declared.words.Stamp.{Stamp}
+use Rattle.relay_base.specs.Decimal.{number_of}
+use Rattle.plant_core.specs.declared.entry.ControlEvent.{ControlEvent}
+use Rattle.node_head.specs.Lines.{lines, halves}
+use Rattle.node_head.specs.Head.{begun}
+use Rattle.node_head.specs.declared.head.Head.{Head}
+use Rattle.node_head.proofs.Given.{IfGiven, bound, bound_if, either, by_test}
+use Rattle.capture_form.specs.Text.{same}
+use Rattle.capture_form.specs.Words.{below, link_in, link_of, user_of, octets_of}
+use Rattle.capture_form.specs.Changes.{change_of}
+use Rattle.capture_form.specs.Requests.{form_of, has_form, request_of}
+use Rattle.capture_form.specs.Line.{Linked, message_form, asked_form, request_form, tick_form, change_form, event_of}
+use Rattle.capture_form.specs.Events.{Stamped, is_at, phase_lists, phase_events}
+use Rattle.capture_form.specs.Links.{comes_on_link, AreOnLinks, AreLinked}
+use Rattle.capture_form.specs.declared.requests.RequestForm.{RequestForm}
+use Rattle.capture_form.specs.declared.fault.LineKind.{LineKind}
+use Rattle.capture_form.specs.declared.fault.LineKind.TheVariants.{Words, Number}
+use Rattle.capture_form.specs.declared.fault.CaptureFault.{CaptureFault}
+use Rattle.capture_form.specs.declared.fault.CaptureFault.TheVariants as refused
+use Rattle.capture_form.specs.declared.fault.Limit.TheVariants as limit
+use Rattle.relay_base.specs.declared.limits.TheConstants.{MOST_BYTES}
+use Rattle.capture_form.specs.declared.capture.Capture.{Capture}
+use Rattle.capture_form.specs.Capture.{Reads, Line, lines_from, is_barrier, barriers, with_above, fault_at, event_at, phases_of, unless_faulty, at_head, capture_after, capture_from, capture_within, capture_of}
+use Rattle.capture_form.proofs.PhaseLemmas.{number-is, both-left, both-right}
+
+-- ---- a line
+
+-- a link from 1 on where the event comes on one, and else link 0
+abbrev Agrees : ℕ → ControlEvent → Type 0
+Agrees link e = comes_on_link e ≡ nat_lt 0 link
+
+abbrev LinkAgrees : Linked → Type 0
+LinkAgrees e = Agrees e.0 e.1
+
+from-one : (n links : ℕ) → (nat_le 1 n && nat_le n links) ≡ true → 1 ≤ n
+from-one n links h = leb-true 1 n (both-left (nat_le 1 n) (nat_le n links) h)
+
+link-in : (links : ℕ) (n : Option ℕ) → IfGiven (λ k. 1 ≤ k) (link_in links n)
+link-in links None = tt
+link-in links (Some n) = by_test (λ k. 1 ≤ k) (nat_le 1 n && nat_le n links) (Ok n) (Err Number) (from-one n links) (λ e. tt)
+
+message-agrees : (head : Head) (ws : List (List ℕ)) → IfGiven LinkAgrees (message_form head ws)
+message-agrees head (link ∷ opc ∷ sls ∷ hex ∷ []) =
+    bound_if (λ k. 1 ≤ k) LinkAgrees (link_of head.links link) _ (link-in head.links (number_of link)) (λ k h.
+    bound LinkAgrees (below 16384 opc) _ (λ point.
+    bound LinkAgrees (below 16 sls) _ (λ selection.
+    bound LinkAgrees (octets_of hex) _ (λ octets. sym (lt-ltb 0 k h)))))
+message-agrees head [] = tt
+message-agrees head (a ∷ []) = tt
+message-agrees head (a ∷ b ∷ []) = tt
+message-agrees head (a ∷ b ∷ c ∷ []) = tt
+message-agrees head (a ∷ b ∷ c ∷ d ∷ e ∷ more) = tt
+
+asked-agrees : (head : Head) (link ssn : List ℕ) (form : Option RequestForm) (more : List (List ℕ)) → IfGiven LinkAgrees (asked_form head link ssn form more)
+asked-agrees head link ssn None more = tt
+asked-agrees head link ssn (Some form) more =
+    either LinkAgrees (has_form form more) _ (Err Words)
+    (bound_if (λ k. 1 ≤ k) LinkAgrees (link_of head.links link) _ (link-in head.links (number_of link)) (λ k h.
+    bound LinkAgrees (user_of head.users ssn) _ (λ user.
+    bound LinkAgrees (request_of form more) _ (λ asked. sym (lt-ltb 0 k h)))))
+    tt
+
+request-agrees : (head : Head) (ws : List (List ℕ)) → IfGiven LinkAgrees (request_form head ws)
+request-agrees head (link ∷ ssn ∷ word ∷ more) = asked-agrees head link ssn (form_of word) more
+request-agrees head [] = tt
+request-agrees head (a ∷ []) = tt
+request-agrees head (a ∷ b ∷ []) = tt
+
+tick-agrees : (ws : List (List ℕ)) → IfGiven LinkAgrees (tick_form ws)
+tick-agrees [] = refl
+tick-agrees (a ∷ more) = tt
+
+change-agrees : (head : Head) (first : List ℕ) (more : List (List ℕ)) → IfGiven LinkAgrees (change_form head first more)
+change-agrees head first more = bound LinkAgrees (change_of head first more) _ (λ change. refl)
+
+event-agrees : (head : Head) (ws : List (List ℕ)) → IfGiven LinkAgrees (event_of head ws)
+event-agrees head [] = tt
+event-agrees head (first ∷ more) =
+    either LinkAgrees (same first (codes "m")) (message_form head more) _ (message-agrees head more)
+    (either LinkAgrees (same first (codes "u")) (request_form head more) _ (request-agrees head more)
+    (either LinkAgrees (same first (codes "t")) (tick_form more) (change_form head first more) (tick-agrees more) (change-agrees head first more)))
+
+-- ---- the events of all lines
+
+abbrev StampAgrees : Stamp × ControlEvent → Type 0
+StampAgrees e = Agrees e.0.link e.1
+
+abbrev IfThere : Option (Stamp × ControlEvent) → Type 0
+IfThere None = Unit {0}
+IfThere (Some e) = StampAgrees e
+
+of-line : (number phase : ℕ) (r : Result Linked LineKind) → IfGiven LinkAgrees r
+    → IfThere (option_map (λ e. (record { phase = phase; link = e.0; line = number }, e.1)) (result_ok r))
+of-line number phase (Ok e) h = h
+of-line number phase (Err kind) h = tt
+
+unless-barrier : (t : Bool) (x : Option (Stamp × ControlEvent)) → IfThere x → IfThere (cond t None x)
+unless-barrier true x h = tt
+unless-barrier false x h = h
+
+event-there : (head : Head) (at : List Line × Line) → IfThere (event_at head at)
+event-there head (above, line) =
+    unless-barrier (is_barrier line) _ (of-line line.0 (barriers above + 1) (event_of head line.1) (event-agrees head line.1))
+
+there-added : (x : Option (Stamp × ControlEvent)) (es : Stamped) → IfThere x → AllByRecursion StampAgrees es → AllByRecursion StampAgrees (cons_option x es)
+there-added None es h g = g
+there-added (Some e) es h g = (h, g)
+
+events-agree : (head : Head) (stated : List (List Line × Line)) → AllByRecursion StampAgrees (filter_map (event_at head) stated)
+events-agree head [] = tt
+events-agree head (at ∷ more) = there-added (event_at head at) (filter_map (event_at head) more) (event-there head at) (events-agree head more)
+
+-- ---- the lists of a phase
+
+found : (phase link : ℕ) (e : Stamp × ControlEvent) (rest : Stamped) (t : Bool) → is_at phase link e ≡ t → StampAgrees e
+    → AllByRecursion (λ f. Agrees link f.1) rest → AllByRecursion (λ f. Agrees link f.1) (cond t (e ∷ rest) rest)
+found phase link e rest true at agrees h =
+    (subst (λ k. Agrees k e.1) (number-is e.0.link link (both-right (e.0.phase == phase) (e.0.link == link) at)) agrees, h)
+found phase link e rest false at agrees h = h
+
+list-agrees : (phase link : ℕ) (events : Stamped) → AllByRecursion StampAgrees events → AllByRecursion (λ e. Agrees link e.1) (filter (is_at phase link) events)
+list-agrees phase link [] h = tt
+list-agrees phase link (e ∷ es) h = found phase link e (filter (is_at phase link) es) (is_at phase link e) refl h.0 (list-agrees phase link es h.1)
+
+on-link : (link : ℕ) (events more : Stamped) → 1 ≤ link → AllByRecursion (λ e. Agrees link e.1) events
+    → AllByRecursion (λ e. comes_on_link e.1 ≡ true) more → AllByRecursion (λ e. comes_on_link e.1 ≡ true) (events ++ more)
+on-link link [] more h f g = g
+on-link link (e ∷ es) more h f g = (f.0 ∙ lt-ltb 0 link h, on-link link es more h f.1 g)
+
+links-agree : (phase link n : ℕ) (events : Stamped) → 1 ≤ link → AllByRecursion StampAgrees events
+    → AllByRecursion (λ e. comes_on_link e.1 ≡ true) (phase_events (map (λ k. filter (is_at phase k) events) (range_with_len link n)))
+links-agree phase link zero events least h = tt
+links-agree phase link (suc n) events least h =
+    on-link link (filter (is_at phase link) events) _ least (list-agrees phase link events h) (links-agree phase (link + 1) n events (omega (arith, least)) h)
+
+lists-linked : (phase n : ℕ) (events : Stamped) → AllByRecursion StampAgrees events → AreOnLinks (map (λ k. filter (is_at phase k) events) (range_with_len 0 n))
+lists-linked phase zero events h = tt
+lists-linked phase (suc n) events h = (list-agrees phase 0 events h, links-agree phase 1 n events (omega arith) h)
+
+phases-linked : (links phase n : ℕ) (events : Stamped) → AllByRecursion StampAgrees events → AreLinked (map (phase_lists links events) (range_with_len phase n))
+phases-linked links phase zero events h = tt
+phases-linked links phase (suc n) events h = (lists-linked phase (links + 1) events h, phases-linked links (phase + 1) n events h)
+
+linked-choice : (links n : ℕ) (events : Stamped) (t : Bool) → AllByRecursion StampAgrees events
+    → AreLinked (cond t [] (map (phase_lists links events) (range_with_len 1 n)))
+linked-choice links n events true h = tt
+linked-choice links n events false h = phases-linked links 1 n events h
+
+-- ---- a capture
+
+abbrev IsLinked : Capture → Type 0
+IsLinked capture = AreLinked capture.phases
+
+linked-unless : (faults : List CaptureFault) (c : Capture) → IsLinked c → IfGiven IsLinked (unless_faulty faults c)
+linked-unless [] c h = h
+linked-unless (f ∷ fs) c h = tt
+
+linked-after : (head : Head) (number : ℕ) (ls : List (List ℕ)) → IfGiven IsLinked (capture_after head number ls)
+unfolding capture_after
+linked-after head number ls =
+    let stated = lines_from number ls in
+    let events = filter_map (event_at head) (with_above stated) in
+    linked-unless (filter_map (fault_at head) (with_above stated)) (record { head = head; phases = phases_of head.links stated events })
+    (linked-choice head.links (barriers stated + 1) events (length events == 0) (events-agree head (with_above stated)))
+
+pub linked-within : (bytes : List ℕ) → IfGiven IsLinked (capture_within bytes)
+linked-within bytes = bound IsLinked (at_head (begun (halves (lines bytes)))) capture_from (λ parts. linked-after parts.0 (parts.1 + 2) parts.2)
+
+pub read-linked : (r : Result Capture CaptureFault) (bytes : List ℕ) → Reads r (capture_within bytes) → IfOk r (λ c. AreLinked c.phases)
+read-linked (Ok capture) bytes e = subst (IfGiven IsLinked) e (linked-within bytes)
+read-linked (Err fault) bytes e = tt
+
+-- the capture that an input is
+pub linked-capture : (bytes : List ℕ) (capture : Capture) → capture_of bytes ≡ Ok capture → AreLinked capture.phases
+unfolding capture_of
+linked-capture bytes capture e =
+    subst (IfGiven IsLinked) e (either IsLinked (nat_lt MOST_BYTES (length bytes)) (Err (refused.TooLong limit.Bytes)) (capture_within bytes) tt (linked-within bytes))
