@@ -1,66 +1,22 @@
 -- A new opening takes free slots of the lane alone.
-use Rattle.std.proofs.Common.{◌≡◌, ℕ, zero, suc, ◌+◌, ◌==◌, ◌<◌, ◌≤◌, not, Bool, true, false, List, [], ◌∷◌, ◌++◌, length, map, take, get_or, All, Option, Some, None, is_some, IfSome, if◌then◌else◌, refl, sym, subst, ⊎_elim, arith, append-nil, eqb-true}
+use Rattle.std.proofs.Common.{◌≡◌, ℕ, zero, suc, ◌+◌, ◌==◌, ◌<◌, ◌≤◌, not, Bool, true, false, List, [], ◌++◌, length, map, take, get_or, All, Option, Some, None, is_some, IfSome, if◌then◌else◌, refl, sym, subst, ⊎_elim, arith, append-nil, eqb-true}
 use Rattle.std.specs.List.{list_any, range_with_len}
 use Rattle.std.proofs.lemmas.Bool.{not-true, and_parts, or_cases}
 use Rattle.std.proofs.lemmas.Nat.{div-mul-add}
-use Rattle.std.proofs.lemmas.List.Elements.{All-nil, All-cons, All-head, All-tail, All-push, All-map, All-take, All-weaker, All-filter, filter_passes}
+use Rattle.std.proofs.lemmas.List.Elements.{All-nil, All-cons, All-push, All-map, All-take, All-weaker, All-filter, filter_passes}
 use Rattle.relay_base.specs.declared.words.Event.{Event}
-use Rattle.plant_core.specs.declared.answer.Rewrite.{Rewrite}
 use Rattle.plant_core.specs.declared.answer.Answer.{Answer}
-use Rattle.plant_core.specs.declared.answer.Answer.TheVariants.{Local, Forward, Refused}
-use Rattle.plant_core.specs.declared.terms.Terms.{Terms}
 use Rattle.plant_core.specs.declared.terms.Ticks.{Ticks}
 use Rattle.section_model.specs.Ends.{End, Connection}
-use Rattle.section_model.specs.Opening.{Wanted, Wish, by_cr, by_user, no_wish, fits, slots_needed, opened_by_cr, opened_by_user, opened, opened_through, not_opened, cref_to}
+use Rattle.section_model.specs.Opening.{Wish, slots_needed}
 use Rattle.section_model.specs.Step.{end_is_gone}
 use Rattle.section_model.specs.Lane.{Lane, heard, follow, gone_for, reference_of, slot_of, reference_at}
+use Rattle.hearing_law.proofs.Opened.{EndsAre, AreAmong, opened_among}
 use Rattle.conn_lane.specs.Inner.Remnants.{Remnant, frozen_by, seat_by, remnant_of, remnant_after, sits, takes_slot, is_frozen_out, free_in, lowest_in, needed}
 use Rattle.conn_lane.specs.Inner.Seated.{SeatIs, IsInLane, IsSeated, AreOrderly}
 use Rattle.conn_lane.specs.Inner.Turns.{opened_in, new_remnant, keeps_in}
 use Rattle.conn_lane.proofs.Seated.{seated_live, all_seated_after, all_seated_needed}
 use Rattle.conn_lane.proofs.Apart.{free_after, apart_after, apart_needed, apart_with}
-
--- What is opened has its references among those that are given.
-
-abbrev EndsAre : (ℕ → Type 0) → Connection → Type 0
-EndsAre P c = IfSome (reference_of c.this) P × IfSome (reference_of c.that) P
-
-abbrev AreAmong : (ℕ → Type 0) → Option Connection → Type 0
-AreAmong P connection = IfSome connection (EndsAre P)
-
-through_among : (P : ℕ → Type 0) (terms : Terms) (w : Wanted) (point : ℕ) (rewrite : Rewrite) (hop : Option ℕ) (refs : List ℕ) → All P refs
-    → AreAmong P (opened_through terms w point rewrite hop refs).connection
-through_among P terms w point rewrite hop [] good = tt
-through_among P terms w point rewrite hop (mine ∷ []) good = tt
-through_among P terms w point rewrite hop (mine ∷ next ∷ refs) good =
-    (All-head P mine (next ∷ refs) good, All-head P next refs (All-tail P mine (next ∷ refs) good))
-
-by_cr_among : (P : ℕ → Type 0) (terms : Terms) (w : Wanted) (answer : Answer) (refs : List ℕ) → All P refs → AreAmong P (opened_by_cr terms w answer refs).connection
-unfolding opened_by_cr
-by_cr_among P terms w (Refused cause local) refs good = tt
-by_cr_among P terms w (Local ssn) [] good = tt
-by_cr_among P terms w (Local ssn) (mine ∷ refs) good = (All-head P mine refs good, tt)
-by_cr_among P terms w (Forward point rewrite hop) refs good = by_test (fits w rewrite hop)
-  where
-    by_test : (b : Bool) → AreAmong P (if b then opened_through terms w point rewrite hop refs else not_opened (cref_to w 0x0F ∷ [])).connection
-    by_test true = through_among P terms w point rewrite hop refs good
-    by_test false = tt
-
-by_user_among : (P : ℕ → Type 0) (terms : Terms) (ssn tag : ℕ) (w : Wanted) (answer : Answer) (refs : List ℕ) → All P refs
-    → AreAmong P (opened_by_user terms ssn tag w answer refs).connection
-unfolding opened_by_user
-by_user_among P terms ssn tag w (Refused cause local) refs good = tt
-by_user_among P terms ssn tag w (Local other) refs good = tt
-by_user_among P terms ssn tag w (Forward point rewrite hop) [] good = tt
-by_user_among P terms ssn tag w (Forward point rewrite hop) (mine ∷ refs) good = (tt, All-head P mine refs good)
-
-opened_among : (P : ℕ → Type 0) (terms : Terms) (wish : Wish) (answer : Option Answer) (refs : List ℕ) → All P refs → AreAmong P (opened terms wish answer refs).connection
-unfolding opened
-opened_among P terms (by_cr w) (Some answer) refs good = by_cr_among P terms w answer refs good
-opened_among P terms (by_cr w) None refs good = tt
-opened_among P terms (by_user ssn tag w) (Some answer) refs good = by_user_among P terms ssn tag w answer refs good
-opened_among P terms (by_user ssn tag w) None refs good = tt
-opened_among P terms no_wish answer refs good = tt
 
 -- The lowest free references.
 

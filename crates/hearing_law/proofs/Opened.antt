@@ -47,7 +47,7 @@ by_user_among P terms ssn tag w (Local other) refs good = tt
 by_user_among P terms ssn tag w (Forward point rewrite hop) [] good = tt
 by_user_among P terms ssn tag w (Forward point rewrite hop) (mine ∷ refs) good = (tt, All-head P mine refs good)
 
-opened_among : (P : ℕ → Type 0) (terms : Terms) (wish : Wish) (answer : Option Answer) (refs : List ℕ) → All P refs → AreAmong P (opened terms wish answer refs).connection
+pub opened_among : (P : ℕ → Type 0) (terms : Terms) (wish : Wish) (answer : Option Answer) (refs : List ℕ) → All P refs → AreAmong P (opened terms wish answer refs).connection
 unfolding opened
 opened_among P terms (by_cr w) (Some answer) refs good = by_cr_among P terms w answer refs good
 opened_among P terms (by_cr w) None refs good = tt
