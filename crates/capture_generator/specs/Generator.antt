@@ -40,7 +40,7 @@ generator_head = record {
   concerned = [];
   timers = usual_ticks;
   row = [];
-  replicates = [];
+  replicate = [];
 }
 
 -- ---- the sequence of numbers

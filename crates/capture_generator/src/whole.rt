@@ -50,7 +50,7 @@ fn generator_head(alloc: Global) -> Result<Head, Memory>
         concerned: PcList::new(alloc),
         timers: usual_ticks(),
         row: RowList::new(alloc),
-        replicates: ReplicateList::new(alloc),
+        replicate: ReplicateList::new(alloc),
     })
 }
 

@@ -14,4 +14,4 @@ lane_head_of head = record { terms = record { own = head.point; credit = head.cr
 
 -- what the control lane is told of a head
 abbrev pub control_head_of : Head → ControlHead
-control_head_of head = record { users = head.users; concerned = head.concerned; replicates = head.replicates; ticks = head.timers }
+control_head_of head = record { users = head.users; concerned = head.concerned; replicates = head.replicate; ticks = head.timers }

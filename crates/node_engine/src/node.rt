@@ -53,7 +53,7 @@ fn control_head_of(alloc: Global, head: &Head) -> Result<ControlHead, Memory>
     Ok(ControlHead {
         users: SsnList::from_slice(alloc, head.users.as_slice())?,
         concerned: PcList::from_slice(alloc, head.concerned.as_slice())?,
-        replicates: ReplicateList::from_slice(alloc, head.replicates.as_slice())?,
+        replicates: ReplicateList::from_slice(alloc, head.replicate.as_slice())?,
         ticks: head.timers,
     })
 }

@@ -35,4 +35,4 @@ pub record IsHead (head : Head) : Type 0 where
   pub concerned_others : list_any (λ point. point == head.point) head.concerned ≡ false
   pub timers : AreTicks head.timers
   pub rows : IsTrue (are_addable [] head.row)
-  pub replicates : AreReplicates head.point head.users head.replicates
+  pub replicates : AreReplicates head.point head.users head.replicate

@@ -28,7 +28,7 @@ pub struct Head {
     /// The rows of the translation, at most 4,096, no two with one selector and one prefix.
     pub row: RowList,
     /// The replicates of local users: at most one for each user, not at the own point.
-    pub replicates: ReplicateList,
+    pub replicate: ReplicateList,
 }
 
 /// How many lanes and links a head states, and its greatest credit.

@@ -14,7 +14,7 @@ use Rattle.q713_codec.specs.Formats.{cr_format, cc_format, cref_format, rlsd_for
 use Rattle.q713_codec.specs.Messages.{cr_of, cc_of, cref_of, rlsd_of, rlc_of, dt1_of, dt2_of, ak_of, udt_of, udts_of, ed_of, ea_of, rsr_of, rsc_of, err_of, it_of, xudt_of, xudts_of, ludt_of, ludts_of, one_octet, four_octets, in_one, format_in, values_of_message}
 use Rattle.q713_codec.specs.Reading.{Kind, kind_of, kind_at, message_as, message_by, reading_of}
 use Rattle.q713_codec.specs.Writing.{spelling_of, is_in_range, InRange}
-use Rattle.q713_codec.specs.Inner.Types.{HasTypes}
+use Rattle.q713_codec.specs.Types.{HasTypes}
 
 -- the fields that their octets are
 reference : (n : ℕ) → n < 2 ^ 24 → n % 256 + 256 * (n / 256 % 256) + 65_536 * (n / 65_536 % 256) ≡ n

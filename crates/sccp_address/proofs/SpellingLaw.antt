@@ -10,7 +10,7 @@ use Rattle.sccp_address.specs.Form.{Form, TitleForm, no_title, bcd, other}
 use Rattle.sccp_address.specs.Digits.{digits_in, digit_octets}
 use Rattle.sccp_address.specs.Titles.{has_digits, lead_of, encoding_of, selector_of, is_title_short, is_bcd, title_at, is_carried, is_in_form}
 use Rattle.sccp_address.specs.Parsing.{point_at, ssn_at, address_of, IsInForm}
-use Rattle.sccp_address.specs.Inner.Ranges.{IsInRange, HasFewDigits}
+use Rattle.sccp_address.specs.Ranges.{IsInRange, HasFewDigits}
 use Rattle.sccp_address.specs.Spelling.{point_octets, ssn_octets, is_odd, bit, encoding, lead_octets, title_octets, gti_of, indicator_of, address_spelling}
 use Rattle.sccp_address.proofs.DigitLemmas.{digits_in-digit_octets, length-digit_octets}
 

@@ -3,7 +3,7 @@ ghost use Rattle.std.specs.Prelude.{◌≡◌, ◌<◌, ◌++◌, IsTrue, IfOk, 
 ghost use Rattle.sccp_address.specs.Form.{seen, seen_title};
 ghost use Rattle.sccp_address.specs.Titles.{is_carried, is_in_form};
 ghost use Rattle.sccp_address.specs.Parsing.{address_of, IsInForm};
-ghost use Rattle.sccp_address.specs.Inner.Ranges.{HasFewDigits};
+ghost use Rattle.sccp_address.specs.Ranges.{HasFewDigits};
 ghost use Rattle.sccp_address.specs.Spelling.{point_octets, lead_octets, title_octets, gti_of, indicator_of, address_spelling};
 
 use crate::address::{Address, Selector, Title};

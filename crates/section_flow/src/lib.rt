@@ -7,3 +7,4 @@ mod flow;
 
 pub use counts::{Counts, UnitList};
 pub use flow::Flow;
+pub use section_model::Unit;

@@ -3,9 +3,9 @@ use Rattle.std.specs.Prelude.{◌≡◌, Ok}
 use Rattle.q713_codec.specs.declared.message.Message.{Message}
 use Rattle.q713_codec.specs.Reading.{reading_of}
 use Rattle.q713_codec.specs.Writing.{spelling_of, InRange}
-use Rattle.q713_codec.specs.Inner.Types.{HasTypes}
+use Rattle.q713_codec.specs.Types.{HasTypes}
 use Rattle.sccp_address.specs.Form.{Form}
-use Rattle.sccp_address.specs.Inner.Ranges.{IsInRange}
+use Rattle.sccp_address.specs.Ranges.{IsInRange}
 use Rattle.sccp_address.specs.Parsing.{address_of, IsInForm}
 use Rattle.sccp_address.specs.Spelling.{address_spelling}
 

@@ -204,7 +204,7 @@ fn reads_the_defaults(rt: HostRuntime) -> Result<(), Fail> {
     );
     assert!(rt; head.concerned.is_empty());
     assert!(rt; head.row.is_empty());
-    assert!(rt; head.replicates.is_empty());
+    assert!(rt; head.replicate.is_empty());
     let ticks = Ticks {
         connect: 90,
         ias: 420,
@@ -311,7 +311,7 @@ fn reads_replicates(rt: HostRuntime) -> Result<(), Fail> {
             point: Pc::new(0).ok_or("a point")?,
         },
     ];
-    assert_same(&rt, &head.replicates.as_slice(), &replicates.as_slice());
+    assert_same(&rt, &head.replicate.as_slice(), &replicates.as_slice());
     Ok(())
 }
 

@@ -11,7 +11,7 @@ use Rattle.q713_codec.specs.declared.written.Rules.{Rules}
 use Rattle.q713_codec.specs.declared.written.Written.{Written}
 use Rattle.q713_codec.specs.Names.{Message}
 use Rattle.q713_codec.specs.Messages.{format_in, values_of_message}
-use Rattle.q713_codec.specs.Inner.Types.{HasTypes}
+use Rattle.q713_codec.specs.Types.{HasTypes}
 
 abbrev pub octets_in : FixedPart → List ℕ
 octets_in part = take part.count part.octets
