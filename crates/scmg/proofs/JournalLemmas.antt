@@ -90,6 +90,24 @@ pub record IsOfEffect (head : ControlHead) (event : ControlEvent) (kept : KeptSt
   pub outs : entry.outs ≡ effect.outs
   pub published : entry.published ≡ edition_after kept.edition (change_of effect.act)
 
+-- an entry with the outputs of an event's effect, once the edition is in it
+pub effect-made : (head : ControlHead) (event : ControlEvent) (kept : KeptState) (made : ControlEntry) (act : Act) → made.event ≡ event
+    → made.outs ≡ (effect_of head kept.control event).outs → act ≡ (effect_of head kept.control event).act
+    → IsOfEffect head event kept (record { outs = made.outs; act = act }) (record made { published = edition_after kept.edition (change_of act) })
+effect-made head event kept made act e o a =
+    record { of_event = e; by = λ i. record { outs = o i; act = a i }; outs = refl; published = refl }
+
+-- a journal that took the place of another one went on as that did
+pub grown-by : {T E : Type 0} (r : Result T E) (next written old journal : List ControlEntry) (entry : ControlEntry) → next ≡ written → old ≡ journal
+    → OnOk r (written ≡ old ++ entry ∷ []) → OnOk r (next ≡ journal ++ entry ∷ [])
+grown-by (Ok x) next written old journal entry e f grown = e ∙ grown ∙ ap (λ l. l ++ entry ∷ []) f
+grown-by (Err x) next written old journal entry e f grown = tt
+
+pub stayed-by : {T E : Type 0} (r : Result T E) (next written old journal : List ControlEntry) → next ≡ written → old ≡ journal
+    → OnErr r (written ≡ old) → OnErr r (next ≡ journal)
+stayed-by (Ok x) next written old journal e f same = tt
+stayed-by (Err x) next written old journal e f same = e ∙ same ∙ f
+
 managed-so : (head : ControlHead) (start : RoutingData) (journal : List ControlEntry) (event : ControlEvent) (kept : KeptState) (effect : Effect) (entry : ControlEntry)
     → IsLane head start journal kept → IsOfEffect head event kept effect entry
     → managed head (after_entries head (start_of_control start) journal) entry.event ≡ managed_by head kept.control effect
