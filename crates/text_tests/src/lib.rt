@@ -1,4 +1,4 @@
-//! Heads, captures, journals, words of the command line and made captures: worked rows, and each public function once.
+//! Heads, captures, journals, words of the command line and lines of counts: worked rows, and each public function once.
 #![tactic(auto)]
 
 #[cfg(test)]
@@ -6,10 +6,10 @@ mod captures;
 #[cfg(test)]
 mod commands;
 #[cfg(test)]
+mod counts;
+#[cfg(test)]
 mod heads;
 #[cfg(test)]
 mod journals;
-#[cfg(test)]
-mod made;
 #[cfg(test)]
 mod same;

@@ -1,72 +1,11 @@
-//! Generated captures, against texts that are written here line by line, and lines of counts.
-ghost use Rattle.std.specs.Prelude.{◌<◌};
+//! Lines of counts.
 
-use capture_form::read_capture;
-use capture_generator::{counts_line, generated};
+use capture_generator::counts_line;
 use journal_text::Book;
 use plant_core::{ControlEntry, ControlEvent, ControlList, Entry, EntryList, JournalList};
 use relay_base::{Event, Lost, Octets, Output, Outs, Pc, Sls, Ssn, Stamp, Tell};
-use std::alloc::{AllocError, Global};
+use std::alloc::Global;
 use std::test::Fail;
-
-const HEAD: &str = "point = 1\nusers = [8]\nconn_lanes = 4\ndata_lanes = 4\n%%\n";
-
-/// Puts the line of a number `x` at the end, as it is stated.
-fn push_line(text: &mut String, x: u64, line: u64) -> Result<(), AllocError>
-    requires { line < 60000 }
-{
-    let sls = line % 16;
-    let reference = 16 * (1 + line % 100) + line % 4;
-    let low = reference % 256;
-    let high = reference / 256;
-    let octet = line % 256;
-    match x / 65_536 % 4 {
-        0 => writeln!(text, "m 1 2 {sls} 090003050702420802420601aa"),
-        1 => {
-            let first = (line + 1) % 256;
-            let second = (line + 1) / 256;
-            writeln!(text, "m 1 2 {sls} 01{first:02x}{second:02x}00020200024208")
-        }
-        2 => writeln!(text, "u 1 8 accept {reference} 2 0 -"),
-        _ => writeln!(text, "m 1 2 {sls} 06{low:02x}{high:02x}00000101{octet:02x}"),
-    }
-}
-
-/// The text of a number and a count of lines below 60,000.
-fn text_of(alloc: Global, number: u64, lines: u64) -> Result<String, AllocError>
-    requires { lines < 60000 }
-{
-    let mut text = String::from_str(alloc, HEAD)?;
-    let mut x = number;
-    for line in 0..lines {
-        x = (1_103_515_245 * (x % 2_147_483_648) + 12_345) % 2_147_483_648;
-        push_line(&mut text, x, line)?;
-        if line % 400 == 399 {
-            text.push_str("w\nt\nw\n")?;
-        }
-    }
-    Ok(text)
-}
-
-/// What is generated is what the reading of the text gives, with a barrier at the end and without.
-#[test]
-fn as_the_text_is_read(rt: HostRuntime) -> Result<(), Fail> {
-    let alloc = rt.alloc();
-    for (number, lines) in [
-        (1, 1),
-        (0, 2),
-        (7, 399),
-        (4_294_967_295, 400),
-        (7, 401),
-        (2_147_483_648, 1_203),
-    ] {
-        let text = text_of(alloc, number, lines)?;
-        let read = read_capture(alloc, text.as_bytes()).ok();
-        let made = generated(alloc, number as u32, lines as u32)?;
-        assert!(rt; read == Some(made), "number {number}, {lines} lines");
-    }
-    Ok(())
-}
 
 fn stamp() -> Stamp {
     Stamp {

@@ -1,0 +1,5 @@
+pub mod Events
+pub mod Reading
+pub mod Splitting
+pub mod Whole
+pub mod Words
