@@ -1,5 +1,5 @@
 -- A user's end acts upon a request.
-use Rattle.std.proofs.Common.{◌≡◌, ℕ, ◌≤◌, ◌==◌, List, [], ◌∷◌, ◌++◌, map, if◌then◌else◌, Option, Some, None, refl, arith, zero-le}
+use Rattle.std.proofs.Common.{◌≡◌, ℕ, ◌≤◌, ◌==◌, List, [], ◌∷◌, ◌++◌, map, if◌then◌else◌, Option, Some, None, refl, subst, arith, zero-le}
 use Rattle.relay_base.specs.declared.words.Request.{Request}
 use Rattle.relay_base.specs.declared.words.Request.TheVariants as request
 use Rattle.relay_base.specs.declared.words.Reason.{Reason}
@@ -16,6 +16,7 @@ use Rattle.section_model.specs.UserEnd.{user_asks, given, handed, units_of}
 use Rattle.section_model.specs.Coupling.{exchange}
 use Rattle.section_model.specs.Step.{asking_cell, reason_against, asks_unless, asks}
 use Rattle.flow_law.specs.InStep.{Stage, asked, asking, Meets, section_stage, IsInStep, AreInStep}
+use Rattle.section_model.proofs.Handing.{no_hand_is_lost}
 use Rattle.flow_law.proofs.Ends.{kept_back}
 use Rattle.flow_law.proofs.Taking.{user_at, Settles, Agree, CanEnd, alone, handed_on, takes_end, takes_refusal, takes_acceptance}
 use Rattle.flow_law.proofs.Flowing.{either, OnWay, units_taken, section_takes_expedited, section_takes_reset, open_can_end}
@@ -33,7 +34,9 @@ asked_can_end _ m = absurd m
 -- all units of a text
 sends_units : (ticks : Ticks) (units : List DataUnit) (u : User) (x : Section) → OnWay units (wire x) (owner u) → Settles ticks (wire x) (owner u, gives_then [] (map handed units))
 unfolding Settles exchange
-sends_units ticks units u x k = units_taken ticks units (record { this = owner u; that = wire x }, []) k
+sends_units ticks units u x k =
+    subst (λ (r : Connection × List Output). IsInStep r.0) (no_hand_is_lost.enough 1 ticks (owner u, gives_then [] (map handed units)) (wire x))
+    (units_taken ticks units (record { this = owner u; that = wire x }, []) k)
 
 units_given : (class : ℕ) (got units : List DataUnit) → class ≡ 3 → (if class == 3 then got ++ units else got) ≡ got ++ units
 units_given class got units three = rw three refl

@@ -118,7 +118,7 @@ act_goes : (ticks : Ticks) (e that : End) (acting : End × Acted) → Fine e act
 unfolding Fine Exchanges
 act_goes ticks e that acting f =
     goes_then (both e that) (both acting.0 that) (settles ticks acting that).0
-    (f.0, kind_stays that, λ _. f.1, λ _. same_grows (passed_at that) (got_at that)) (exchange_goes 3 ticks acting that f.2)
+    (f.0, kind_stays that, λ _. f.1, λ _. same_grows (passed_at that) (got_at that)) (exchange_goes 2 ticks acting that f.2)
 
 -- A message.
 

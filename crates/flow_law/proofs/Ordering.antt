@@ -101,7 +101,7 @@ left_stays n count units is_expedited ticks old (owner u) giver s = (record { se
 handed_stay : (b : Bool) (count units : ℕ) (is_expedited : Bool) (ticks : Ticks) (outs : List Output) (x x' : Section) (that : End) → Stays count (wire x) (wire x')
     → BothStay count 0 (record { this = wire x; that = that }) (settles ticks (wire x', gives_then outs (if b then hand.Left units is_expedited ∷ [] else [])) that).0
 unfolding exchange
-handed_stay true count units is_expedited ticks outs x x' that s = let l = left_stays 1 count units is_expedited ticks (wire x) that (wire x') s in (l.1, l.0)
+handed_stay true count units is_expedited ticks outs x x' that s = let l = left_stays 0 count units is_expedited ticks (wire x) that (wire x') s in (l.1, l.0)
 handed_stay false count units is_expedited ticks outs x x' that s = (s, stays_same that)
 
 windows_leave : (ticks : Ticks) (x : Section) (that : End) → BothStay (may_leave x.windows) 0 (record { this = wire x; that = that }) (settles ticks (timed ticks x (by_windows leaves x)) that).0

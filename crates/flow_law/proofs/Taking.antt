@@ -1,5 +1,5 @@
 -- One end takes what the other hands to it.
-use Rattle.std.proofs.Common.{◌≡◌, ℕ, suc, ◌≤◌, List, [], ◌∷◌, Option, refl, zero-le}
+use Rattle.std.proofs.Common.{◌≡◌, ℕ, suc, ◌≤◌, List, [], ◌∷◌, Option, refl, subst, zero-le}
 use Rattle.section_model.specs.declared.hand.Hand.{Hand}
 use Rattle.section_model.specs.declared.hand.Unit.{Unit as DataUnit}
 use Rattle.section_model.specs.declared.hand.Hand.TheVariants as hand
@@ -10,13 +10,14 @@ use Rattle.section_model.specs.declared.cell.UserState.TheVariants as user
 use Rattle.section_model.specs.declared.hand.Acted.{Acted}
 use Rattle.plant_core.specs.declared.terms.Ticks.{Ticks}
 use Rattle.relay_base.specs.declared.words.Output.{Output}
-use Rattle.section_model.specs.Ends.{End, wire, owner, Section, User, gives, gives_then, cleared}
+use Rattle.section_model.specs.Ends.{End, wire, owner, Section, User, Connection, gives, gives_then, cleared}
 use Rattle.section_model.specs.Table.{section_row, user_row}
 use Rattle.section_model.specs.Line.{line_takes}
 use Rattle.section_model.specs.UserEnd.{user_takes}
 use Rattle.section_model.specs.Acting.{section_takes, end_takes}
 use Rattle.section_model.specs.Coupling.{exchange, settles}
 use Rattle.flow_law.specs.InStep.{Stage, asked, asking, connected, over, Meets, stage_at, section_stage, user_stage, IsInStep, AreInStep, IsAwaited, ResetIsAwaited, class_at, credit_at, IsFresh, Flows, FlowsWith, passed_at, got_at, InCredit, InWindow, PassesOn}
+use Rattle.section_model.proofs.Handing.{no_hand_is_lost}
 use Rattle.flow_law.proofs.Ends.{kept_back}
 
 -- a section, and a user, in a state
@@ -41,7 +42,9 @@ TakesInStep n ticks h taker giver = IsInStep (exchange (suc n) ticks (end_takes 
 
 pub handed_on : (ticks : Ticks) (e that : End) (outs : List Output) (h : Hand) → TakesInStep 1 ticks h that e → Settles ticks that (e, gives_then outs (h ∷ []))
 unfolding Settles TakesInStep exchange
-handed_on ticks e that outs h k = kept_back (exchange 2 ticks (end_takes ticks h that) e).0 k
+handed_on ticks e that outs h k =
+    subst (λ (r : Connection × List Output). IsInStep r.0) (no_hand_is_lost.enough 1 ticks (e, gives_then outs (h ∷ [])) that)
+    (kept_back (exchange 2 ticks (end_takes ticks h that) e).0 k)
 
 -- what holds of two ends but for their stages
 abbrev pub Agree : End → End → Type 0

@@ -43,7 +43,7 @@ turned_sends A G c r s = (s.0, other s.1)
 
 -- an act of which none comes
 pub settles_plain : (A : Section → Type 0) (G : End → List ℕ → Type 0) (c : Connection) (ticks : Ticks) (acting : End × Acted) (that : End) → ActsPlain acting.1 → EventSends A G c (settles ticks acting that)
-settles_plain A G c ticks acting that p = plain_sends A G c (settles ticks acting that) (exchange_plain 3 ticks acting that p)
+settles_plain A G c ticks acting that p = plain_sends A G c (settles ticks acting that) (exchange_plain 2 ticks acting that p)
 
 -- ED leaves on a section that acts
 expedited_gives : (x : Section) (body : List ℕ) (all : List Output) → GivesAs (as_expedited x body ∷ []) all → (data_among all ≡ []) × (expedited_among all ≡ as_expedited x body ∷ [])
@@ -54,21 +54,21 @@ pub settles_answer : (A : Section → Type 0) (G : End → List ℕ → Type 0) 
     → EventSends A G (both (wire x) that) (settles ticks (wire y, gives_then (as_expedited x body ∷ []) (hand.Left 0 true ∷ [])) that)
 settles_answer A G ticks x y that body answer unanswered waiting after =
     let acting : End × Acted = (wire y, gives_then (as_expedited x body ∷ []) (hand.Left 0 true ∷ [])) in
-    let g = expedited_gives x body (settles ticks acting that).1 (left_gives true 2 ticks (wire y) that (as_expedited x body ∷ []) 0 true) in
-    let kept = left_keeps 2 ticks (wire y) that (as_expedited x body ∷ []) 0 true in
+    let g = expedited_gives x body (settles ticks acting that).1 (left_gives true 1 ticks (wire y) that (as_expedited x body ∷ []) 0 true) in
+    let kept = left_keeps 1 ticks (wire y) that (as_expedited x body ∷ []) 0 true in
     (g.0, on_this (record { section = x; is = refl; body = body; sends = g.1; why = inl (answer, unanswered, waiting); unanswered = ap unanswered_at kept ∙ after }))
 
 -- The other end takes expedited data.
 
 unfoldable TakerSends : (Section → Type 0) → (End → List ℕ → Type 0) → Ticks → End → End → Section → Section × Acted → Type 0
 TakerSends A G ticks e giver old done =
-    let r = exchange 2 ticks (timed ticks old done) giver in EventSends A G (both e (wire old)) (turned r.0, r.1)
+    let r = exchange 1 ticks (timed ticks old done) giver in EventSends A G (both e (wire old)) (turned r.0, r.1)
 
 none_taken : (A : Section → Type 0) (G : End → List ℕ → Type 0) (ticks : Ticks) (e giver : End) (old : Section) (done : Section × Acted) → ActsPlain done.1 → TakerSends A G ticks e giver old done
 unfolding TakerSends
 none_taken A G ticks e giver old done p =
-    let r = exchange 2 ticks (timed ticks old done) giver in
-    plain_sends A G (both e (wire old)) (turned r.0, r.1) (exchange_plain 2 ticks (timed ticks old done) giver p)
+    let r = exchange 1 ticks (timed ticks old done) giver in
+    plain_sends A G (both e (wire old)) (turned r.0, r.1) (exchange_plain 1 ticks (timed ticks old done) giver p)
 
 free_up : (y : Section) (three free : Bool) → three ≡ true → free ≡ true → (three && free) ≡ true
 free_up y three free t f = rw (t, f) refl
@@ -80,8 +80,8 @@ unfolding TakerSends
 leaves_free A G ticks e giver y body brings three free =
     let y' : Section = record (at Up y) { windows = record y.windows { waiting = None; unanswered = true } } in
     let acting : End × Acted = timed ticks (at Up y) (y', gives_then (as_expedited y body ∷ []) (hand.Left 0 true ∷ [])) in
-    let g = expedited_gives y body (exchange 2 ticks acting giver).1 (left_gives true 1 ticks acting.0 giver (as_expedited y body ∷ []) 0 true) in
-    let kept = left_keeps 1 ticks acting.0 giver (as_expedited y body ∷ []) 0 true in
+    let g = expedited_gives y body (exchange 1 ticks acting giver).1 (left_gives true 0 ticks acting.0 giver (as_expedited y body ∷ []) 0 true) in
+    let kept = left_keeps 0 ticks acting.0 giver (as_expedited y body ∷ []) 0 true in
     (g.0, on_that (record { section = at Up y; is = refl; body = body; sends = g.1; why = inr (brings, free_up y (y.head.class == 3) (not y.windows.unanswered) three free); unanswered = ap unanswered_at kept }))
 
 pub nothing_plain : ActsPlain no_effect
@@ -89,7 +89,7 @@ unfolding ActsPlain IsPlain AreOther data_among expedited_among
 nothing_plain = ((refl, refl), tt)
 
 section_brings : (A : Section → Type 0) (G : End → List ℕ → Type 0) (ticks : Ticks) (e giver : End) (body : List ℕ) → G e body → (s : SectionState) (y : Section)
-    → (let r = exchange 2 ticks (end_takes ticks (hand.Expedited body) (wire (at s y))) giver in EventSends A G (both e (wire (at s y))) (turned r.0, r.1))
+    → (let r = exchange 1 ticks (end_takes ticks (hand.Expedited body) (wire (at s y))) giver in EventSends A G (both e (wire (at s y))) (turned r.0, r.1))
 unfolding TakerSends section_takes windowed_takes line_takes section_row
 section_brings A G ticks e giver body brings Up y =
     either (TakerSends A G ticks e giver (at Up y)) (y.head.class == 3) _ _
@@ -108,6 +108,6 @@ pub settles_bringing : (A : Section → Type 0) (G : End → List ℕ → Type 0
 unfolding exchange
 settles_bringing A G ticks e giver (wire y) body brings = section_brings A G ticks e giver body brings y.head.state y
 settles_bringing A G ticks e giver (owner v) body brings =
-    let r = exchange 2 ticks (end_takes ticks (hand.Expedited body) (owner v)) giver in
+    let r = exchange 1 ticks (end_takes ticks (hand.Expedited body) (owner v)) giver in
     plain_sends A G (both e (owner v)) (turned r.0, r.1)
-    (exchange_plain 2 ticks (end_takes ticks (hand.Expedited body) (owner v)) giver (user_takes_plain (user_takes_by v.state (hand.Expedited body)) (hand.Expedited body) v))
+    (exchange_plain 1 ticks (end_takes ticks (hand.Expedited body) (owner v)) giver (user_takes_plain (user_takes_by v.state (hand.Expedited body)) (hand.Expedited body) v))

@@ -21,14 +21,14 @@ use Rattle.flow_law.proofs.Opening.{opening_begins}
 use Rattle.flow_law.proofs.Step.{event_kept, step_keeps}
 use Rattle.flow_law.proofs.Ordering.{event_sends}
 use Rattle.message_law.specs.Messages.{data_among}
-use Rattle.message_law.specs.DataSent.{data_on}
+use Rattle.message_law.specs.DataSent.{all_as_data, data_on}
 use Rattle.message_law.specs.DataAlong.{SentData, kept_from, sent_data_next, sent_data_along, AreData, AreThoseLeft, DataAlongLaw}
 use Rattle.message_law.proofs.Sent.{after_leaving, this_data, data_sent}
 use Rattle.message_law.proofs.Leaving.{data_leaving}
 
 -- DT2 that are numbered on.
 
-are_numbered : (x : SectionHead) (ps pr : ℕ) (units : List DataUnit) → AreData ps units (numbered x ps pr units)
+are_numbered : (x : SectionHead) (ps pr : ℕ) (units : List DataUnit) → AreData ps units (all_as_data x ps pr units)
 are_numbered x ps pr [] = tt
 are_numbered x ps pr (u ∷ units) = (record { section = x; pr = pr; spelled = refl }, are_numbered x (suc ps) pr units)
 
@@ -44,12 +44,12 @@ joined ps (u ∷ units) more (out ∷ outs) others d f =
 
 -- the units sent, and those that are sent more
 more_data : (s m : ℕ) (got : List DataUnit) (outs : List Output) (x : SectionHead) (pr : ℕ) → s ≤ length got → AreData 0 (take s got) outs
-    → AreData 0 (take (s + m) got) (outs ++ numbered x s pr (drop s (take (s + m) got)))
+    → AreData 0 (take (s + m) got) (outs ++ all_as_data x s pr (drop s (take (s + m) got)))
 more_data s m got outs x pr within d =
     let same : s ≡ 0 + length (take s got) = rw (length-take-le s got within) (omega arith) in
     rw (drop-take s m got, take-add s m got)
-    (joined 0 (take s got) (take m (drop s got)) outs (numbered x s pr (take m (drop s got))) d
-    (numbered_from s (0 + length (take s got)) (take m (drop s got)) (numbered x s pr (take m (drop s got))) same (are_numbered x s pr (take m (drop s got)))))
+    (joined 0 (take s got) (take m (drop s got)) outs (all_as_data x s pr (take m (drop s got))) d
+    (numbered_from s (0 + length (take s got)) (take m (drop s got)) (all_as_data x s pr (take m (drop s got))) same (are_numbered x s pr (take m (drop s got)))))
 
 -- An end has sent, as DT2, what left of the other, since the counts were cleared.
 abbrev HasData : List Output → End → End → Type 0
@@ -86,7 +86,7 @@ leaving_has outs m pr (wire x) other (wire y) d_other k l has is class sent got 
     by_class (x.head.class == 3) (rw three' refl) f.0 f.1 g.0 (has tt three')
   where
     by_class : (b : Bool) → b ≡ true → x.windows.sent ≡ passed_at other → passed_at other ≤ length (got_at other) → y.windows.sent ≡ passed_at d_other → AreData 0 (take (passed_at other) (got_at other)) outs
-        → AreData 0 (take (passed_at d_other) (got_at d_other)) (outs ++ (if b then numbered x.head x.windows.sent pr (drop x.windows.sent (take y.windows.sent (got_at d_other))) else []))
+        → AreData 0 (take (passed_at d_other) (got_at d_other)) (outs ++ (if b then all_as_data x.head x.windows.sent pr (drop x.windows.sent (take y.windows.sent (got_at d_other))) else []))
     by_class true e s within s' d =
         rw (← s', sent, got) (more_data x.windows.sent m (got_at other) outs x.head pr (rw s within) (rw s d))
     by_class false e s within s' d = absurd (false≢true e)

@@ -271,7 +271,7 @@ asked_sends ticks ssn r (wire x) that = on_that_sends (Answers (Requested ssn r)
 
 fires_at_plain : (ticks : Ticks) (timer : Timer) (this that : End) → IsPlain (fires_at ticks timer this that).1
 fires_at_plain ticks timer (wire x) that =
-    exchange_plain 3 ticks _ that (section_fires_plain ticks (section_cell x.head.state (firing timer)) (record x { timers = rearmed ticks timer x.timers }))
+    exchange_plain 2 ticks _ that (section_fires_plain ticks (section_cell x.head.state (firing timer)) (record x { timers = rearmed ticks timer x.timers }))
 fires_at_plain ticks timer (owner u) that = none_plain
 
 fires_plain : (ticks : Ticks) (timer : Timer) (this that : End) → IsPlain (fires ticks timer this that).1

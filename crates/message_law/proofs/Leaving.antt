@@ -76,7 +76,7 @@ windows_send ticks x that is_open =
     let w = x.windows in
     let is_expedited = is_some w.waiting && not w.unanswered in
     let s = sends_both x (take (may_leave w) w.waits) is_expedited (unwrap_or w.waiting []) in
-    let g = left_gives (is_expedited || nat_lt 0 (may_leave w)) 2 ticks (timed ticks x (by_windows leaves x)).0 that
+    let g = left_gives (is_expedited || nat_lt 0 (may_leave w)) 1 ticks (timed ticks x (by_windows leaves x)).0 that
     (numbered x.head w.sent w.passed (take (may_leave w) w.waits) ++ (if is_expedited then as_expedited x (unwrap_or w.waiting []) ∷ [] else [])) (may_leave w) is_expedited in record {
       numbered_data = g.numbered ∙ (s.0 ∙ rw is_open refl);
       expedited = g.expedited ∙ (s.1 ∙ waits x w.waiting is_open);
@@ -98,7 +98,7 @@ pub acknowledges_send : (ticks : Ticks) (this that : End) → IsPlain (on_window
 acknowledges_send ticks (owner u) that = none_plain
 acknowledges_send ticks (wire x) that =
     either (λ (r : Connection × List Output). IsPlain r.1) (is_up x.head.state && x.head.class == 3) _ _
-    (λ _. exchange_plain 3 ticks _ that (acknowledges_plain (record { head = x.head; windows = x.windows }))) (λ _. none_plain)
+    (λ _. exchange_plain 2 ticks _ that (acknowledges_plain (record { head = x.head; windows = x.windows }))) (λ _. none_plain)
 
 -- all that is sent after the event
 pub record SendsAfter (ticks : Ticks) (r : Connection × List Output) : Type 0 where

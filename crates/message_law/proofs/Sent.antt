@@ -1,5 +1,5 @@
 -- What one step sends.
-use Rattle.std.proofs.Common.{◌≡◌, ℕ, ◌+◌, ◌-◌, ◌≤◌, ◌==◌, ◌&&◌, ◌||◌, nat_lt, not, if◌then◌else◌, Bool, true, false, List, [], ◌∷◌, ◌++◌, take, drop, is_some, refl, sym, ◌∙◌, ap, arith, inl, inr}
+use Rattle.std.proofs.Common.{◌≡◌, ℕ, suc, ◌+◌, ◌-◌, ◌≤◌, ◌==◌, ◌&&◌, ◌||◌, nat_lt, not, if◌then◌else◌, Bool, true, false, List, [], ◌∷◌, ◌++◌, take, drop, is_some, refl, sym, ◌∙◌, ap, arith, inl, inr}
 use Rattle.std.proofs.lemmas.Bool.{eqb-true}
 use Rattle.std.proofs.lemmas.List.{drop-take}
 use Rattle.relay_base.specs.declared.words.Output.{Output}
@@ -7,7 +7,7 @@ use Rattle.plant_core.specs.declared.terms.Ticks.{Ticks}
 use Rattle.section_model.specs.declared.hand.Hand.TheVariants as hand
 use Rattle.section_model.specs.declared.hand.Unit.{Unit as DataUnit}
 use Rattle.section_model.specs.declared.hand.Acted.{Acted}
-use Rattle.section_model.specs.Ends.{End, wire, owner, Windows, Connection, turned, is_up, gives_then}
+use Rattle.section_model.specs.Ends.{End, wire, owner, SectionHead, Windows, Connection, turned, is_up, gives_then}
 use Rattle.section_model.specs.Windowed.{Windowed, numbered, may_leave, leaves, acknowledges}
 use Rattle.section_model.specs.Acting.{timed, by_windows}
 use Rattle.section_model.specs.Coupling.{exchange, settles}
@@ -22,10 +22,11 @@ use Rattle.flow_law.proofs.Leaving.{on_windows_kept, leaves_kept}
 use Rattle.flow_law.proofs.Step.{event_kept}
 use Rattle.flow_law.proofs.Ordering.{Stays, this_left, stays_then, stays_by, leaves_stay, after_event_stays}
 use Rattle.message_law.specs.Messages.{expedited_among}
-use Rattle.message_law.specs.DataSent.{data_on, IsWithinCredit, GoesOn, DataSentLaw}
+use Rattle.message_law.specs.DataSent.{as_data, all_as_data, data_on, IsWithinCredit, GoesOn, DataSentLaw}
 use Rattle.message_law.specs.ExpeditedSent.{waiting_on, ExpeditedSentLaw}
 use Rattle.message_law.proofs.Exchanging.{left_keeps}
 use Rattle.message_law.proofs.Hearing.{event_sends, no_data}
+use Rattle.message_law.proofs.Answering.{event_answers, after_answers}
 use Rattle.message_law.proofs.Waiting.{event_hands_over, step_hands_over}
 use Rattle.message_law.proofs.Leaving.{data_leaving, LeavesAlike, leaves_alike, after_event_sends}
 
@@ -43,6 +44,7 @@ expedited_sent ticks c event h =
     let r = event_step ticks c event in record {
       at_once = expedited_among r.1;
       leaves = (event_sends ticks c event h).1;
+      unanswered = (event_answers ticks c event h, after_answers ticks (event_step ticks c event));
       waits = (event_hands_over ticks c event h, step_hands_over ticks c event h);
       sends = (after_event_sends ticks r).expedited
           ∙ ap (λ (outs : List Output). expedited_among r.1 ++ waiting_on r.0.this ++ outs) (waiting_alike r.0.that (this_left ticks r.0).that (leaves_alike ticks r.0.this r.0.that));
@@ -58,13 +60,18 @@ not_both : (a b : Bool) → b ≡ false → (a && b) ≡ false
 not_both true b e = e
 not_both false b e = refl
 
+spelled : (x : SectionHead) (ps pr : ℕ) (units : List DataUnit) → numbered x ps pr units ≡ all_as_data x ps pr units
+spelled x ps pr [] = refl
+spelled x ps pr (u ∷ units) = ap (λ (outs : List Output). as_data x ps pr u ∷ outs) (spelled x (suc ps) pr units)
+
 data_is : (e other after after' : End) → AreInStep e other → sent_at after ≡ sent_at e + leaving_count e → got_at after' ≡ got_at other
     → data_leaving e ≡ data_on e (passed_at e) after after'
 data_is (owner u) other after after' k n g = refl
 data_is (wire x) other after after' k n g =
     either (λ (outs : List Output). data_leaving (wire x) ≡ outs) (x.head.class == 3) _ _
     (λ three. let f = (k.4 (eqb-true x.head.class 3 three)).1.2 in
-    ap (numbered x.head x.windows.sent x.windows.passed)
+    spelled x.head x.windows.sent x.windows.passed (take (leaving_count (wire x)) x.windows.waits)
+    ∙ ap (all_as_data x.head x.windows.sent x.windows.passed)
     (next_units x.windows.sent (passed_at other) (leaving_count (wire x)) (sent_at after) x.windows.waits (got_at other) (got_at after') f.0 f.2 n g))
     (λ other_class. rw (not_both (is_up x.head.state) (x.head.class == 3) other_class) refl)
 
@@ -79,7 +86,7 @@ data_alike (owner u) (wire y) after other pr pr' k p = absurd k
 left_or_not : (b : Bool) (ticks : Ticks) (e that : End) (outs : List Output) (units : ℕ) (is_expedited : Bool)
     → passed_at (settles ticks (e, gives_then outs (if b then hand.Left units is_expedited ∷ [] else [])) that).0.this ≡ passed_at e
 unfolding exchange
-left_or_not true ticks e that outs units is_expedited = ap passed_at (left_keeps 2 ticks e that outs units is_expedited)
+left_or_not true ticks e that outs units is_expedited = ap passed_at (left_keeps 1 ticks e that outs units is_expedited)
 left_or_not false ticks e that outs units is_expedited = refl
 
 leaves_passed : (ticks : Ticks) (this that : End) → passed_at (on_windows ticks leaves this that).0.this ≡ passed_at this

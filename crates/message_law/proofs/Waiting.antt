@@ -214,7 +214,7 @@ exchange_over (suc n) A B ticks acting that b =
 settled_over : (A B : List ℕ → Type 0) (ticks : Ticks) (e that : End) (acting : End × Acted) → ActsOver A B e acting → AreHandedOver A B (both e that) (settles ticks acting that).0
 unfolding ActsOver Exchanges
 settled_over A B ticks e that acting f =
-    over_then A B (both e that) (both acting.0 that) (settles ticks acting that).0 (f.0, same B (waiting_at that)) (exchange_over 3 A B ticks acting that f.1)
+    over_then A B (both e that) (both acting.0 that) (settles ticks acting that).0 (f.0, same B (waiting_at that)) (exchange_over 2 A B ticks acting that f.1)
 
 -- A message.
 

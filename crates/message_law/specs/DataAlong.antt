@@ -8,12 +8,12 @@ use Rattle.plant_core.specs.declared.terms.Ticks.{Ticks}
 use Rattle.relay_base.specs.declared.limits.TheConstants.{GREATEST_CREDIT}
 use Rattle.section_model.specs.declared.hand.Unit.{Unit as DataUnit}
 use Rattle.section_model.specs.Ends.{End, wire, owner, SectionHead, Connection}
-use Rattle.section_model.specs.Windowed.{numbered}
 use Rattle.section_model.specs.Step.{connection_step}
 use Rattle.section_model.specs.Opening.{wish_of, opened}
 use Rattle.section_model.specs.Lane.{next, heard, follow}
 use Rattle.flow_law.specs.InStep.{passed_at, got_at, sent_at}
 use Rattle.message_law.specs.Messages.{data_among, acted, stepped}
+use Rattle.message_law.specs.DataSent.{as_data}
 
 -- The DT2 that were sent on the one end and on the other since the counts there were last cleared, in order.
 pub record SentData : Type 0 where
@@ -41,7 +41,7 @@ sent_data_along ticks c (event ∷ events) before = sent_data_along ticks (next 
 pub record IsData (ps : ℕ) (unit : DataUnit) (out : Output) : Type 0 where
   pub section : SectionHead
   pub pr : ℕ
-  pub spelled : out ∷ [] ≡ numbered section ps pr (unit ∷ [])
+  pub spelled : out ≡ as_data section ps pr unit
 
 -- as many of them as units, numbered on
 abbrev pub AreData : ℕ → List DataUnit → List Output → Type 0

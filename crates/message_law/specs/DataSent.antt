@@ -1,19 +1,32 @@
 -- The DT2 of one step of a connection (Q.714, 3.5.2), octet for octet.
-use Rattle.std.specs.Prelude.{◌≡◌, ◌⊎◌, ℕ, ◌-◌, ◌≤◌, ◌<◌, ◌==◌, List, [], ◌++◌, take, drop, if◌then◌else◌}
+use Rattle.std.specs.Prelude.{◌≡◌, ◌⊎◌, ℕ, suc, ◌+◌, ◌-◌, ◌*◌, ◌%◌, ◌≤◌, ◌<◌, ◌==◌, List, [], ◌∷◌, ◌++◌, take, drop, if◌then◌else◌}
 use Rattle.relay_base.specs.declared.words.Event.{Event}
 use Rattle.relay_base.specs.declared.words.Output.{Output}
+use Rattle.relay_base.specs.declared.words.Output.TheVariants.{Sent}
 use Rattle.plant_core.specs.declared.terms.Ticks.{Ticks}
-use Rattle.section_model.specs.Ends.{End, wire, owner, Connection}
-use Rattle.section_model.specs.Windowed.{numbered}
+use Rattle.q713_codec.specs.declared.message.Message.TheVariants.{Dt2}
+use Rattle.q713_codec.specs.Writing.{spelling_of}
+use Rattle.section_model.specs.declared.hand.Unit.{Unit as DataUnit}
+use Rattle.section_model.specs.Ends.{End, wire, owner, SectionHead, Connection}
 use Rattle.section_model.specs.Step.{connection_step}
 use Rattle.flow_law.specs.InStep.{passed_at, got_at, sent_at, IsInStep}
 use Rattle.message_law.specs.Messages.{data_among, acted, stepped}
+
+-- A unit as DT2 on a section (Q.713, 3.9): P(S) and P(R) modulo 128, from bit 2 on, and in bit 1 of the second octet M.
+abbrev pub as_data : SectionHead → ℕ → ℕ → DataUnit → Output
+as_data x ps pr u =
+    Sent x.point x.sls (spelling_of (Dt2 x.other ((2 * (ps % 128)) ∷ ((2 * (pr % 128)) + (if u.more then 1 else 0)) ∷ []) u.body))
+
+-- units, numbered on
+abbrev pub all_as_data : SectionHead → ℕ → ℕ → List DataUnit → List Output
+all_as_data x ps pr [] = []
+all_as_data x ps pr (u ∷ units) = as_data x ps pr u ∷ all_as_data x (suc ps) pr units
 
 -- The DT2 of a section of class 3, with this P(R): the units of the other end from the count of those sent before on up to the count of those
 -- sent after, P(S) being that count modulo 128.
 abbrev pub data_on : End → ℕ → End → End → List Output
 data_on (wire x) pr after other =
-    if x.head.class == 3 then numbered x.head x.windows.sent pr (drop x.windows.sent (take (sent_at after) (got_at other))) else []
+    if x.head.class == 3 then all_as_data x.head x.windows.sent pr (drop x.windows.sent (take (sent_at after) (got_at other))) else []
 data_on (owner u) pr after other = []
 
 -- each unit leaves while those that are sent and not acknowledged are fewer than the send credit

@@ -4,18 +4,19 @@ use Rattle.relay_base.specs.declared.words.Event.{Event}
 use Rattle.relay_base.specs.declared.words.Event.TheVariants.{Message as Arrived, Asked as Requested}
 use Rattle.relay_base.specs.declared.words.Request.TheVariants as request
 use Rattle.relay_base.specs.declared.words.Output.{Output}
+use Rattle.relay_base.specs.declared.words.Output.TheVariants.{Sent}
 use Rattle.plant_core.specs.declared.terms.Ticks.{Ticks}
 use Rattle.q713_codec.specs.declared.message.Message.TheVariants.{Ed}
+use Rattle.q713_codec.specs.Writing.{spelling_of}
 use Rattle.section_model.specs.declared.cell.Occasion.TheVariants as on
 use Rattle.section_model.specs.Parameters.{Arrival, arrival_in}
 use Rattle.section_model.specs.Ends.{End, wire, owner, Section, Connection, is_up}
-use Rattle.section_model.specs.Line.{sent_on}
 use Rattle.section_model.specs.Step.{is_named, hears, connection_step}
 use Rattle.message_law.specs.Messages.{expedited_among, acted, stepped}
 
 -- expedited data as ED on a section
 abbrev pub as_expedited : Section → List ℕ → Output
-as_expedited x body = sent_on x.head (Ed x.head.other body)
+as_expedited x body = Sent x.head.point x.head.sls (spelling_of (Ed x.head.other body))
 
 -- no ED is unanswered on a section of class 3 that is up
 abbrev pub is_free : Section → Bool
@@ -69,6 +70,28 @@ pub record LeavesAtOnce (IsAnswered : Section → Type 0) (IsGiven : List ℕ �
       ⊎ (IsGiven body × (is_free section ≡ true))
   pub unanswered : unanswered_at after ≡ true
 
+-- the counts of an end are what they are where they are cleared
+abbrev pub IsAtNothing : End → Type 0
+IsAtNothing (wire x) = (x.windows.sent ≡ 0) × (x.windows.acked ≡ 0) × (x.windows.told ≡ 0)
+IsAtNothing (owner u) = Unit {0}
+
+-- an ED stays unanswered until EA comes on its section, or the event clears the counts
+abbrev pub IsAnsweredAt : Event → End → Type 0
+IsAnsweredAt event (wire x) = Answers event x
+IsAnsweredAt event (owner u) = ⊥
+
+abbrev pub StaysUnanswered : Type 0 → End → End → Type 0
+StaysUnanswered IsAnswered before after = unanswered_at before ≡ true → (unanswered_at after ≡ true) ⊎ (IsAnswered ⊎ IsAtNothing after)
+
+abbrev pub BothStayUnanswered : Event → Connection → Connection → Type 0
+BothStayUnanswered event before after =
+    StaysUnanswered (IsAnsweredAt event before.this) before.this after.this × StaysUnanswered (IsAnsweredAt event before.that) before.that after.that
+
+-- and what follows the event answers none
+abbrev pub AnswersNone : Connection → Connection → Type 0
+AnswersNone before after =
+    (unanswered_at before.this ≡ true → unanswered_at after.this ≡ true) × (unanswered_at before.that ≡ true → unanswered_at after.that ≡ true)
+
 -- what waits is what waited, or what was handed over
 abbrev pub IsHandedOver : (List ℕ → Type 0) → Option (List ℕ) → Option (List ℕ) → Type 0
 IsHandedOver Handed before after = (body : List ℕ) → after ≡ Some body → (before ≡ Some body) ⊎ Handed body
@@ -84,11 +107,12 @@ pub data AtOnce (IsAnswered : Section → Type 0) (IsGiven : End → List ℕ �
   on_this : LeavesAtOnce IsAnswered (IsGiven before.that) before.this after.this sent → AtOnce IsAnswered IsGiven before after sent
   on_that : LeavesAtOnce IsAnswered (IsGiven before.this) before.that after.that sent → AtOnce IsAnswered IsGiven before after sent
 
--- The outputs of a step: what leaves at once, and what waits on either end and may leave then, and no other ED. What waits was handed over by the
--- other end.
+-- The outputs of a step: what leaves at once, and what waits on either end and may leave then, and no other ED. What is unanswered stays so until EA,
+-- and what waits was handed over by the other end.
 pub record SendsExpedited (ticks : Ticks) (c : Connection) (event : Event) (outs : List Output) : Type 0 where
   pub at_once : List Output
   pub leaves : AtOnce (Answers event) (Gives event) c (acted ticks c event) at_once
+  pub unanswered : BothStayUnanswered event c (acted ticks c event) × AnswersNone (acted ticks c event) (stepped ticks c event)
   pub waits :
       AreHandedOver (Gives event c.that) (Gives event c.this) c (acted ticks c event)
       × AreHandedOver (Gives event c.that) (Gives event c.this) c (stepped ticks c event)

@@ -53,4 +53,4 @@ pub settled : (ticks : Ticks) (this that : End) (acted : End × Acted) → Stays
     → BothStay (record { this = this; that = that }) (settles ticks acted that).0
 settled ticks this that acted stays =
     both_in_turn (record { this = this; that = that }) (acted_with acted that) (settles ticks acted that).0
-    (record { this = stays; that = as_it_was that }) (exchange_stays 3 ticks acted that)
+    (record { this = stays; that = as_it_was that }) (exchange_stays 2 ticks acted that)

@@ -58,14 +58,14 @@ abbrev Drains : Connection → End → Type 0
 Drains c that = EndDrained c.this × (EndDrained that → EndDrained c.that)
 
 told : (ticks : Ticks) (x : Section) (that : End) (outs : List Output) (units : ℕ) (is_expedited : Bool) → EndDrained (wire x)
-    → Drains (exchange 3 ticks (wire x, gives_then outs (hand.Left units is_expedited ∷ [])) that).0 that
+    → Drains (exchange 2 ticks (wire x, gives_then outs (hand.Left units is_expedited ∷ [])) that).0 that
 unfolding exchange section_takes windowed_takes user_takes
 told ticks x (wire y) outs units true d = (d, λ e. e)
 told ticks x (wire y) outs units false d = (d, λ e. e)
 told ticks x (owner u) outs units is_expedited d = (d, λ e. e)
 
 told_if : (b : Bool) (ticks : Ticks) (x : Section) (that : End) (outs : List Output) (units : ℕ) (is_expedited : Bool) → EndDrained (wire x)
-    → Drains (exchange 3 ticks (wire x, gives_then outs (if b then hand.Left units is_expedited ∷ [] else [])) that).0 that
+    → Drains (exchange 2 ticks (wire x, gives_then outs (if b then hand.Left units is_expedited ∷ [] else [])) that).0 that
 unfolding exchange
 told_if true ticks x that outs units is_expedited d = told ticks x that outs units is_expedited d
 told_if false ticks x that outs units is_expedited d = (d, λ e. e)

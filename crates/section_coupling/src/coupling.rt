@@ -70,7 +70,7 @@ fn exchange(
     Ok((pair, all))
 }
 
-/// This end has acted: the ends hand to each other until nothing is left. No act is handed back more than twice.
+/// This end has acted: the ends hand to each other until nothing is left. On what is handed back nothing more is.
 pub fn settle(
     alloc: Global,
     clock: &Clock,
@@ -85,5 +85,5 @@ pub fn settle(
         (settles clock.now.ticks (end_by clock.now this, acted) (end_by clock.now that))) }
     ensures sound { IfOk result (λ r. SoundPair r.0) }
 {
-    exchange(alloc, clock, 3, this, acted, that)
+    exchange(alloc, clock, 2, this, acted, that)
 }

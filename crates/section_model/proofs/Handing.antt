@@ -1,16 +1,17 @@
 -- What an end hands back.
-use Rattle.std.proofs.Common.{◌≡◌, ℕ, ◌==◌, ◌&&◌, not, nat_lt, length, Bool, true, false, [], ◌∷◌, ◌++◌, if◌then◌else◌, Some, None, refl, subst, sym}
+use Rattle.std.proofs.Common.{◌≡◌, ℕ, zero, suc, ◌==◌, ◌&&◌, not, nat_lt, length, Bool, true, false, List, [], ◌∷◌, ◌++◌, fold, if◌then◌else◌, Some, None, refl, subst, sym, ap, ◌∙◌}
 use Rattle.section_model.specs.declared.cell.Cell.{Cell}
 use Rattle.section_model.specs.declared.cell.Cell.TheVariants as cell
 use Rattle.section_model.specs.declared.hand.Hand.{Hand}
 use Rattle.section_model.specs.declared.hand.Hand.TheVariants as hand
-use Rattle.section_model.specs.Ends.{Line, Section, User, End, wire, owner, Acted, Ticks, is_up, no_effect, gives_then}
+use Rattle.section_model.specs.Ends.{Line, Section, User, Connection, turned, Output, End, wire, owner, Acted, Ticks, is_up, no_effect, gives_then}
 use Rattle.section_model.specs.Line.{line_takes, passes_accept, passes_refuse, passes_end, keeps_end, passes_unit}
 use Rattle.section_model.specs.Windowed.{Windowed, windowed_takes, queues_unit, passes_expedited, passes_reset, counts_left, sends_expedited}
 use Rattle.section_model.specs.UserEnd.{user_takes, tells_confirm, tells_disconnect, collects, tells_expedited, tells_reset, user_counts_left as left_user, output_to}
 use Rattle.section_model.specs.declared.cell.UserState.TheVariants.{Gone}
 use Rattle.relay_base.specs.declared.words.Tell.TheVariants as tell
 use Rattle.section_model.specs.Acting.{section_takes, section_takes_by, user_takes_by, in_windows, by_line, by_windows, end_takes}
+use Rattle.section_model.specs.Coupling.{with_more, other_takes, exchange, settles}
 use Rattle.section_model.specs.Laws.{IsAnswer, AreAnswers, hands_of, NoHandIsLost}
 
 answers_either : {X : Type 0} (b : Bool) (r s : X × Acted) → AreAnswers (hands_of r.1) → AreAnswers (hands_of s.1) → AreAnswers (hands_of (if b then r else s).1)
@@ -209,5 +210,78 @@ end_ends : (ticks : Ticks) (h : Hand) (e : End) → IsAnswer h → hands_of (end
 end_ends ticks h (wire x) a = section_ends ticks (section_takes_by x.head.state h) h x a
 end_ends ticks h (owner u) a = user_ends (user_takes_by u.state h) h u a
 
+-- So two turns are enough.
+
+abbrev IsEmpty : List Hand → Type 0
+IsEmpty [] = Unit {0}
+IsEmpty (h ∷ hands) = ⊥
+
+none_in : (one two : List Hand) → one ++ two ≡ [] → (one ≡ []) × (two ≡ [])
+none_in [] two e = (refl, e)
+none_in (h ∷ one) two e = absurd (subst IsEmpty (sym e) tt)
+
+answers_in : (one two : List Hand) → AreAnswers (one ++ two) → AreAnswers one × AreAnswers two
+answers_in [] two a = (tt, a)
+answers_in (h ∷ one) two a = let rest = answers_in one two a.1 in ((a.0, rest.0), rest.1)
+
+-- how an exchange goes on
+abbrev Goes : Type 0
+Goes = End × Acted → End → Connection × List Output
+
+-- two ways to go on, which are the same on what the other end does with these effects
+abbrev AreAlike : (Hand → Type 0) → Ticks → Goes → Goes → Type 0
+AreAlike Is ticks one two = (h : Hand) (e that : End) → Is h → one (end_takes ticks h e) that ≡ two (end_takes ticks h e) that
+
+abbrev Each : (Hand → Type 0) → List Hand → Type 0
+Each Is [] = Unit {0}
+Each Is (h ∷ hands) = Is h × Each Is hands
+
+hands_alike : (Is : Hand → Type 0) (ticks : Ticks) (one two : Goes) → AreAlike Is ticks one two → (hands : List Hand) (r : Connection × List Output) → Each Is hands
+    → fold (other_takes one ticks) r hands ≡ fold (other_takes two ticks) r hands
+hands_alike Is ticks one two alike [] r a = refl
+hands_alike Is ticks one two alike (h ∷ hands) r a =
+    ap (λ (done : Connection × List Output). fold (other_takes one ticks) (turned done.0, r.1 ++ done.1) hands) (alike h r.0.that r.0.this a.0)
+    ∙ hands_alike Is ticks one two alike hands (other_takes two ticks r h) a.1
+
+exchange_alike : (Is : Hand → Type 0) (ticks : Ticks) (m n : ℕ) → AreAlike Is ticks (exchange m ticks) (exchange n ticks) → (acting : End × Acted) (that : End)
+    → Each Is acting.1.first → Each Is acting.1.then → exchange (suc m) ticks acting that ≡ exchange (suc n) ticks acting that
+unfolding exchange
+exchange_alike Is ticks m n alike acting that a b =
+    let c : Connection = record { this = acting.0; that = that } in
+    ap (λ (r : Connection × List Output). fold (other_takes (exchange m ticks) ticks) (with_more acting.1.outs r) acting.1.then)
+    (hands_alike Is ticks (exchange m ticks) (exchange n ticks) alike acting.1.first (c, []) a)
+    ∙ hands_alike Is ticks (exchange m ticks) (exchange n ticks) alike acting.1.then
+    (with_more acting.1.outs (fold (other_takes (exchange n ticks) ticks) (c, []) acting.1.first)) b
+
+-- where nothing is handed over, where answers are, and where any effects are
+nothing_over : (n : ℕ) (ticks : Ticks) (acting : End × Acted) (that : End) → hands_of acting.1 ≡ [] → exchange n ticks acting that ≡ exchange zero ticks acting that
+unfolding exchange
+nothing_over zero ticks acting that e = refl
+nothing_over (suc n) ticks acting that e = emptied acting.1.first acting.1.then (none_in acting.1.first acting.1.then e).0 (none_in acting.1.first acting.1.then e).1
+  where
+    emptied : (one two : List Hand) → one ≡ [] → two ≡ []
+        → fold (other_takes (exchange n ticks) ticks) (with_more acting.1.outs (fold (other_takes (exchange n ticks) ticks) (record { this = acting.0; that = that }, []) one)) two
+        ≡ (record { this = acting.0; that = that }, acting.1.outs)
+    emptied one two f g = rw (f, g) refl
+
+each_answer : (hands : List Hand) → AreAnswers hands → Each IsAnswer hands
+each_answer [] a = tt
+each_answer (h ∷ hands) a = (a.0, each_answer hands a.1)
+
+each_hand : (hands : List Hand) → Each (λ h. Unit {0}) hands
+each_hand [] = tt
+each_hand (h ∷ hands) = (tt, each_hand hands)
+
+answers_over : (n : ℕ) (ticks : Ticks) (acting : End × Acted) (that : End) → AreAnswers (hands_of acting.1) → exchange (suc n) ticks acting that ≡ exchange (suc zero) ticks acting that
+answers_over n ticks acting that a =
+    let parts = answers_in acting.1.first acting.1.then a in
+    exchange_alike IsAnswer ticks n zero (λ h e other is. nothing_over n ticks (end_takes ticks h e) other (end_ends ticks h e is)) acting that
+    (each_answer acting.1.first parts.0) (each_answer acting.1.then parts.1)
+
+enough_turns : (more : ℕ) (ticks : Ticks) (acting : End × Acted) (that : End) → exchange (suc (suc more)) ticks acting that ≡ settles ticks acting that
+enough_turns more ticks acting that =
+    exchange_alike (λ h. Unit {0}) ticks (suc more) (suc zero) (λ h e other is. answers_over more ticks (end_takes ticks h e) other (end_answers ticks h e)) acting that
+    (each_hand acting.1.first) (each_hand acting.1.then)
+
 pub no_hand_is_lost : NoHandIsLost
-no_hand_is_lost = record { answered = end_answers; ended = end_ends }
+no_hand_is_lost = record { answered = end_answers; ended = end_ends; enough = enough_turns }

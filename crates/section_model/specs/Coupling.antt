@@ -24,9 +24,9 @@ exchange (suc turns) ticks acting that =
     (with_more acting.1.outs (fold (other_takes (exchange turns ticks) ticks) (record { this = acting.0; that = that }, []) acting.1.first))
     acting.1.then
 
--- no act is handed back more than twice
+-- what is handed over, and what is handed back: on that nothing more is (`NoHandIsLost`, in Laws)
 abbrev pub settles : Ticks → End × Acted → End → Connection × List Output
-settles ticks acted that = exchange 3 ticks acted that
+settles ticks acted that = exchange 2 ticks acted that
 
 -- Parts of a step, one after another, on this end or on the other one.
 abbrev pub and_then : (Connection → Connection × List Output) → Connection × List Output → Connection × List Output

@@ -1,5 +1,5 @@
 -- Laws of the definitions of connections.
-use Rattle.std.specs.Prelude.{◌≡◌, List, [], ◌∷◌, ◌++◌}
+use Rattle.std.specs.Prelude.{◌≡◌, ℕ, suc, List, [], ◌∷◌, ◌++◌}
 use Rattle.section_model.specs.declared.hand.Hand.TheVariants as hand
 use Rattle.section_model.specs.declared.hand.Acted.{Acted}
 use Rattle.section_model.specs.declared.hand.Hand.{Hand}
@@ -8,6 +8,7 @@ use Rattle.plant_core.specs.declared.entry.Entry.{Entry}
 use Rattle.plant_core.specs.declared.terms.Ticks.{Ticks}
 use Rattle.section_model.specs.Ends.{End, Connection}
 use Rattle.section_model.specs.Acting.{end_takes}
+use Rattle.section_model.specs.Coupling.{exchange, settles}
 use Rattle.section_model.specs.Lane.{Lane, Opening, heard, follow, fed, part_of, openings_after, answer_of, IsLegalEntry, IsConnectionJournal}
 
 -- what a connection is after one more event hangs on what it was alone
@@ -31,7 +32,8 @@ abbrev pub JournalGrows : Type 0
 JournalGrows = (lane : Lane) (journal : List Entry) (entry : Entry) →
     IsConnectionJournal lane journal → IsLegalEntry lane (openings_from lane [] journal) entry → IsConnectionJournal lane (journal ++ entry ∷ [])
 
--- No hand is lost: what an end hands back on an effect is an answer, and on an answer nothing is handed back.
+-- No hand is lost: what an end hands back on an effect is an answer, and on an answer nothing is handed back. So two turns of the exchange are
+-- enough, and more change nothing.
 
 abbrev pub IsAnswer : Hand → Type 0
 IsAnswer (hand.Left units expedited) = Unit {0}
@@ -48,3 +50,6 @@ hands_of acted = acted.first ++ acted.then
 pub record NoHandIsLost : Type 0 where
   pub answered : (ticks : Ticks) (h : Hand) (e : End) → AreAnswers (hands_of (end_takes ticks h e).1)
   pub ended : (ticks : Ticks) (h : Hand) (e : End) → IsAnswer h → hands_of (end_takes ticks h e).1 ≡ []
+  pub enough :
+      (more : ℕ) (ticks : Ticks) (acting : End × Acted) (that : End)
+      → exchange (suc (suc more)) ticks acting that ≡ settles ticks acting that

@@ -14,7 +14,7 @@ pub fn two_worlds()
     ensures { TwoWorlds }
 {}
 
-/// The ends hand back answers alone, and nothing on an answer.
+/// The ends hand back answers alone, and nothing on an answer. So two turns of an exchange are enough.
 #[tactic(auto, using(crate::proofs::Handing::no_hand_is_lost))]
 pub fn hands_end()
     ensures { NoHandIsLost }
