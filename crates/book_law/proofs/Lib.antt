@@ -1,3 +1,4 @@
+pub mod Managed
 pub mod Events
 pub mod Journals
 pub mod Editions

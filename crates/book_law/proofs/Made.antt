@@ -22,7 +22,8 @@ use Rattle.capture_form.specs.Events.{Stamped}
 use Rattle.node_engine.specs.Placed.{in_control}
 use Rattle.capture_generator.specs.Generator.{generator_head, unit_octets, request_octets, data_octets, message_at, event_of_kind, reference_at, events_after, block_phase, tick_phase, number_after}
 use Rattle.capture_generator.proofs.CaptureLemmas.{all-append, of-kind, each-event, each-phase}
-use Rattle.book_law.specs.Sequential.{is_of_management, has_management, IsSequentialPhase}
+use Rattle.book_law.specs.Sequential.{is_of_management, IsSequentialPhase}
+use Rattle.book_law.proofs.Managed.{has_management}
 use Rattle.book_law.specs.Generated.{GeneratedIsSequential}
 
 abbrev NotManaged : ControlEvent → Type 0

@@ -25,7 +25,8 @@ use Rattle.capture_form.specs.Links.{comes_on_link, AreOnLinks, AreLinked}
 use Rattle.node_engine.specs.Own.{events_at}
 use Rattle.node_engine.specs.Placed.{in_control}
 use Rattle.node_engine.proofs.ListLemmas.{all-first, all-rest, weaker, weaker-two}
-use Rattle.book_law.specs.Sequential.{is_of_management, has_management, AreOfControl, IsSequentialPhase, IsSequential}
+use Rattle.book_law.specs.Sequential.{is_of_management, IsSequentialPhase, IsSequential}
+use Rattle.book_law.proofs.Managed.{has_management, AreOfControl}
 
 -- whether an event may publish: a change of the routing data, and a message of management
 abbrev pub may_publish : Head → ControlEvent → Bool

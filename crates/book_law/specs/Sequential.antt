@@ -12,22 +12,15 @@ use Rattle.node_engine.specs.Placed.{in_control}
 -- a message of management (Q.714, 5.3): of all messages, these are the control lane's
 abbrev pub is_of_management : Head → ControlEvent → Bool
 is_of_management head (Plain (Arrived opc sls bytes)) = in_control (place_of_octets head opc sls bytes)
-is_of_management head (Plain (Requested ssn request)) = false
-is_of_management head (Plain Tick) = false
-is_of_management head (Changed change) = false
+is_of_management head _ = false
 
-abbrev pub has_management : Head → Stamped → Bool
-has_management head events = list_any (λ e. is_of_management head e.1) events
-
--- the control lane takes each of the events
-abbrev pub AreOfControl : Head → Stamped → Type 0
-AreOfControl head events = AllByRecursion (λ e. in_control (place_of head e.1) ≡ true) events
-
--- one link at most has events; and where a message of management is among them, all are of the control lane
+-- one link at most has events; and where a message of management is among them, the control lane takes each of them
 pub record IsSequentialPhase (head : Head) (lists : List Stamped) : Type 0 where
   pub link : ℕ
   pub alone : (other : ℕ) → other ≢ link → slice_index_or lists other [] ≡ []
-  pub managed : has_management head (phase_events lists) ≡ true → AreOfControl head (phase_events lists)
+  pub managed :
+      list_any (λ e. is_of_management head e.1) (phase_events lists) ≡ true
+      → AllByRecursion (λ e. in_control (place_of head e.1) ≡ true) (phase_events lists)
 
 abbrev pub IsSequential : Head → List (List Stamped) → Type 0
 IsSequential head phases = AllByRecursion (IsSequentialPhase head) phases

@@ -33,7 +33,7 @@ of_reference head reference = in_conn head (reference % MOST_LANES)
 abbrev pub place_of_udt : Head → ℕ → List ℕ → LanePlace
 place_of_udt head sls called = if is_for_management called then Control else in_data head sls
 
--- CR goes by where it comes from, and a message of a connection by the reference that it is for
+-- CR goes by where it comes from, a message of a connection by the reference that it is for, and each other one by its link selection
 unfoldable pub place_of_message : Head → ℕ → ℕ → Message → LanePlace
 place_of_message head opc sls (Cr slr _ _ _ _ _ _ _) = in_conn head (opc + slr)
 place_of_message head opc sls (Cc dlr _ _ _ _ _ _) = of_reference head dlr
@@ -44,17 +44,13 @@ place_of_message head opc sls (Dt1 dlr _ _) = of_reference head dlr
 place_of_message head opc sls (Dt2 dlr _ _) = of_reference head dlr
 place_of_message head opc sls (Ak dlr _ _) = of_reference head dlr
 place_of_message head opc sls (Udt _ called _ _) = place_of_udt head sls called
-place_of_message head opc sls (Udts _ _ _ _) = in_data head sls
 place_of_message head opc sls (Ed dlr _) = of_reference head dlr
 place_of_message head opc sls (Ea dlr) = of_reference head dlr
 place_of_message head opc sls (Rsr dlr _ _) = of_reference head dlr
 place_of_message head opc sls (Rsc dlr _) = of_reference head dlr
 place_of_message head opc sls (Error dlr _) = of_reference head dlr
 place_of_message head opc sls (It dlr _ _ _ _) = of_reference head dlr
-place_of_message head opc sls (Xudt _ _ _ _ _ _ _) = in_data head sls
-place_of_message head opc sls (Xudts _ _ _ _ _ _ _) = in_data head sls
-place_of_message head opc sls (Ludt _ _ _ _ _ _ _) = in_data head sls
-place_of_message head opc sls (Ludts _ _ _ _ _ _ _) = in_data head sls
+place_of_message head opc sls _ = in_data head sls
 
 -- octets that don't read are a data lane's to lose
 abbrev pub place_of_reading : Head → ℕ → ℕ → Result Message ReadFault → LanePlace
@@ -65,7 +61,7 @@ abbrev pub place_of_octets : Head → ℕ → ℕ → List ℕ → LanePlace
 place_of_octets head opc sls bytes =
     if is_too_long bytes then in_data head sls else place_of_reading head opc sls (reading_of bytes)
 
--- a request for a connection goes by its tag, one on a connection by its reference
+-- a request for a connection goes by its tag, one on a connection by its reference; of the others, all but a unit are of management
 unfoldable pub place_of_request : Head → Request → LanePlace
 place_of_request head (request.Unit sls _ _ _ _ _) = in_data head sls
 place_of_request head (request.Conn tag _ _ _ _) = in_conn head tag
@@ -75,8 +71,7 @@ place_of_request head (request.Send mine _) = of_reference head mine
 place_of_request head (request.Expedite mine _) = of_reference head mine
 place_of_request head (request.Reset mine) = of_reference head mine
 place_of_request head (request.Disc mine _ _) = of_reference head mine
-place_of_request head request.Coord = Control
-place_of_request head (request.Grant point) = Control
+place_of_request head _ = Control
 
 -- a tick stands in every lane
 unfoldable pub place_of_event : Head → Event → LanePlace

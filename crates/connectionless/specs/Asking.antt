@@ -78,5 +78,4 @@ matter_of Tick = of_tick
 abbrev pub question_in : Matter → Option Question
 question_in (from_network opc sls x question) = Some question
 question_in (from_user g question) = Some question
-question_in (settled outs) = None
-question_in of_tick = None
+question_in _ = None

@@ -73,8 +73,7 @@ effect_by head number cut (from_network opc sls x q) (Some answer) = of_outcome 
 effect_by head number cut (from_user g q) (Some answer) = of_sending (given_outcome g answer (reference_after number cut))
 effect_by head number cut (settled outs) answer = effect_with outs work.Nothing
 effect_by head number cut of_tick answer = effect_with [] work.Tick
-effect_by head number cut (from_network opc sls x q) None = effect_with [] work.Nothing
-effect_by head number cut (from_user g q) None = effect_with [] work.Nothing
+effect_by head number cut _ None = effect_with [] work.Nothing
 
 -- What comes of the reassemblies (Q.714, 4.1.1): a failed one is returned, and so is one without room.
 

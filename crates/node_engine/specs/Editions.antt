@@ -35,9 +35,8 @@ pub record IsAnswer (head : Head) (control : List ControlEntry) (phase : ℕ) (a
 -- there is a routing exactly where one is asked
 abbrev pub IsRouting : Head → List ControlEntry → ℕ → Option Question → Option Asked → Type 0
 IsRouting head control phase None None = Unit {0}
-IsRouting head control phase None (Some asked) = ⊥
-IsRouting head control phase (Some asks) None = ⊥
 IsRouting head control phase (Some asks) (Some asked) = IsAnswer head control phase asks asked
+IsRouting head control phase _ _ = ⊥
 
 -- the editions that the routings of a journal name, in order
 abbrev pub named : Option Asked → List ℕ

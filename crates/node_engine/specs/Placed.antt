@@ -11,20 +11,17 @@ use Rattle.node_engine.specs.Own.{HasEventsInOrder}
 abbrev pub in_control : LanePlace → Bool
 in_control All = true
 in_control Control = true
-in_control (Conn n) = false
-in_control (Data n) = false
+in_control _ = false
 
 abbrev pub in_conn : ℕ → LanePlace → Bool
 in_conn number All = true
-in_conn number Control = false
 in_conn number (Conn n) = n == number
-in_conn number (Data n) = false
+in_conn number _ = false
 
 abbrev pub in_data : ℕ → LanePlace → Bool
 in_data number All = true
-in_data number Control = false
-in_data number (Conn n) = false
 in_data number (Data n) = n == number
+in_data number _ = false
 
 -- those of the events whose place is in the lane
 abbrev pub taken : (LanePlace → Bool) → Head → Stamped → Stamped
