@@ -97,12 +97,6 @@ lanes-left name lanes n lane entries text now within is same joined =
     ∙ sym (append_assoc (text ++ head) (entries_text entries) more)
     ∙ ap (λ l. (l ++ entries_text entries) ++ more) (sym joined)
 
--- the print of a book, whose first line and control entries are these
-pub book-whole : (book : Book) (line controls : List ℕ) → line ≡ codes "= control\n" → controls ≡ controls_text book.control
-    → (line ++ controls) ++ (lanes_text (codes "conn") 0 book.conns ++ lanes_text (codes "data") 0 book.units) ≡ book_text book
-book-whole book line controls p q =
-    rw (p, q) (sym (append_assoc (codes "= control\n" ++ controls_text book.control) (lanes_text (codes "conn") 0 book.conns) (lanes_text (codes "data") 0 book.units)))
-
 -- the first texts were carried, and two more are to come
 pub Carried-first : (a b : Option (List ℕ)) (f g : ℕ) (first now more last whole : List ℕ) → first ++ (more ++ last) ≡ whole → Carried a b f g first now
     → Carried a b f g whole ((now ++ more) ++ last)
@@ -131,6 +125,22 @@ pub Carried-ends-part : {T : Type 0} (a b c : Option (List ℕ)) (f g : ℕ) (te
     → OnErr r (AppendedPart b c last) → OnErr r (AppendedPart a c text)
 Carried-ends-part a b c f g text waits last (Ok x) p e q = tt
 Carried-ends-part a b c f g text waits last (Err x) p e q = Carried-stops a b c f g text waits p (subst (AppendedPart b c) e q)
+
+-- the last call carried the last text, or failed in it
+pub Carries-last : {T : Type 0} (a b c : Option (List ℕ)) (f g h : ℕ) (text waits now : List ℕ) (r : Result T WriteFault) → Carried a b f g text waits → Carries b c g h waits now r
+    → Carries a c f h text now r
+Carries-last a b c f g h text waits now (Ok x) p q = record {
+  ok = Carried-last a b c f g h text waits now p q.ok;
+  err = tt;
+  fault = λ s. subst (λ n. Rose n h) p.kept (q.fault s);
+  kept = λ s. q.kept s ∙ p.kept;
+}
+Carries-last a b c f g h text waits now (Err e) p q = record {
+  ok = tt;
+  err = Carried-stops a b c f g text waits p q.err;
+  fault = λ s. subst (λ n. Rose n h) p.kept (q.fault s);
+  kept = λ s. q.kept s ∙ p.kept;
+}
 
 pub OnErr-of : {T E : Type 0} (r : Result T E) (P : Type 0) → P → OnErr r P
 OnErr-of (Ok x) P p = tt

@@ -5,7 +5,7 @@ ghost use Rattle.std.specs.Io.KnownBytes.{Appends};
 ghost use Rattle.relay_base.specs.Causes.{Rose};
 ghost use Rattle.relay_base.specs.Streams.{AppendedPart};
 ghost use Rattle.journal_text.specs.Print.{lanes_text, book_text};
-ghost use Rattle.journal_text.specs.Inner.Writing.{Writes, Carries};
+ghost use Rattle.journal_text.specs.Inner.Writing.{Writes, Carries, with_lanes};
 
 use crate::book::Book;
 use crate::entries::Printed;
@@ -121,6 +121,21 @@ fn carry_lanes<K: Sink>(
     Ok(())
 }
 
+/// The print of all lanes joins the text that waits.
+fn carry_book<K: Sink>(
+    alloc: Global,
+    out: &mut K,
+    text: &mut String,
+    book: &Book,
+) -> Result<(), WriteFault>
+    ensures { Carries (K.held out.old) (K.held out.new) (K.faults out.old) (K.faults out.new)
+        (with_lanes (string_bytes text.old) book.now) (string_bytes text.new) result }
+{
+    carry_entries(alloc, out, text, book.control.as_slice())?;
+    carry_lanes(alloc, out, text, "conn", book.conns.as_slice())?;
+    carry_lanes(alloc, out, text, "data", book.units.as_slice())
+}
+
 /// Writes the print of a book to a sink. A long one is written in parts, each as soon as 65,536 octets wait, so that it does not stand
 /// in memory whole. After an error a front of it was written.
 pub fn write_book<K: Sink>(alloc: Global, book: &Book, out: &mut K) -> Result<(), WriteFault>
@@ -130,8 +145,6 @@ pub fn write_book<K: Sink>(alloc: Global, book: &Book, out: &mut K) -> Result<()
     ensures kept { result ≢ Err WriteFault.Sink → K.faults out.new ≡ K.faults out.old }
 {
     let mut text = String::from_str(alloc, "= control\n")?;
-    carry_entries(alloc, out, &mut text, book.control.as_slice())?;
-    carry_lanes(alloc, out, &mut text, "conn", book.conns.as_slice())?;
-    carry_lanes(alloc, out, &mut text, "data", book.units.as_slice())?;
+    carry_book(alloc, out, &mut text, book)?;
     write_text(out, text.as_str())
 }
