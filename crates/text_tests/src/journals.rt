@@ -7,10 +7,7 @@ use plant_core::{
     Answer, Asked, Change, ControlEntry, ControlEvent, ControlList, Entry, EntryList, Rewrite,
     RouteCause,
 };
-use relay_base::{
-    BoxedOctets, Event, Lost, MemSink, Memory, Octets, Output, Outs, Pc, ReadFault, Reason, Ref24,
-    Sls, Ssn, Stamp, Tell,
-};
+use relay_base::{Event, Lost, MemSink, Memory, Octets, Output, Outs, Pc, Sls, Ssn, Stamp, Tell};
 use std::alloc::{AllocError, Global};
 use std::test::Fail;
 
@@ -43,71 +40,10 @@ const JOURNALS: &str = "\
 = data 1
 ";
 
-/// Each loss, and what users are told, each once; the lists that are empty or absent are dashes.
-const OUTPUTS: &str = "\
-= control
-= conn 0
-1.2.3
- . read 1
- . read 2 200
- . read 3
- . read 4 260
- . read 5 15
- . long
- . address
- . class
- . point
- . state
- . stray
- . segment
- . manage
- . cause 255
- . same
- . duplicate
- . rows-full
- . no-row
-1.2.4
- < 8 unit 1 4208 4206 aa
- < 8 notice 12 4206 - -
- < 8 conn 16777215 3 127 4208 4206 0b
- < 8 conn 16 2 0 4208 - -
- < 8 ref 65535 16
- < 8 not-made 0 255
- < 8 confirm 16 3 7 4208 -
- < 8 confirm 17 2 0 - 0c
- < 8 text 16 0d0e
- < 8 ed 16 0f
- < 8 reset 16 2
- < 8 reset-done 16
- < 8 disc 16 13 -
- < 8 disc 0 3 a0
-1.2.5
- < 8 state 6 200 in
- < 8 state 254 16383 out
- < 8 point 200 in
- < 8 point 200 out
- < 8 coord 200
- < 8 granted 200
- < 8 denied 200
- < 8 no owner
- < 8 no state
- < 8 no class
- < 8 no full
- < 8 no expedited
- < 8 no unknown
- < 8 no replicate
-";
-
 fn point(number: u32) -> Pc
     requires { number < 16384 }
 {
     Pc::new(number).unwrap()
-}
-
-fn reference(number: u32) -> Ref24
-    requires { number < 16777216 }
-{
-    Ref24::new(number).unwrap()
 }
 
 fn put_sent(alloc: Global, outs: &mut Outs, dpc: u32, sls: u32, bytes: &[u8]) -> Result<(), Memory>
@@ -248,173 +184,10 @@ fn put_greatest(alloc: Global, lane: &mut EntryList) -> Result<(), Memory> {
     })
 }
 
-fn put_losses(outs: &mut Outs) -> Result<(), Memory> {
-    for lost in [
-        Lost::Read(ReadFault::Empty),
-        Lost::Read(ReadFault::UnknownType(200)),
-        Lost::Read(ReadFault::Short),
-        Lost::Read(ReadFault::PointerOut(260)),
-        Lost::Read(ReadFault::ValueLength(15)),
-        Lost::Long,
-        Lost::Address,
-        Lost::Class,
-        Lost::Point,
-        Lost::State,
-        Lost::Stray,
-        Lost::Segment,
-        Lost::Manage,
-        Lost::Cause(255),
-        Lost::Same,
-        Lost::Duplicate,
-        Lost::RowsFull,
-        Lost::NoRow,
-    ] {
-        outs.push(Output::Lost(lost))?;
-    }
-    Ok(())
-}
-
-fn put_units(alloc: Global, outs: &mut Outs) -> Result<(), Memory> {
-    let unit = Tell::Unit {
-        class: 1,
-        called: BoxedOctets::from_slice(alloc, b"\x42\x08")?,
-        calling: BoxedOctets::from_slice(alloc, b"\x42\x06")?,
-        body: BoxedOctets::from_slice(alloc, b"\xaa")?,
-    };
-    put_told(outs, unit)?;
-    let notice = Tell::Notice {
-        cause: 12,
-        called: BoxedOctets::from_slice(alloc, b"\x42\x06")?,
-        calling: BoxedOctets::from_slice(alloc, b"")?,
-        body: BoxedOctets::from_slice(alloc, b"")?,
-    };
-    put_told(outs, notice)
-}
-
-fn put_openings(alloc: Global, outs: &mut Outs) -> Result<(), Memory> {
-    let whole = Tell::Conn {
-        mine: reference(16_777_215),
-        class: 3,
-        credit: 127,
-        called: BoxedOctets::from_slice(alloc, b"\x42\x08")?,
-        calling: Some(BoxedOctets::from_slice(alloc, b"\x42\x06")?),
-        body: Some(BoxedOctets::from_slice(alloc, b"\x0b")?),
-    };
-    put_told(outs, whole)?;
-    let bare = Tell::Conn {
-        mine: reference(16),
-        class: 2,
-        credit: 0,
-        called: BoxedOctets::from_slice(alloc, b"\x42\x08")?,
-        calling: None,
-        body: Some(BoxedOctets::from_slice(alloc, b"")?),
-    };
-    put_told(outs, bare)
-}
-
-fn put_answers(alloc: Global, outs: &mut Outs) -> Result<(), Memory> {
-    let mine = reference(16);
-    put_told(outs, Tell::Named { tag: 65535, mine })?;
-    put_told(outs, Tell::NotMade { tag: 0, cause: 255 })?;
-    let named = Tell::Confirm {
-        mine,
-        class: 3,
-        credit: 7,
-        called: Some(BoxedOctets::from_slice(alloc, b"\x42\x08")?),
-        body: None,
-    };
-    put_told(outs, named)?;
-    let filled = Tell::Confirm {
-        mine: reference(17),
-        class: 2,
-        credit: 0,
-        called: None,
-        body: Some(BoxedOctets::from_slice(alloc, b"\x0c")?),
-    };
-    put_told(outs, filled)
-}
-
-fn put_transfers(alloc: Global, outs: &mut Outs) -> Result<(), Memory> {
-    let mine = reference(16);
-    let body = Octets::from_slice(alloc, b"\x0d\x0e")?;
-    put_told(outs, Tell::Text { mine, body })?;
-    let body = Octets::from_slice(alloc, b"\x0f")?;
-    put_told(outs, Tell::Expedited { mine, body })?;
-    put_told(outs, Tell::Renewed { mine, cause: 2 })?;
-    put_told(outs, Tell::ResetDone { mine })?;
-    let bare = Tell::Disc {
-        mine,
-        cause: 13,
-        body: None,
-    };
-    put_told(outs, bare)?;
-    let filled = Tell::Disc {
-        mine: reference(0),
-        cause: 3,
-        body: Some(BoxedOctets::from_slice(alloc, b"\xa0")?),
-    };
-    put_told(outs, filled)
-}
-
-fn put_states(outs: &mut Outs) -> Result<(), Memory> {
-    let (point, greatest) = (point(200), point(16383));
-    let allowed = Tell::State {
-        ssn: Ssn::from(6),
-        point,
-        up: true,
-    };
-    put_told(outs, allowed)?;
-    let prohibited = Tell::State {
-        ssn: Ssn::from(254),
-        point: greatest,
-        up: false,
-    };
-    put_told(outs, prohibited)?;
-    put_told(outs, Tell::Point { point, up: true })?;
-    put_told(outs, Tell::Point { point, up: false })?;
-    put_told(outs, Tell::Coord { point })?;
-    put_told(outs, Tell::Granted { point })?;
-    put_told(outs, Tell::Denied { point })
-}
-
-fn put_reasons(outs: &mut Outs) -> Result<(), Memory> {
-    for reason in [
-        Reason::Owner,
-        Reason::State,
-        Reason::Class,
-        Reason::Full,
-        Reason::Expedited,
-        Reason::Unknown,
-        Reason::Replicate,
-    ] {
-        put_told(outs, Tell::No(reason))?;
-    }
-    Ok(())
-}
-
-/// A lane that has an entry of losses, one of what comes of units and connections, and one of management and refusals.
-fn lane_of_outputs(alloc: Global) -> Result<EntryList, Memory> {
-    let mut lane = EntryList::new(alloc);
-    let mut outs = Outs::new(alloc);
-    put_losses(&mut outs)?;
-    put_entry(&mut lane, 3, None, outs)?;
-    let mut outs = Outs::new(alloc);
-    put_units(alloc, &mut outs)?;
-    put_openings(alloc, &mut outs)?;
-    put_answers(alloc, &mut outs)?;
-    put_transfers(alloc, &mut outs)?;
-    put_entry(&mut lane, 4, None, outs)?;
-    let mut outs = Outs::new(alloc);
-    put_states(&mut outs)?;
-    put_reasons(&mut outs)?;
-    put_entry(&mut lane, 5, None, outs)?;
-    Ok(lane)
-}
-
 /// A sink that takes eight bytes at a time, and fails at the calls of these numbers.
 fn sink_of(alloc: Global, fails: &[u64]) -> Result<MemSink, AllocError> {
     Ok(MemSink {
-        held: Vec::with_capacity(alloc, 65_536)?,
+        held: Vec::with_capacity(alloc, 131_072)?,
         most: 8,
         fails: Vec::from_slice(alloc, fails)?,
         calls: 0,
@@ -456,17 +229,6 @@ fn prints_journals(rt: HostRuntime) -> Result<(), Fail> {
         &Err(WriteFault::Sink),
     );
     assert_same(&rt, &sink.held.as_slice(), &b"= contro".as_slice());
-    Ok(())
-}
-
-/// Each loss and each tell.
-#[test]
-fn prints_outputs(rt: HostRuntime) -> Result<(), Fail> {
-    let alloc = rt.alloc();
-    let mut book = Book::new(alloc);
-    book.conns.push(lane_of_outputs(alloc)?)?;
-    let print = print_book(alloc, &book)?;
-    assert_same(&rt, &print.as_slice(), &OUTPUTS.as_bytes());
     Ok(())
 }
 
