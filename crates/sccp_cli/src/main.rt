@@ -1,5 +1,6 @@
 //! The node: reads a capture, runs it, and prints its journals.
 #![tactic(auto)]
+
 ghost use Rattle.std.specs.Prelude.{◌≡◌, drop, IfOk};
 ghost use Rattle.std.specs.Vec.Iter.{into_iter_items};
 
