@@ -19,7 +19,7 @@ use Rattle.q713_codec.specs.Reading.{reading_of}
 use Rattle.connectionless.specs.Unitdata.{Unitdata, unitdata_of, class_of}
 use Rattle.connectionless.specs.Given.{Given, given_of}
 
--- a unit whose class is above 1
+-- a unit whose class is above 1 (Q.713, 3.6)
 abbrev pub is_of_wrong_class : Unitdata → Bool
 is_of_wrong_class x = not x.is_service && nat_lt 1 (class_of x)
 
@@ -27,7 +27,7 @@ abbrev pub asked_by : Result Form AddressFault → Unitdata → Result Question 
 asked_by (Err fault) x = Err Address
 asked_by (Ok a) x = if is_of_wrong_class x then Err Class else Ok (record { called = a; hop = x.hop; origin = Network })
 
--- what a unit or a service message from the network asks, or the first reason to lose it
+-- what a unit or a service message from the network asks, or the first reason to lose it (Q.714, 2.3 and 4.1)
 unfoldable pub question_of : Unitdata → Result Question Lost
 question_of x = asked_by (address_of x.called) x
 

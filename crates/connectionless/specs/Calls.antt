@@ -1,4 +1,4 @@
--- What a message and a request ask of routing, and what comes of them, as the calls tell it.
+-- What a message and a request ask of routing, and what comes of them, as the calls tell it (Q.714, 2.3 and 4.1).
 use Rattle.std.specs.Prelude.{ℕ, [], false, if◌then◌else◌, Option, Some, None, Ok, Err, IsSome, IfSome, IsOk}
 use Rattle.std.specs.declared.result.Result.{Result}
 use Rattle.relay_base.specs.declared.words.Request.{Request}

@@ -64,15 +64,15 @@ pub record Outgoing : Type 0 where
   pub point : ℕ
   pub reference : ℕ
 
--- bit 8 of the class octet
+-- bit 8 of the class octet (Q.713, 3.6)
 abbrev pub return_bit : Bool → ℕ
 return_bit ret = if ret then 128 else 0
 
--- the unit as one UDT
+-- the unit as one UDT (Q.713, 4.10)
 abbrev pub whole : Outgoing → Unitdata
 whole u = basic false (u.given.class + return_bit u.given.ret) u.called u.given.calling u.given.body
 
--- it is cut into segments unless one UDT holds it
+-- it is cut into segments unless one UDT holds it (Q.714, 4.1.1)
 abbrev pub is_cut : Outgoing → Bool
 is_cut u =
     not (nat_le (length u.given.body) LONGEST_PARAMETER
@@ -90,7 +90,7 @@ abbrev pub segmentation_octets : Outgoing → ℕ → List ℕ
 segmentation_octets u k =
     ((if k == 0 then 128 else 0) + 64 * u.given.class + (segment_count u - 1 - k)) ∷ octets3 u.reference
 
--- the segment at place k, from 0: an XUDT of class 1
+-- the segment at place k, from 0: an XUDT of class 1 (Q.714, 4.1.1)
 abbrev pub segment : Outgoing → ℕ → Unitdata
 segment u k =
     with_hop Extended false (1 + return_bit u.given.ret) MOST_HOPS u.called u.given.calling
@@ -110,7 +110,7 @@ whole_output u = Sent u.point u.given.sls (unit_octets (whole u))
 unfoldable pub sent_outputs : Outgoing → List Output
 sent_outputs u = if is_cut u then segment_outputs u else whole_output u ∷ []
 
--- a refused one is told back where that was asked, with its addresses in exchange
+-- a refused one is told back where that was asked, with its addresses in exchange (Q.714, 4.2)
 abbrev pub refused_by : Bool → ℕ → Given → Output
 refused_by false cause g = Dropped (Cause cause)
 refused_by true cause g = Told g.ssn (Notice cause g.calling g.called g.body)

@@ -14,7 +14,7 @@ is_long Basic = false
 is_long Extended = false
 is_long Long = true
 
--- it can be written, and is no longer than a message may be that isn't a long one
+-- it can be written, and is no longer than a message may be that isn't a long one (Q.713, 4.10 to 4.21)
 abbrev pub can_leave : Kind → Message → Bool
 can_leave kind message = is_in_range message && (is_long kind || nat_le (length (spelling_of message)) LONGEST)
 

@@ -13,7 +13,7 @@ use Rattle.connectionless.specs.declared.unitdata.Kind.TheVariants.{Extended}
 use Rattle.connectionless.specs.Unitdata.{Unitdata, with_hop}
 use Rattle.connectionless.specs.Leaving.{leaving_octets, sent_or}
 
--- Called and calling change places, the cause stands in the place of the class octet, and the hop counter begins anew.
+-- Called and calling change places, the cause stands in the place of the class octet, and the hop counter begins anew (Q.714, 4.2; Q.713, 3.12 and 3.18).
 abbrev pub returned : ℕ → Unitdata → Unitdata
 returned cause x = record x { is_service = true; first = cause; hop = Some MOST_HOPS; called = x.calling; calling = x.called }
 
@@ -34,11 +34,11 @@ abbrev pub return_output : ℕ → ℕ → ℕ → ℕ → Unitdata → Output
 return_output own opc sls cause x =
     sent_or (return_point own opc x.calling) sls (Dropped (Cause cause)) (leaving_octets (returned cause x))
 
--- bit 8 of the class octet asks for return
+-- bit 8 of the class octet asks for return (Q.713, 3.6)
 abbrev pub asks_return : Unitdata → Bool
 asks_return x = not x.is_service && nat_le 128 x.first
 
--- a refused unit is returned where it asked that, and else it is lost, as a service message is
+-- a refused unit is returned where it asked that, and else it is lost, as a service message is (Q.714, 4.2)
 unfoldable pub refusal_output : ℕ → ℕ → ℕ → ℕ → Unitdata → Output
 refusal_output own opc sls cause x =
     if asks_return x then return_output own opc sls cause x else Dropped (Cause cause)

@@ -38,7 +38,7 @@ abbrev pub told_by : Bool → Unitdata → Tell
 told_by false x = UnitTold (class_of x) x.called x.calling x.body
 told_by true x = Notice x.first x.called x.calling x.body
 
--- an extended unit with a segmentation is a segment
+-- an extended unit with a segmentation is a segment (Q.713, 3.17; Q.714, 4.1.1)
 abbrev pub segmentation_by : Kind → Bool → Option (List ℕ) → Option (List ℕ)
 segmentation_by Extended false segmentation = segmentation
 segmentation_by Extended true segmentation = None
@@ -85,7 +85,7 @@ abbrev pub forwarded : ℕ → Rewrite → Option ℕ → Unitdata → Unitdata
 forwarded opc rewrite hop x =
     record x { called = called_onward rewrite x.called; calling = calling_by x.is_service opc x.calling; hop = hop }
 
--- where it can't leave, it is as if refused, unqualified
+-- where it can't leave, it is as if refused, unqualified (Q.713, 3.12)
 unfoldable pub forward_output : ℕ → ℕ → ℕ → ℕ → Rewrite → Option ℕ → Unitdata → Output
 forward_output own opc sls point rewrite hop x =
     sent_or point sls (refusal_output own opc sls RETURN_UNQUALIFIED x) (leaving_octets (forwarded opc rewrite hop x))

@@ -4,7 +4,6 @@ use Rattle.q713_codec.specs.declared.message.Message.{Message}
 use Rattle.q713_codec.specs.declared.message.Message.TheVariants.{Udt, Udts, Xudt, Xudts, Ludt, Ludts}
 use Rattle.connectionless.specs.declared.unitdata.Kind.{Kind}
 use Rattle.connectionless.specs.declared.unitdata.Kind.TheVariants.{Basic, Extended, Long}
-use Rattle.connectionless.specs.declared.unitdata.UnitView.{UnitView}
 
 -- A unit, or a service message. The first octet is the class octet of a unit, and the return cause of a service message.
 pub record Unitdata : Type 0 where
@@ -17,20 +16,6 @@ pub record Unitdata : Type 0 where
   pub body : List ℕ
   pub segmentation : Option (List ℕ)
   pub importance : Option ℕ
-
--- the unit whose parts these are
-abbrev pub seen_unit : UnitView → Unitdata
-seen_unit u = record {
-  kind = u.kind;
-  is_service = u.is_service;
-  first = u.first;
-  hop = u.hop;
-  called = u.called.now;
-  calling = u.calling.now;
-  body = u.body.now;
-  segmentation = u.segmentation;
-  importance = u.importance;
-}
 
 -- UDT and UDTS have no hop counter and no optional part
 abbrev pub basic : Bool → ℕ → List ℕ → List ℕ → List ℕ → Unitdata
@@ -81,6 +66,6 @@ message_by Long true x = Ludts x.first (unwrap_or x.hop 0) x.called x.calling x.
 unfoldable pub message_of : Unitdata → Message
 message_of x = message_by x.kind x.is_service x
 
--- the low four bits of a class octet
+-- the low four bits of a class octet (Q.713, 3.6)
 abbrev pub class_of : Unitdata → ℕ
 class_of x = x.first % 16

@@ -4,7 +4,7 @@ ghost use Rattle.std.specs.Option.{option_map};
 ghost use Rattle.relay_base.specs.Giving.{Gives};
 ghost use Rattle.sccp_address.specs.Parsing.{address_of};
 ghost use Rattle.q713_codec.specs.Reading.{seen};
-ghost use Rattle.connectionless.specs.Unitdata.{seen_unit};
+ghost use Rattle.connectionless.specs.Inner.Units.{seen_unit};
 ghost use Rattle.connectionless.specs.Calls.{IsRoutable};
 ghost use Rattle.connectionless.specs.Given.{is_unit_request};
 ghost use Rattle.connectionless.specs.Asking.{question_of, message_in};
@@ -18,7 +18,7 @@ use q713_codec::{View, is_too_long, read};
 use relay_base::{Lost, Request};
 use sccp_address::parse;
 
-/// What a unit or a service message asks of routing, or the first reason to lose it.
+/// What a unit or a service message asks of routing, or the first reason to lose it (Q.714, 2.3 and 4.1).
 #[tactic(auto, unfolding(crate::specs::Asking::question_of))]
 fn asked<'a>(unit: &UnitView<'a>) -> Result<Ask<'a>, Lost>
     ensures value { Gives seen_ask result (question_of (seen_unit unit.now)) }

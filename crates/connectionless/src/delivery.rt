@@ -1,6 +1,6 @@
-//! Delivery to a local subsystem.
+//! Delivery to a local subsystem (Q.714, 4.1).
 ghost use Rattle.std.specs.Prelude.{◌≡◌, ◌++◌, IfOk};
-ghost use Rattle.connectionless.specs.Unitdata.{seen_unit};
+ghost use Rattle.connectionless.specs.Inner.Units.{seen_unit};
 ghost use Rattle.connectionless.specs.Routed.{told_by, segmentation_in, segment_of, delivery, done};
 
 use crate::segment::{Next, Segment};
@@ -31,7 +31,7 @@ fn tell_of(alloc: Global, unit: &UnitView<'_>) -> Result<Tell, Memory>
     })
 }
 
-/// The segmentation of a segment: of XUDT where it has one.
+/// The segmentation of a segment: of XUDT where it has one (Q.713, 3.17).
 fn segmentation_of(unit: &UnitView<'_>) -> Option<[u8; 4]>
     ensures { result ≡ segmentation_in (seen_unit unit.now) }
 {

@@ -1,7 +1,7 @@
-//! Forwarding to another point.
+//! Forwarding to another point (Q.714, 2.3 and 4.1).
 ghost use Rattle.std.specs.Prelude.{◌≡◌, IfOk, IsOk};
 ghost use Rattle.sccp_address.specs.Parsing.{address_of};
-ghost use Rattle.connectionless.specs.Unitdata.{seen_unit};
+ghost use Rattle.connectionless.specs.Inner.Units.{seen_unit};
 ghost use Rattle.connectionless.specs.Routed.{calling_with_origin, calling_by, forward_output};
 ghost use Rattle.plant_core.specs.Rewriting.{called_onward};
 

@@ -13,7 +13,7 @@ use sccp_address::parse;
 pub struct GivenView<'a> {
     pub ssn: Ssn,
     pub sls: Sls,
-    /// Class 0 or 1.
+    /// Class 0 or 1 (Q.713, 3.6).
     pub class: u8,
     /// Whether return is asked on error.
     pub ret: bool,

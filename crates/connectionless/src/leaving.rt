@@ -1,7 +1,8 @@
-//! What leaves the node.
+//! What leaves the node (Q.714, 4.1).
 ghost use Rattle.std.specs.Prelude.{◌≡◌, IfOk, IsTrue};
 ghost use Rattle.q713_codec.specs.Writing.{is_in_range};
-ghost use Rattle.connectionless.specs.Unitdata.{seen_unit, message_of};
+ghost use Rattle.connectionless.specs.Unitdata.{message_of};
+ghost use Rattle.connectionless.specs.Inner.Units.{seen_unit};
 ghost use Rattle.connectionless.specs.Leaving.{leaving_by, leaving_octets, unit_octets};
 
 use crate::unitdata::{Kind, UnitView, message_of};

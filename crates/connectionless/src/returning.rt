@@ -1,6 +1,6 @@
 //! The return of a unit, and what else comes of a refusal (Q.714, 4.2).
 ghost use Rattle.std.specs.Prelude.{◌≡◌, ◌++◌, ◌∷◌, [], IfOk, OnOk, OnErr};
-ghost use Rattle.connectionless.specs.Unitdata.{seen_unit};
+ghost use Rattle.connectionless.specs.Inner.Units.{seen_unit};
 ghost use Rattle.connectionless.specs.Returning.{return_point, return_output, asks_return, refusal_output, unit_in};
 
 use crate::leaving::leaving_octets;

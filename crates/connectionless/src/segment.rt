@@ -1,4 +1,4 @@
-//! What is left to do with a unit.
+//! What is left to do with a unit (Q.714, 4.1.1).
 use relay_base::{Octets, Pc, Sls, Ssn};
 
 /// A segment of a message, as it came: its origin and its parameters (Q.713, 4.18).

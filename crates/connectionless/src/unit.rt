@@ -2,7 +2,8 @@
 ghost use Rattle.std.specs.Prelude.{◌≡◌, ◌++◌, IfOk, IsOk, OnOk, OnErr};
 ghost use Rattle.sccp_address.specs.Parsing.{address_of};
 ghost use Rattle.q713_codec.specs.Reading.{seen};
-ghost use Rattle.connectionless.specs.Unitdata.{seen_unit, unitdata_of};
+ghost use Rattle.connectionless.specs.Unitdata.{unitdata_of};
+ghost use Rattle.connectionless.specs.Inner.Units.{seen_unit};
 ghost use Rattle.connectionless.specs.Routed.{unit_outcome};
 ghost use Rattle.connectionless.specs.Calls.{outcome_of, IsRoutable};
 
@@ -17,7 +18,7 @@ use relay_base::{Memory, Outs, Pc, Sls};
 use scmg_messages::put_status;
 use std::alloc::Global;
 
-/// What comes of a unit by the answer to it.
+/// What comes of a unit by the answer to it (Q.714, 4.1 and 4.2).
 #[tactic(auto, unfolding(crate::specs::Routed::unit_outcome))]
 fn outcome(
     alloc: Global,

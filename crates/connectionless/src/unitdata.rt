@@ -2,7 +2,8 @@
 ghost use Rattle.std.specs.Prelude.{◌≡◌, IfOk};
 ghost use Rattle.std.specs.Option.{option_map};
 ghost use Rattle.q713_codec.specs.Reading.{seen};
-ghost use Rattle.connectionless.specs.Unitdata.{seen_unit, unitdata_of, message_of};
+ghost use Rattle.connectionless.specs.Unitdata.{unitdata_of, message_of};
+ghost use Rattle.connectionless.specs.Inner.Units.{seen_unit};
 
 use q713_codec::{Message, View};
 use relay_base::{Memory, Octets};

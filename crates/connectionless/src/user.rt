@@ -25,7 +25,7 @@ fn told(alloc: Global, ssn: Ssn, given: &GivenView<'_>) -> Result<Output, Memory
     Ok(Output::Told { ssn, tell })
 }
 
-/// What comes of a refused unit: a notice to its user where that asked for return, with the addresses in exchange.
+/// What comes of a refused unit: a notice to its user where that asked for return, with the addresses in exchange (Q.714, 4.2).
 fn refused(alloc: Global, cause: u8, given: &GivenView<'_>) -> Result<Output, Memory>
     ensures { IfOk result (λ x. x ≡ refused_by given.now.ret cause (seen_given given.now)) }
 {
@@ -90,7 +90,7 @@ fn outcome(
     Ok((outs, false))
 }
 
-/// The reference of the segments of the next unit that is cut in a lane.
+/// The reference of the segments of the next unit that is cut in a lane (Q.713, 3.17).
 fn reference_after(lane: u8, count: u32) -> Ref24
     ensures { result ≡ reference_after lane count }
 {

@@ -10,8 +10,7 @@ use Rattle.relay_base.specs.Streams.{AppendedPart}
 use Rattle.std.specs.Fmt.{decimal}
 use Rattle.std.specs.List.{flat_map}
 use Rattle.plant_core.specs.declared.entry.Entry.{Entry}
-use Rattle.journal_text.specs.declared.book.Book.{Book}
-use Rattle.journal_text.specs.Print.{entries_text, controls_text, lanes_text, book_text}
+use Rattle.journal_text.specs.Print.{entries_text, lanes_text}
 use Rattle.journal_text.specs.declared.writing.WriteFault.{WriteFault}
 use Rattle.journal_text.specs.declared.writing.WriteFault.TheVariants as write_fault
 use Rattle.journal_text.specs.Inner.Writing.{Carried, Carries}

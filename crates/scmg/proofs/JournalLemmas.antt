@@ -10,8 +10,9 @@ use Rattle.scmg.specs.declared.head.ControlHead.{ControlHead}
 use Rattle.scmg.specs.declared.effect.Act.{Act}
 use Rattle.scmg.specs.declared.effect.Act.TheVariants.{Nothing, Publish, Remember, Forget, Begin, End, Tick}
 use Rattle.scmg.specs.declared.effect.Effect.{Effect}
-use Rattle.scmg.specs.Lane.{KeptState, IsLane, GrowAlike}
-use Rattle.scmg.specs.Control.{Control, Managed, managed, managed_by, start_of_control, changes_in, control_after, change_of, edition_after, count_after, IsLegalEntry, after_entry, LegalFrom, after_entries, changes_from, effect_of}
+use Rattle.scmg.specs.Lane.{GrowAlike}
+use Rattle.scmg.specs.Inner.Kept.{KeptState, IsLane, after_entries}
+use Rattle.scmg.specs.Control.{Control, Managed, managed, managed_by, start_of_control, changes_in, control_after, change_of, edition_after, count_after, IsLegalEntry, after_entry, LegalFrom, changes_from, effect_of}
 
 plant-append : (p : RoutingData) (some more : List Change) → plant_after_all p (some ++ more) ≡ plant_after_all (plant_after_all p some) more
 plant-append p [] more = refl

@@ -62,7 +62,7 @@ dropped = only (Dropped lost.Manage ∷ [])
 abbrev pub refused : ℕ → Reason → Effect
 refused ssn why = only (Told ssn (tell.No why) ∷ [])
 
--- Who is told: the users in service by rising number, but not the one that it is about.
+-- Who is told: the users in service by rising number, but not the one that it is about (Q.714, 5.2 and 5.3).
 
 abbrev pub is_about : Option ℕ → ℕ → Bool
 is_about None ssn = false
@@ -105,7 +105,7 @@ made_known head p (LocalDown ssn) = service_known head p false ssn
 abbrev pub publishes : ControlHead → RoutingData → Change → Effect
 publishes head p change = record { outs = made_known head (plant_after p change) change; act = Publish change }
 
--- A change by an operator. A subsystem of another point is barred and freed by messages alone.
+-- A change by an operator. A subsystem of another point is barred and freed by messages alone (Q.714, 5.2 and 5.3).
 
 abbrev pub refusal : Verdict → List Output
 refusal Alters = []
@@ -131,20 +131,20 @@ changes head c change =
 abbrev pub announced : ControlHead → Control → Change → Effect
 announced head c change = if is_alters (verdict_on c.routing change) then publishes head c.routing change else quiet
 
--- a status test is answered where the subsystem is management or a user in service
+-- a status test is answered where the subsystem is management or a user in service (Q.714, 5.3.4)
 abbrev pub tested : Control → ℕ → ℕ → Effect
 tested c opc ssn = if ssn == 1 || is_in_service c.routing ssn then only (sent opc Allowed ssn c.routing.own ∷ []) else quiet
 
 abbrev pub is_replicate : ControlHead → ℕ → ℕ → Bool
 is_replicate head point ssn = list_any (λ r. r.ssn == ssn && r.point == point) head.replicates
 
--- a replicate asks to go out of service: the user is told, and may grant it
+-- a replicate asks to go out of service: the user is told, and may grant it (Q.714, 5.3.5)
 abbrev pub asked_out : ControlHead → Control → ℕ → ℕ → Effect
 asked_out head c point ssn =
     if is_replicate head point ssn && is_in_service c.routing ssn
     then one (Told ssn (tell.Coord point)) (Remember (record { point = point; ssn = ssn })) else dropped
 
--- a coordinated change that was asked of this point
+-- a coordinated change that was asked of this point (Q.714, 5.3.5)
 abbrev pub is_asked_of : Control → ℕ → ℕ → Bool
 is_asked_of c point ssn = list_any (λ x. x.ssn == ssn && x.point == point) c.coordinations
 
@@ -245,13 +245,13 @@ is_test_of point ssn t = t.point == point && t.ssn == ssn
 abbrev pub test_begun : ℕ → ℕ → ℕ → StatusTest
 test_begun ticks point ssn = record { point = point; ssn = ssn; left = ticks; interval = ticks }
 
--- a test begins with its subsystem's going out of service, and ends with its coming back
+-- a test begins with its subsystem's going out of service, and ends with its coming back (Q.714, 5.3.4)
 abbrev pub tests_after : Ticks → Change → List StatusTest → List StatusTest
 tests_after ticks (BarSub point ssn) tests = tests ++ test_begun ticks.status point ssn ∷ []
 tests_after ticks (FreeSub point ssn) tests = filter (λ t. not (is_test_of point ssn t)) tests
 tests_after ticks _ tests = tests
 
--- a test that was sent has twice the ticks, but no more than the most
+-- a test that was sent has twice the ticks, but no more than the most (Q.714, 5.3.4)
 abbrev pub next_interval : Ticks → StatusTest → ℕ
 next_interval ticks t = min (2 * t.interval) ticks.status_max
 
@@ -280,7 +280,7 @@ coordinations_after_tick list = map lowered (filter (λ x. not (is_due_coordinat
 abbrev pub without_grant : RemoteSubsystem → List RemoteSubsystem → List RemoteSubsystem
 without_grant g list = filter (λ x. not (is_same_subsystem g.point g.ssn x)) list
 
--- two requests of one subsystem are granted once
+-- two requests of one subsystem are granted once (Q.714, 5.3.5)
 abbrev pub with_grant : RemoteSubsystem → List RemoteSubsystem → List RemoteSubsystem
 with_grant g list = without_grant g list ++ g ∷ []
 
@@ -333,11 +333,7 @@ LegalFrom head c edition (entry ∷ more) =
     IsLegalEntry head c edition entry
     × LegalFrom head (after_entry head c entry) (count_after edition (managed head c entry.event).published) more
 
--- what the entries leave, and the changes that they publish, one after another
-abbrev pub after_entries : ControlHead → Control → List ControlEntry → Control
-after_entries head c [] = c
-after_entries head c (entry ∷ more) = after_entries head (after_entry head c entry) more
-
+-- the changes that the entries publish, one after another
 abbrev pub changes_from : ControlHead → Control → List ControlEntry → List Change
 changes_from head c [] = []
 changes_from head c (entry ∷ more) = option_to_list (managed head c entry.event).published ++ changes_from head (after_entry head c entry) more

@@ -1,30 +1,18 @@
 -- What a control lane is seen as.
-use Rattle.std.specs.Prelude.{◌≡◌, ℕ, Bool, List, [], ◌∷◌, ◌++◌, length}
+use Rattle.std.specs.Prelude.{◌≡◌, List, [], ◌∷◌, ◌++◌}
 use Rattle.relay_base.specs.declared.words.Stamp.{Stamp}
 use Rattle.plant_core.specs.declared.change.Change.{Change}
 use Rattle.plant_core.specs.declared.entry.ControlEvent.{ControlEvent}
 use Rattle.plant_core.specs.declared.entry.ControlEntry.{ControlEntry}
 use Rattle.plant_core.specs.Plant.{RoutingData}
 use Rattle.scmg.specs.declared.head.ControlHead.{ControlHead}
-use Rattle.scmg.specs.Control.{Control, start_of_control, after_entries, IsControlJournal, changes_in}
+use Rattle.scmg.specs.Control.{changes_in}
 
 -- its head, the routing data that it began with, and its journal
 pub record ControlState : Type 0 where
   pub head : ControlHead
   pub start : RoutingData
   pub journal : List ControlEntry
-
--- what it keeps beside these: the state, the number of the edition, and whether the next act can be done without memory
-pub record KeptState : Type 0 where
-  pub control : Control
-  pub edition : ℕ
-  pub has_room : Bool
-
--- the journal is legal, and what is kept is what its entries leave
-pub record IsLane (head : ControlHead) (start : RoutingData) (journal : List ControlEntry) (kept : KeptState) : Type 0 where
-  pub legal : IsControlJournal head start journal
-  pub control : kept.control ≡ after_entries head (start_of_control start) journal
-  pub edition : kept.edition ≡ length (changes_in head start journal)
 
 abbrev pub changes_of : ControlState → List Change
 changes_of lane = changes_in lane.head lane.start lane.journal

@@ -156,7 +156,7 @@ fn by_subsystem(alloc: Global, tests: &[StatusTest]) -> Result<Vec<StatusTest>, 
     Ok(placed(alloc, tests)?.into_values().collect(alloc)?)
 }
 
-/// The status tests that are due, by rising point and subsystem.
+/// The status tests that are due, by rising point and subsystem (Q.714, 5.3.4).
 fn tests_sent(alloc: Global, due: &[StatusTest]) -> Result<Outs, Memory>
     ensures { IfOk result (λ outs. outs ≡ map test_sent (by_subsystem due.now)) }
 {
@@ -237,7 +237,7 @@ impl Context<'_> {
         }
     }
 
-    /// What comes of a status test for the own point.
+    /// What comes of a status test for the own point (Q.714, 5.3.4).
     fn tested(&self, opc: Pc, ssn: Ssn) -> Result<Effect, Memory>
         ensures { IfOk result (λ effect. effect ≡ tested self.now.kept.now.control opc ssn) }
     {
@@ -249,7 +249,7 @@ impl Context<'_> {
         Effect::only(self.alloc, output)
     }
 
-    /// What comes of a replicate's request to go out of service.
+    /// What comes of a replicate's request to go out of service (Q.714, 5.3.5).
     fn asked_out(&self, point: Pc, ssn: Ssn) -> Result<Effect, Memory>
         ensures { let head = self.now.head.now in
             let kept = self.now.kept.now.control
@@ -263,7 +263,7 @@ impl Context<'_> {
         Effect::one(self.alloc, Output::Told { ssn, tell }, Act::Remember(grant))
     }
 
-    /// What comes of the grant of a user's coordinated change.
+    /// What comes of the grant of a user's coordinated change (Q.714, 5.3.5).
     fn granted(&self, opc: Pc, ssn: Ssn) -> Result<Effect, Memory>
         ensures { IfOk result (λ effect. effect ≡ granted self.now.kept.now.control opc ssn) }
     {
@@ -274,7 +274,7 @@ impl Context<'_> {
         Effect::one(self.alloc, Output::Told { ssn, tell }, Act::End(ssn))
     }
 
-    /// What comes of a message of management.
+    /// What comes of a message of management (Q.714, 5.3).
     fn hears_notice(&self, opc: Pc, notice: Notice) -> Result<Effect, Memory>
         ensures { let head = self.now.head.now in
             let kept = self.now.kept.now.control
@@ -307,7 +307,7 @@ impl Context<'_> {
         }
     }
 
-    /// What comes of a user's request for a coordinated change.
+    /// What comes of a user's request for a coordinated change (Q.714, 5.3.5).
     fn coordinates(&self, ssn: Ssn) -> Result<Effect, Memory>
         ensures { let head = self.now.head.now in
             let kept = self.now.kept.now.control
@@ -325,7 +325,7 @@ impl Context<'_> {
         Effect::one(self.alloc, output, Act::Begin(replicate))
     }
 
-    /// What comes of a user's grant.
+    /// What comes of a user's grant (Q.714, 5.3.5).
     fn grants(&self, ssn: Ssn, point: Pc) -> Result<Effect, Memory>
         ensures { IfOk result (λ effect. effect ≡ grants self.now.kept.now.control ssn point) }
     {

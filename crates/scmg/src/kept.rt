@@ -1,4 +1,4 @@
-//! What the control lane keeps, and what an act does with it.
+//! What the control lane keeps, and what an act does with it (Q.714, 5.2 and 5.3).
 ghost use Rattle.std.specs.Prelude.{◌≡◌, ◌+◌, ◌^◌, ◌<◌, ◌≤◌, filter, vec_len, IsTrue, IsOk, IfOk, OnOk};
 ghost use Rattle.std.specs.Vec.{vec_capacity};
 ghost use Rattle.scmg.specs.Control.{is_due_test, without_grant, with_grant};
@@ -25,7 +25,7 @@ pub struct Kept {
 impl Model for Kept {
     ghost use Rattle.std.specs.Prelude.{◌&&◌, nat_lt, vec_len};
     ghost use Rattle.std.specs.Vec.{vec_capacity};
-    ghost use Rattle.scmg.specs.Lane.{KeptState};
+    ghost use Rattle.scmg.specs.Inner.Kept.{KeptState};
 
     ghost Value = { KeptState };
 

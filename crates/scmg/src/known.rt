@@ -1,4 +1,4 @@
-//! What a change of the routing data makes known.
+//! What a change of the routing data makes known (Q.714, 5.2 and 5.3).
 ghost use Rattle.std.specs.Prelude.{◌≡◌, ◌++◌, IfOk};
 ghost use Rattle.scmg.specs.Control.{is_told, told_all, service_format, to_concerned, service_known, made_known};
 
@@ -49,7 +49,7 @@ fn service_format(up: bool) -> Format
     }
 }
 
-/// Tells each concerned point that a local subsystem is in service again, or out.
+/// Tells each concerned point that a local subsystem is in service again, or out (Q.714, 5.3.2 and 5.3.3).
 fn tell_concerned(
     alloc: Global,
     head: &ControlHead,

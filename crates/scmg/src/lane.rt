@@ -26,7 +26,8 @@ pub struct ControlLane {
 }
 
 impl Model for ControlLane {
-    ghost use Rattle.scmg.specs.Lane.{ControlState, IsLane};
+    ghost use Rattle.scmg.specs.Lane.{ControlState};
+    ghost use Rattle.scmg.specs.Inner.Kept.{IsLane};
 
     ghost Value = { ControlState };
 

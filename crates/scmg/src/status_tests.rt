@@ -1,4 +1,4 @@
-//! The status tests of all subsystems of other points that are out of service.
+//! The status tests of all subsystems of other points that are out of service (Q.714, 5.3.4).
 ghost use Rattle.std.specs.Prelude.{◌≡◌, ◌≤◌, ◌++◌, ◌∷◌, [], map, filter, not, vec_len, IsTrue, IsOk, IfOk, OnOk, OnErr};
 ghost use Rattle.std.specs.List.{All};
 ghost use Rattle.std.specs.Vec.{vec_capacity};

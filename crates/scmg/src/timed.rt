@@ -1,4 +1,4 @@
-//! What waits for a tick.
+//! What waits for a tick (Q.714, 5.3.4 and 5.3.5).
 ghost use Rattle.std.specs.Prelude.{◌≡◌, ◌<◌, ◌≤◌, map, filter, not, position, vec_len, IsOk, OnOk, OnErr};
 ghost use Rattle.std.specs.Vec.{vec_capacity};
 ghost use Rattle.scmg.specs.Control.{is_due_test, is_due_coordination, test_after_tick, is_coordination_before, with_coordination, without_coordination, lowered, coordinations_after_tick};
@@ -52,7 +52,7 @@ impl StatusTest {
         }
     }
 
-    /// After a tick: one that was sent has twice the ticks, but no more than the most.
+    /// After a tick: one that was sent has twice the ticks, but no more than the most (Q.714, 5.3.4).
     fn after_tick(&self, ticks: &Ticks) -> StatusTest
         ensures { result ≡ test_after_tick ticks.now self.now }
     {

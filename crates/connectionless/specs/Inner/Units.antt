@@ -1,10 +1,26 @@
--- The units that a user gives as the code has them, and their lengths.
+-- Units as the code has them, those of the network and those that a user gives, and the lengths of these.
 use Rattle.std.specs.Prelude.{◌+◌, ◌≤◌, length, IsOk}
 use Rattle.relay_base.specs.declared.limits.TheConstants.{LONGEST_GIVEN_ADDRESS, LONGEST_GIVEN_UNIT}
 use Rattle.sccp_address.specs.Parsing.{address_of}
 use Rattle.connectionless.specs.declared.given.GivenView.{GivenView}
 use Rattle.connectionless.specs.declared.outgoing.OutgoingUnit.{OutgoingUnit}
+use Rattle.connectionless.specs.declared.unitdata.UnitView.{UnitView}
 use Rattle.connectionless.specs.Given.{Given, Outgoing}
+use Rattle.connectionless.specs.Unitdata.{Unitdata}
+
+-- the unit whose parts these are
+abbrev pub seen_unit : UnitView → Unitdata
+seen_unit u = record {
+  kind = u.kind;
+  is_service = u.is_service;
+  first = u.first;
+  hop = u.hop;
+  called = u.called.now;
+  calling = u.calling.now;
+  body = u.body.now;
+  segmentation = u.segmentation;
+  importance = u.importance;
+}
 
 abbrev pub seen_given : GivenView → Given
 seen_given g = record { ssn = g.ssn; sls = g.sls; class = g.class; ret = g.ret; called = g.called.now; calling = g.calling.now; body = g.body.now }

@@ -1,6 +1,6 @@
-use Rattle.std.proofs.Common.{◌≡◌, ap, codes, subst, rules, string_bytes}
+use Rattle.std.proofs.Common.{◌≡◌, codes, subst, rules, string_bytes}
 use Rattle.relay_base.specs.Streams.{AppendedPart}
-use Rattle.journal_text.specs.Inner.Writing.{Carried, with_lanes}
+use Rattle.journal_text.specs.Inner.Writing.{with_lanes}
 use Rattle.journal_text.proofs.Parts.{OnErr-of, Carried-ends, Carried-ends-part}
 use Rattle.journal_text.proofs.writing.write_book.Goals as goal
 

@@ -1,7 +1,6 @@
-use Rattle.std.proofs.Common.{◌≡◌, ◌∙◌, ◌++◌, ◌∷◌, [], length, OnOk, OnErr, ap, sym, subst, refl, arith}
+use Rattle.std.proofs.Common.{◌∙◌, ◌∷◌, length, OnOk, ap, subst, arith}
 use Rattle.plant_core.specs.declared.entry.ControlEntry.{ControlEntry}
-use Rattle.scmg.specs.declared.effect.Effect.{Effect}
-use Rattle.scmg.specs.Control.{start_of_control, effect_of, change_of, edition_after, changes_in}
+use Rattle.scmg.specs.Control.{start_of_control, changes_in}
 use Rattle.scmg.specs.Lane.{ControlState, changes_of, GrowAlike}
 use Rattle.scmg.proofs.JournalLemmas.{few-changes, effect-made, grown-by, stayed-by, lane-either, grow-alike}
 use Rattle.scmg.proofs.lane.ControlLane.step.Goals as goal
