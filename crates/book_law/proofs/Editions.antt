@@ -10,6 +10,7 @@ use Rattle.plant_core.specs.declared.entry.ControlEntry.{ControlEntry}
 use Rattle.node_head.specs.declared.head.Head.{Head}
 use Rattle.node_engine.specs.Editions.{edition_of, editions_before, editions_upto, IsRouting}
 use Rattle.node_engine.proofs.ListLemmas.{count-first}
+use Rattle.book_law.proofs.Booleans.{absurd_bool}
 
 abbrev routing_record : ℕ → Answer → Asked
 routing_record edition answer = record { edition = edition; answer = answer }
@@ -40,11 +41,8 @@ IsCalm phase control = AllByRecursion (λ e. e.stamp.phase ≡ phase → is_some
 
 counted : (t : Bool) (m n : ℕ) → (m ≡ n → t ≡ false) → cond {A = ℕ} (t && nat_le m n) 1 0 ≡ cond {A = ℕ} (t && nat_lt m n) 1 0
 counted false m n h = refl
-counted true m n h = ap (λ b. cond b 1 0) (same_test m n (λ e. true_is_not_false (h e)))
+counted true m n h = ap (λ b. cond b 1 0) (same_test m n (λ e. absurd_bool (h e)))
   where
-    true_is_not_false : true ≡ false → ⊥
-    true_is_not_false e = cc
-
     same_test : (m n : ℕ) → m ≢ n → nat_le m n ≡ nat_lt m n
     same_test m n h = grind (arith, nat_tests, h)
 

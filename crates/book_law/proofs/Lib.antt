@@ -1,10 +1,11 @@
 pub mod Managed
+pub mod Books
+pub mod Booleans
+pub mod Editions
 pub mod Events
 pub mod Journals
-pub mod Editions
-pub mod Places
-pub mod Quiet
-pub mod Published
-pub mod Routings
-pub mod Books
 pub mod Made
+pub mod Places
+pub mod Published
+pub mod Quiet
+pub mod Routings

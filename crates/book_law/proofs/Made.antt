@@ -1,5 +1,5 @@
 -- A generated capture has events of one link in each phase, and no message of management.
-use Rattle.std.proofs.Common.{◌≡◌, ◌||◌, ℕ, zero, suc, ◌+◌, ◌*◌, ◌%◌, Bool, true, false, cond, [], ◌∷◌, ◌++◌, get_or, Result, Ok, Err, refl, sym, ap, ◌∙◌}
+use Rattle.std.proofs.Common.{◌≡◌, ◌||◌, ℕ, zero, suc, ◌+◌, ◌*◌, ◌%◌, false, [], ◌∷◌, ◌++◌, get_or, Result, Ok, Err, refl, sym, ap, ◌∙◌}
 use Rattle.std.specs.Prelude.{◌≢◌}
 use Rattle.std.specs.List.{AllByRecursion}
 use Rattle.relay_base.specs.Giving.{◌>>=◌}
@@ -25,15 +25,12 @@ use Rattle.capture_generator.proofs.CaptureLemmas.{all-append, of-kind, each-eve
 use Rattle.book_law.specs.Sequential.{is_of_management, IsSequentialPhase}
 use Rattle.book_law.proofs.Managed.{has_management}
 use Rattle.book_law.specs.Generated.{GeneratedIsSequential}
+use Rattle.book_law.proofs.Booleans.{absurd_bool, either}
 
 abbrev NotManaged : ControlEvent → Type 0
 NotManaged e = is_of_management generator_head e ≡ false
 
 -- ---- no event is a message of management
-
-either : {A : Type 0} (P : A → Type 0) (b : Bool) (x y : A) → P x → P y → P (cond b x y)
-either P true x y f g = f
-either P false x y f g = g
 
 abbrev Elsewhere : LanePlace → Type 0
 Elsewhere place = in_control place ≡ false
@@ -67,9 +64,6 @@ kind_place kind i = of-kind (λ e. NotManaged (Plain e)) i (unit_place i) (reque
 none_managed : (events : Stamped) → AllByRecursion (λ e. NotManaged e.1) events → has_management generator_head events ≡ false
 none_managed [] h = refl
 none_managed (e ∷ es) h = ap (λ t. t || has_management generator_head es) h.0 ∙ none_managed es h.1
-
-absurd_bool : true ≡ false → ⊥
-absurd_bool h = cc
 
 block_sequential : (x b n : ℕ) → IsSequentialPhase generator_head (block_phase x b n)
 block_sequential x b n =

@@ -1,5 +1,5 @@
 -- A phase of one link's events publishes nothing, or has events of the control lane alone.
-use Rattle.std.proofs.Common.{◌≡◌, ◌⊎◌, ◌||◌, ℕ, zero, suc, Bool, true, false, cond, List, [], ◌∷◌, get_or, Option, Some, None, is_some, refl, sym, ◌∙◌, subst, arith, inl, inr}
+use Rattle.std.proofs.Common.{◌≡◌, ◌⊎◌, ◌||◌, ℕ, zero, suc, Bool, true, false, List, [], ◌∷◌, get_or, Option, Some, None, is_some, refl, sym, ◌∙◌, subst, arith, inl, inr}
 use Rattle.std.specs.Prelude.{◌≢◌}
 use Rattle.std.specs.List.{AllByRecursion, list_any}
 use Rattle.std.proofs.lemmas.Bool.{cases_Bool}
@@ -27,6 +27,8 @@ use Rattle.node_engine.specs.Placed.{in_control}
 use Rattle.node_engine.proofs.ListLemmas.{all-first, all-rest, weaker, weaker-two}
 use Rattle.book_law.specs.Sequential.{is_of_management, IsSequentialPhase, IsSequential}
 use Rattle.book_law.proofs.Managed.{has_management, AreOfControl}
+use Rattle.book_law.specs.Sequential.{is_of_management, has_management, AreOfControl, IsSequentialPhase, IsSequential}
+use Rattle.book_law.proofs.Booleans.{absurd_bool, either}
 
 -- whether an event may publish: a change of the routing data, and a message of management
 abbrev pub may_publish : Head → ControlEvent → Bool
@@ -49,9 +51,6 @@ each_link P (events ∷ more) h zero = all-first P events (phase_events more) h
 each_link P (events ∷ more) h (suc k) = each_link P more (all-rest P events (phase_events more) h) k
 
 -- ---- one phase
-
-absurd_bool : true ≡ false → ⊥
-absurd_bool h = cc
 
 -- what comes on no link is the control lane's
 off_link : (head : Head) (e : ControlEvent) → comes_on_link e ≡ false → in_control (place_of head e) ≡ true
@@ -125,10 +124,6 @@ quiet_or_control head (lists ∷ more) l s (suc (suc n)) = quiet_or_control head
 
 abbrev Silent : Effect → Type 0
 Silent effect = is_some (change_of effect.act) ≡ false
-
-either : {A : Type 0} (P : A → Type 0) (b : Bool) (x y : A) → P x → P y → P (cond b x y)
-either P true x y f g = f
-either P false x y f g = g
 
 coordination_silent : (c : Control) (ssn : ℕ) (r : Option Replicate) → Silent (coordinates_with c ssn r)
 coordination_silent c ssn None = refl

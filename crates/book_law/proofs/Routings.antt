@@ -1,5 +1,5 @@
 -- In a capture whose events come one after another a lane's routings are those of the editions before each phase.
-use Rattle.std.proofs.Common.{◌≡◌, ℕ, Bool, true, false, cond, List, Option, Some, None, Result, Ok, Err, refl, sym, ◌∙◌, subst, inl, inr}
+use Rattle.std.proofs.Common.{◌≡◌, ℕ, Bool, true, false, List, Option, Some, None, Result, Ok, Err, refl, sym, ◌∙◌, subst, inl, inr}
 use Rattle.std.specs.List.{AllByRecursion}
 use Rattle.relay_base.specs.declared.words.Stamp.{Stamp}
 use Rattle.relay_base.specs.declared.words.Event.{Event}
@@ -36,6 +36,7 @@ use Rattle.node_engine.specs.Editions.{IsRouting}
 use Rattle.node_engine.specs.Lanes.{LaneKind, conn_kind, data_kind, IsServed, IsRouted}
 use Rattle.node_engine.proofs.ListLemmas.{all-mapped, weaker-two}
 use Rattle.book_law.specs.Sequential.{IsSequential}
+use Rattle.book_law.proofs.Booleans.{either}
 use Rattle.book_law.proofs.Events.{members}
 use Rattle.book_law.proofs.Editions.{asked_before, one_routing, no_routing, one_edition}
 use Rattle.book_law.proofs.Places.{placed_at}
@@ -53,10 +54,6 @@ is_all (Data n) = false
 
 abbrev NotAll : LanePlace → Type 0
 NotAll place = is_all place ≡ false
-
-either : {A : Type 0} (P : A → Type 0) (b : Bool) (x y : A) → P x → P y → P (cond b x y)
-either P true x y f g = f
-either P false x y f g = g
 
 message_place : (head : Head) (opc sls : ℕ) (m : Message) → NotAll (place_of_message head opc sls m)
 unfolding place_of_message

@@ -1,5 +1,5 @@
 -- Lemmas on what a run did.
-use Rattle.std.proofs.Common.{◌≡◌, ◌⊎◌, ℕ, ◌+◌, ◌%◌, ◌<◌, List, length, Some, None, Result, Ok, Err, OnOk, OnErr, IfSome, sym, ap, ◌∙◌, refl, inl, inr, subst, arith, length-append, lt-ltb}
+use Rattle.std.proofs.Common.{◌≡◌, ℕ, ◌+◌, ◌%◌, ◌<◌, List, length, Some, None, Result, Ok, Err, OnOk, OnErr, IfSome, sym, ap, ◌∙◌, refl, inl, inr, subst, arith, length-append, lt-ltb}
 use Rattle.std.specs.Prelude.{Option}
 use Rattle.std.proofs.lemmas.List.{take_all}
 use Rattle.std.proofs.lemmas.Option.{same_Some}
@@ -116,15 +116,3 @@ stop-due stated read written book stop.Bytes (of_run, more, untouched) run r w =
 stop-due stated read written book stop.ReadFault s run r w = absurd (r refl)
 stop-due stated read written book stop.WriteFault s run r w = absurd (w refl)
 stop-due stated read written book stop.Memory s run r w = memory-due read.before
-
--- a command that makes its capture has no fault of an input
-pub made-status : (stated : Option Command) (read written : Bytes) (book : Book) (why : Stop) (number lines : ℕ) → Stopped stated read written book why
-    → stated ≡ Some (Generate number lines) → (status_of why ≡ 6) ⊎ (status_of why ≡ 7)
-made-status stated read written book stop.Usage number lines s made = absurd (cc)
-made-status stated read written book (stop.Head f note) number lines (run, noted, untouched) made = absurd (cc)
-made-status stated read written book (stop.Line f note) number lines (run, noted, untouched) made = absurd (cc)
-made-status stated read written book (stop.Limit l note) number lines (run, noted, untouched) made = absurd (cc)
-made-status stated read written book stop.Bytes number lines (run, noted, untouched) made = absurd (cc)
-made-status stated read written book stop.ReadFault number lines (run, untouched) made = absurd (cc)
-made-status stated read written book stop.WriteFault number lines s made = inl refl
-made-status stated read written book stop.Memory number lines s made = inr refl
