@@ -27,7 +27,6 @@ use Rattle.node_engine.specs.Placed.{in_control}
 use Rattle.node_engine.proofs.ListLemmas.{all-first, all-rest, weaker, weaker-two}
 use Rattle.book_law.specs.Sequential.{is_of_management, IsSequentialPhase, IsSequential}
 use Rattle.book_law.proofs.Managed.{has_management, AreOfControl}
-use Rattle.book_law.specs.Sequential.{is_of_management, has_management, AreOfControl, IsSequentialPhase, IsSequential}
 use Rattle.book_law.proofs.Booleans.{absurd_bool, either}
 
 -- whether an event may publish: a change of the routing data, and a message of management
