@@ -1,0 +1,22 @@
+//! The local references of a lane.
+use crate::same::assert_same;
+use local_refs::Slots;
+use relay_base::Ref24;
+use std::test::Fail;
+
+fn number(reference: Option<Ref24>) -> Option<u32> {
+    Some(reference?.number())
+}
+
+#[test]
+fn lowest_slots_are_taken(rt: HostRuntime) -> Result<(), Fail> {
+    let mut slots = Slots::new(rt.alloc(), 3, 2)?;
+    let taken = slots.take_lowest().ok();
+    slots.tick();
+    assert_same(
+        &rt,
+        &(number(taken), slots.free(), number(slots.peek(1))),
+        &(Some(19), 4_094, Some(51)),
+    );
+    Ok(())
+}
