@@ -1,6 +1,6 @@
 -- What a sweep leaves, and when the next one is due.
 use Rattle.std.proofs.Common.{◌≡◌, ℕ, zero, suc, ◌+◌, ◌-◌, ◌<◌, ◌≤◌, min, List, [], ◌∷◌, ◌++◌, length, map, take, drop, get_or, replicate, refl, sym, ap, ap₂, ◌∙◌, arith, take_all, append-nil}
-use Rattle.std.specs.Prelude.{slice_set}
+use Rattle.std.specs.Prelude.{Some, slice_get, slice_set}
 use Rattle.std.proofs.Math.ListN.{drop_of_length-le}
 use Rattle.std.proofs.lemmas.List.{drop_more, map-set}
 use Rattle.local_refs.specs.declared.state.SlotState.{SlotState}
@@ -127,3 +127,9 @@ pub with_all : (items new : List SlotState) (len : ℕ) → length new ≡ lengt
 with_all items new len same all =
     let none : drop (length new) items ≡ [] = drop_of_length-le items (omega (arith, same)) in
     ap (λ xs. take len (new ++ xs)) none ∙ ap (take len) (append-nil new) ∙ take_all len new (omega (arith, same, all))
+
+-- a slot that was just taken is seen as held
+pub held_seen : (states : List SlotState) (passed i : ℕ) → i < length states → slice_get (swept_all passed (slice_set states i Held)) i ≡ Some Held
+held_seen [] passed i within = absurd (omega (arith, within))
+held_seen (state ∷ more) passed zero within = refl
+held_seen (state ∷ more) passed (suc i) within = held_seen more passed i (omega (arith, within))

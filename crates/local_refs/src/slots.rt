@@ -103,8 +103,9 @@ impl Slots {
 
     /// Takes the lowest free slot, which is then held; `Full` exactly where none is free.
     pub fn take_lowest(&mut self) -> Result<Ref24, Full>
-        ensures ok { IfOk result (λ mine. (slot : ℕ) × (mine ≡ reference self.old.lane slot)
-            × (slice_get (free_from 1 self.old.states) 0 ≡ Some slot) × (self.new ≡ with_state self.old slot Held)) }
+        ensures lowest { IfOk result (λ mine. slice_get (free_references self.old) 0 ≡ Some mine) }
+        ensures held { IfOk result (λ mine. IsHeld self.new mine) }
+        ensures rest { IfOk result (λ mine. self.new ≡ with_state self.old (slot_of mine) Held) }
         ensures full { OnErr result ((free_references self.old ≡ []) × (self.new ≡ self.old)) }
     {
         let slot = self.free_slot(0).ok_or(Full)?;

@@ -9,14 +9,28 @@ fn number(reference: Option<Ref24>) -> Option<u32> {
 }
 
 #[test]
-fn lowest_slots_are_taken(rt: HostRuntime) -> Result<(), Fail> {
+fn lowest_slots_are_taken_and_freeze(rt: HostRuntime) -> Result<(), Fail> {
     let mut slots = Slots::new(rt.alloc(), 3, 2)?;
-    let taken = slots.take_lowest().ok();
+    let taken = slots.take_lowest();
+    assert_same(
+        &rt,
+        &(slots.free(), number(slots.peek(1))),
+        &(4_094, Some(51)),
+    );
+    if let Ok(mine) = taken {
+        slots.freeze(mine);
+    }
     slots.tick();
     assert_same(
         &rt,
-        &(number(taken), slots.free(), number(slots.peek(1))),
-        &(Some(19), 4_094, Some(51)),
+        &(slots.free(), number(slots.peek(0))),
+        &(4_094, Some(35)),
+    );
+    slots.tick();
+    assert_same(
+        &rt,
+        &(slots.free(), number(slots.peek(0))),
+        &(4_095, Some(19)),
     );
     Ok(())
 }
