@@ -12,6 +12,8 @@ mod outputs;
 #[cfg(test)]
 mod same;
 #[cfg(test)]
+mod slots;
+#[cfg(test)]
 mod user_side;
 #[cfg(test)]
 mod windows;

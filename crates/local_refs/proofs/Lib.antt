@@ -1,0 +1,3 @@
+mod Sweeps
+mod Frees
+mod Firsts

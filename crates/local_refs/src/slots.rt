@@ -1,0 +1,141 @@
+//! The slots of a lane.
+ghost use Rattle.std.specs.Prelude.{◌≡◌, ℕ, ◌<◌, ◌≤◌, [], replicate, length, Some, slice_get, IfOk, IfSome, OnErr};
+ghost use Rattle.local_refs.specs.Slots.{free_from, free_references, reference, slot_of, IsIn, IsHeld, with_state, after_tick};
+ghost use Rattle.local_refs.specs.declared.state.SlotState.TheVariants.{Free, Held, Frozen};
+
+use crate::state::{LONGEST, SlotState, first_free, free_slot, soonest_in, sweep};
+use relay_base::limits::MOST_LANES;
+use relay_base::{Memory, Ref24};
+use std::alloc::Global;
+use std::marker::Model;
+
+/// How many slots a lane has.
+const SLOTS: usize = 4_095;
+
+/// All slots are held or frozen.
+#[derive(Clone, Copy, Debug, PartialEq, Eq)]
+pub struct Full;
+
+/// The 4,095 slots of a lane.
+#[derive(Drop)]
+pub struct Slots {
+    lane: u8,
+    freeze: u32,
+    /// What each slot was at the last sweep; what froze since then counts from there too.
+    states: Vec<SlotState>,
+    /// The ticks since the last sweep.
+    passed: u64,
+    /// No slot becomes free before this many ticks after the last sweep.
+    soonest: u64,
+    /// No slot before this place is free.
+    first: usize,
+}
+
+impl Model for Slots {
+    ghost use Rattle.std.specs.Prelude.{◌≡◌, ◌≤◌, ◌<◌, length};
+    ghost use Rattle.local_refs.specs.Slots.{LaneSlots};
+    ghost use Rattle.local_refs.specs.Inner.Swept.{swept_all, soonest_in, AreTaken};
+
+    ghost Value = { LaneSlots };
+
+    ghost view = { λ s. record { lane = s.lane; freeze = s.freeze; states = swept_all s.passed s.states.items } };
+
+    ghost invariant = { λ s. (length s.states.items ≡ 4095) × (s.lane < 16) × (1 ≤ s.freeze)
+        × (s.passed < s.soonest) × (s.soonest ≤ 4294967295) × (s.soonest ≤ soonest_in s.states.items)
+        × AreTaken s.first s.states.items };
+}
+
+impl Slots {
+    /// All slots are free. The lane is 0 to 15, and a slot that is given up stays frozen for `freeze` ticks, at least 1.
+    pub fn new(alloc: Global, lane: u8, freeze: u32) -> Result<Slots, Memory>
+        requires lane { lane < 16 }
+        requires freeze { 1 ≤ freeze }
+        ensures { IfOk result (λ slots. slots ≡ record { lane = lane; freeze = freeze; states = replicate 4095 Free }) }
+    {
+        let mut states = Vec::new(alloc);
+        states.resize(SLOTS, SlotState::Free)?;
+        Ok(Slots {
+            lane,
+            freeze,
+            states,
+            passed: 0,
+            soonest: LONGEST,
+            first: 0,
+        })
+    }
+
+    /// The free slot that stands at this place, from 0, among all by rising number.
+    fn free_slot(&self, at: usize) -> Option<usize>
+        ensures value { result ≡ slice_get (free_from 1 self.now.states) at }
+        ensures within { IfSome result (λ slot. (1 ≤ slot) × (slot ≤ 4095)) }
+    {
+        free_slot(&self.states, self.first, at)
+    }
+
+    /// The local reference of a slot.
+    fn reference(&self, slot: usize) -> Ref24
+        requires { slot ≤ 4095 }
+        ensures { result ≡ reference self.now.lane slot }
+    {
+        Ref24::new(slot as u32 * u32::from(MOST_LANES) + u32::from(self.lane)).unwrap()
+    }
+
+    /// How many slots are free.
+    pub fn free(&self) -> u16
+        ensures { result ≡ length (free_references self.now) }
+    {
+        let mut free = 0;
+        for state in &self.states {
+            if state.is_free() {
+                free += 1;
+            }
+        }
+        free
+    }
+
+    /// The reference of the free slot that stands at this place, from 0, among all by rising number; None where no more are free.
+    pub fn peek(&self, at: u8) -> Option<Ref24>
+        ensures { result ≡ slice_get (free_references self.now) at }
+    {
+        let slot = self.free_slot(usize::from(at))?;
+        Some(self.reference(slot))
+    }
+
+    /// Takes the lowest free slot, which is then held; `Full` exactly where none is free.
+    pub fn take_lowest(&mut self) -> Result<Ref24, Full>
+        ensures lowest { IfOk result (λ mine. slice_get (free_references self.old) 0 ≡ Some mine) }
+        ensures held { IfOk result (λ mine. IsHeld self.new mine) }
+        ensures rest { IfOk result (λ mine. self.new ≡ with_state self.old (slot_of mine) Held) }
+        ensures full { OnErr result ((free_references self.old ≡ []) × (self.new ≡ self.old)) }
+    {
+        let slot = self.free_slot(0).ok_or(Full)?;
+        self.states[slot - 1] = SlotState::Held;
+        self.first = first_free(&self.states, self.first);
+        Ok(self.reference(slot))
+    }
+
+    /// A side gives the slot of its reference up, and it is frozen.
+    pub fn freeze(&mut self, mine: Ref24)
+        requires held { IsHeld self.old mine }
+        ensures { self.new ≡ with_state self.old (slot_of mine) (Frozen self.old.freeze) }
+    {
+        let slot = (mine.number() / u32::from(MOST_LANES)) as usize;
+        let until = self.passed + u64::from(self.freeze);
+        self.states[slot - 1] = SlotState::Frozen(until);
+        self.soonest = self.soonest.min(until);
+    }
+
+    /// A tick lowers what is left of each freezing, and at its last one the slot is free.
+    pub fn tick(&mut self)
+        ensures { self.new ≡ after_tick self.old }
+    {
+        if self.passed + 1 < self.soonest {
+            self.passed += 1;
+            return;
+        }
+        sweep(&mut self.states, self.passed + 1);
+        self.passed = 0;
+        self.soonest = soonest_in(&self.states);
+        self.first = 0;
+    }
+}
