@@ -8,4 +8,4 @@ pub returns-clause-value : goal.returns-clause-value
 returns-clause-value c = λ now.
     let status = status_outputs c.args.terms.now.own c.args.incoming.now.point c.args.incoming.now.wanted.sls c.args.local in
     c.none.ensures.value now
-    ∙ ap not_opened (c.in_ok-put_status.ensures ∙ ap (λ outs. outs ++ status) (c.in_ok-outs.ensures c.args.terms.now) ∙ ap (λ cause. cref_to (seen_incoming c.args.terms.now c.args.incoming.now) cause ∷ status) c.refusal_cause.ensures)
+    ∙ ap not_opened (c.in_ok-put_status.ensures.ok ∙ ap (λ outs. outs ++ status) (c.in_ok-outs.ensures c.args.terms.now) ∙ ap (λ cause. cref_to (seen_incoming c.args.terms.now c.args.incoming.now) cause ∷ status) c.refusal_cause.ensures)
