@@ -1,6 +1,6 @@
 //! The slots of a lane.
-ghost use Rattle.std.specs.Prelude.{◌≡◌, ℕ, ◌<◌, ◌≤◌, [], replicate, length, Some, slice_get, IfOk, IfSome, OnErr};
-ghost use Rattle.local_refs.specs.Slots.{free_from, free_references, reference, slot_of, IsIn, IsHeld, with_state, after_tick};
+ghost use Rattle.std.specs.Prelude.{◌≡◌, ◌<◌, ◌≤◌, [], replicate, length, Some, slice_get, IfOk, IfSome, OnErr};
+ghost use Rattle.local_refs.specs.Slots.{free_from, free_references, reference, slot_of, IsHeld, with_state, after_tick};
 ghost use Rattle.local_refs.specs.declared.state.SlotState.TheVariants.{Free, Held, Frozen};
 
 use crate::state::{LONGEST, SlotState, first_free, free_slot, soonest_in, sweep};
