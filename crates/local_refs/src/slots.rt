@@ -50,7 +50,8 @@ impl Slots {
     pub fn new(alloc: Global, lane: u8, freeze: u32) -> Result<Slots, Memory>
         requires lane { lane < 16 }
         requires freeze { 1 ≤ freeze }
-        ensures { IfOk result (λ slots. slots ≡ record { lane = lane; freeze = freeze; states = replicate 4095 Free }) }
+        ensures { let states = replicate 4095 Free in
+            IfOk result (λ slots. slots ≡ record { lane = lane; freeze = freeze; states = states }) }
     {
         let mut states = Vec::new(alloc);
         states.resize(SLOTS, SlotState::Free)?;
