@@ -3,7 +3,8 @@ use Rattle.std.proofs.Common.{◌≡◌, ℕ, ◌+◌, List, [], ◌∷◌, ◌+
 use Rattle.plant_core.specs.declared.change.Change.{Change}
 use Rattle.plant_core.specs.declared.entry.ControlEntry.{ControlEntry}
 use Rattle.scmg.specs.declared.head.ControlHead.{ControlHead}
-use Rattle.scmg.specs.Control.{Control, managed, count_after, after_entry, after_entries, changes_from, LegalFrom}
+use Rattle.scmg.specs.Control.{Control, managed, count_after, after_entry, changes_from, LegalFrom}
+use Rattle.scmg.specs.Inner.Kept.{after_entries}
 use Rattle.std.specs.Option.{option_to_list}
 use Rattle.control_law.specs.Played.{JournalSplits}
 

@@ -5,7 +5,8 @@ use Rattle.plant_core.specs.Plant.{RoutingData}
 use Rattle.plant_core.specs.declared.entry.ControlEntry.{ControlEntry}
 use Rattle.plant_core.specs.declared.entry.ControlEvent.{ControlEvent}
 use Rattle.scmg.specs.declared.head.ControlHead.{ControlHead}
-use Rattle.scmg.specs.Control.{Control, start_of_control, managed, edition_after, count_after, after_entries, changes_from, LegalFrom, IsControlJournal}
+use Rattle.scmg.specs.Control.{Control, start_of_control, managed, edition_after, count_after, changes_from, LegalFrom, IsControlJournal}
+use Rattle.scmg.specs.Inner.Kept.{after_entries}
 
 -- the outputs of a run over events, each with the edition that is published, after so many editions
 abbrev pub played_from : ControlHead → Control → ℕ → List ControlEvent → List (List Output × Option ℕ)

@@ -49,7 +49,7 @@ title-few gti octets = by_tests (gti == 0) (is_title_short gti octets) (is_bcd g
     by_tests true short digits e = tt
     by_tests false true digits e = tt
     by_tests false false true e =
-        let within : length octets ≤ lead_of gti + 12 = leb-true (length octets) (lead_of gti + 12) (last-of-and (has_digits gti) (is_some (parity_of gti octets)) (nat_le (length octets) (lead_of gti + 12)) e) in
+        let within : 2 * (length octets - lead_of gti) ≤ 24 = leb-true (2 * (length octets - lead_of gti)) 24 (last-of-and (has_digits gti) (is_some (parity_of gti octets)) (nat_le (2 * (length octets - lead_of gti)) 24) e) in
         digits-few (encoding_of gti octets == 1) (drop (lead_of gti) octets) (omega (arith, length-drop (lead_of gti) octets))
     by_tests false false false e = tt
 
