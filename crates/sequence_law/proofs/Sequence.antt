@@ -1,5 +1,5 @@
 -- The units of a key in a right book.
-use Rattle.std.proofs.Common.{◌≡◌, ℕ, zero, suc, ◌+◌, ◌%◌, ◌<◌, ◌==◌, true, false, List, [], ◌∷◌, ◌++◌, length, refl, sym, ap, ◌∙◌, subst, Some, arith, if◌then◌else◌, eq-eqb, ne_eqb, mod-lt}
+use Rattle.std.proofs.Common.{◌≡◌, ℕ, zero, suc, ◌+◌, ◌%◌, ◌<◌, true, false, List, [], ◌∷◌, ◌++◌, length, refl, sym, ap, ◌∙◌, subst, Some, arith, eq-eqb, ne_eqb, mod-lt}
 use Rattle.std.specs.Prelude.{slice_get}
 use Rattle.plant_core.specs.declared.entry.Entry.{Entry}
 use Rattle.data_lane.specs.Legal.{IsDataJournal}
@@ -35,10 +35,8 @@ link_of head phases book number journal link right is =
     lane_of_number (IsServed data_kind head phases book.control) number book.units journal right.served.units is in
     link_in_order link (placed (in_data number) head phases) (pairs_of journal) served.own ∙ link_taken (in_data number) head phases link
 
-there : (lanes sls units : ℕ) → units ≡ lanes → 0 < lanes → (if lanes == 0 then 0 else sls % lanes) < units
-there lanes sls units are some =
-    let within : sls % lanes < lanes = mod-lt sls some in
-    rw (ne_eqb lanes 0 (λ none. omega (arith, none, some))) (omega (arith, within, are))
+there : (lanes sls units : ℕ) → units ≡ lanes → 0 < lanes → sls % lanes < units
+there lanes sls units are some = let within : sls % lanes < lanes = mod-lt sls some in omega (arith, within, are)
 
 pub sequence : SequenceLaw
 sequence head phases book point sls right =
