@@ -1,2 +1,3 @@
+mod TallyLemmas
 pub mod CaptureLemmas
 pub mod StepLemmas

@@ -1,48 +1,59 @@
--- How many entries and outputs the journals of a book have.
-use Rattle.std.specs.Prelude.{ℕ, ◌+◌, ◌-◌, ◌^◌, min, codes, List, [], ◌∷◌, fold}
+-- How many entries and outputs the journals of a book have, and the line that says so.
+use Rattle.std.specs.Prelude.{ℕ, ◌-◌, ◌^◌, ◌++◌, min, codes, true, false, Bool, List, [], ◌∷◌, length, map}
+use Rattle.std.specs.List.{flat_map, count_by, sum_by}
 use Rattle.std.specs.Fmt.{decimal}
 use Rattle.relay_base.specs.declared.words.Output.{Output}
 use Rattle.relay_base.specs.declared.words.Output.TheVariants.{Sent, Told, Lost}
 use Rattle.plant_core.specs.declared.entry.Entry.{Entry}
-use Rattle.plant_core.specs.declared.entry.ControlEntry.{ControlEntry}
 use Rattle.journal_text.specs.Print.{spaced}
 use Rattle.journal_text.specs.declared.book.Book.{Book}
-use Rattle.capture_generator.specs.declared.tally.Counts.{Counts}
 
--- a count stays at its last value
-abbrev pub capped : ℕ → ℕ
-capped n = min n (2 ^ 64 - 1)
+abbrev pub is_sent : Output → Bool
+is_sent (Sent point sls bytes) = true
+is_sent _ = false
 
--- one output more: a message that was sent, what a user was told, a loss
-abbrev pub with_output : Counts → Output → Counts
-with_output c (Sent point sls bytes) = record c { sent = capped (c.sent + 1) }
-with_output c (Told ssn tell) = record c { told = capped (c.told + 1) }
-with_output c (Lost loss) = record c { lost = capped (c.lost + 1) }
+abbrev pub is_told : Output → Bool
+is_told (Told ssn tell) = true
+is_told _ = false
 
--- one entry more, with its outputs
-abbrev pub with_entry : Counts → List Output → Counts
-with_entry c outs = fold with_output (record c { entries = capped (c.entries + 1) }) outs
+abbrev pub is_lost : Output → Bool
+is_lost (Lost loss) = true
+is_lost _ = false
 
-abbrev pub nothing_counted : Counts
-nothing_counted = record { entries = 0; sent = 0; told = 0; lost = 0 }
+-- the outputs of each entry of a lane's journal
+abbrev pub outputs_in : List Entry → List (List Output)
+outputs_in journal = map (λ e. e.outs) journal
 
--- the entries of a journal more, of the journal of the control lane, of the journals of lanes
-abbrev pub with_journal : Counts → List Entry → Counts
-with_journal c journal = fold (λ d e. with_entry d e.outs) c journal
+-- the outputs of each entry of a book
+abbrev pub outputs_of : Book → List (List Output)
+outputs_of book = map (λ e. e.outs) book.control ++ flat_map outputs_in book.conns ++ flat_map outputs_in book.units
 
-abbrev pub with_control : Counts → List ControlEntry → Counts
-with_control c journal = fold (λ d e. with_entry d e.outs) c journal
+-- how many entries there are, and how many of their outputs are messages that were sent, what users were told, and losses
+pub record Totals : Type 0 where
+  pub entries : ℕ
+  pub sent : ℕ
+  pub told : ℕ
+  pub lost : ℕ
 
-abbrev pub with_lanes : Counts → List (List Entry) → Counts
-with_lanes c lanes = fold with_journal c lanes
-
--- how many there are, over all journals
-abbrev pub counts_of : Book → Counts
-counts_of book = with_lanes (with_lanes (with_control nothing_counted book.control) book.conns) book.units
+abbrev pub totals_of : Book → Totals
+totals_of book =
+    let outputs = outputs_of book in record {
+      entries = length outputs;
+      sent = sum_by (count_by is_sent) outputs;
+      told = sum_by (count_by is_told) outputs;
+      lost = sum_by (count_by is_lost) outputs;
+    }
 
 -- the line of counts, without its end
-abbrev pub counts_text : ℕ → Counts → List ℕ
-counts_text lines c = spaced (
-    codes "lines" ∷ decimal lines ∷ codes "entries" ∷ decimal c.entries ∷ codes "sent" ∷ decimal c.sent
-    ∷ codes "told" ∷ decimal c.told ∷ codes "lost" ∷ decimal c.lost ∷ []
+abbrev pub counts_line : ℕ → ℕ → ℕ → ℕ → ℕ → List ℕ
+counts_line lines entries sent told lost = spaced (
+    codes "lines" ∷ decimal lines ∷ codes "entries" ∷ decimal entries ∷ codes "sent" ∷ decimal sent
+    ∷ codes "told" ∷ decimal told ∷ codes "lost" ∷ decimal lost ∷ []
     )
+
+-- a number above 18,446,744,073,709,551,615 is written as that one
+abbrev pub counted : ℕ → ℕ
+counted n = min n (2 ^ 64 - 1)
+
+abbrev pub counts_text : ℕ → Totals → List ℕ
+counts_text lines t = counts_line lines (counted t.entries) (counted t.sent) (counted t.told) (counted t.lost)

@@ -1,3 +1,4 @@
 pub mod Counts
 pub mod Generator
 pub mod Text
+pub mod Inner

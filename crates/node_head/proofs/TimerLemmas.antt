@@ -1,7 +1,6 @@
 -- The timers three by three are the timers one by one.
 use Rattle.std.proofs.Common.{◌≡◌, ℕ, List, Result, Ok, Err, refl, ◌∙◌, codes, max}
 use Rattle.relay_base.specs.Giving.{◌>>=◌}
-use Rattle.plant_core.specs.declared.terms.Ticks.{Ticks}
 use Rattle.toml.specs.Data.{Members}
 use Rattle.node_head.specs.declared.fault.HeadFault.{HeadFault}
 use Rattle.node_head.specs.declared.section.Place.{Place}

@@ -1,9 +1,10 @@
 //! The rows of a head.
-ghost use Rattle.std.specs.Prelude.{◌≡◌, ◌∷◌, [], ◌++◌, ◌≤◌, false, IsTrue, length, map, option_map, IfOk, IfSome};
+ghost use Rattle.std.specs.Prelude.{◌≡◌, ◌∷◌, [], ◌++◌, ◌≤◌, false, if◌then◌else◌, IsTrue, length, map, option_map, IfOk, IfSome};
 ghost use Rattle.toml.specs.View.{table_view};
 ghost use Rattle.gtt_table.specs.Rows.{has_row};
 ghost use Rattle.node_head.specs.Inner.Sections.{members_of, tables_in, data_in};
 ghost use Rattle.node_head.specs.Addable.{are_addable};
+ghost use Rattle.node_head.specs.Keys.{usual};
 ghost use Rattle.node_head.specs.Refusals.{Reads};
 ghost use Rattle.node_head.specs.Rows.{indicator_at, selector_at, new_prefix, prefix_at, entity_at, second_at, row_of, rows_after, rows_value};
 
@@ -38,6 +39,13 @@ fn new_prefix(found: &[Row], selector: &Selector, text: &[u8]) -> Option<Digits>
     }
 }
 
+/// The bounds of a part of a title, 0 by default and up to its greatest value, or 0 alone where the indicator's titles lack it (Q.713, 3.4).
+fn part_bounds(is_lacking: bool, greatest: u32) -> Bounds
+    ensures { result ≡ usual 0 0 (if is_lacking then 0 else greatest) }
+{
+    Bounds::usual(0, 0, if is_lacking { 0 } else { greatest })
+}
+
 impl Section<'_> {
     #[tactic(auto, using(crate::proofs::HeadLemmas::failures), unfolding(crate::specs::Rows::indicator_at))]
     fn indicator(&self, alloc: Global) -> Result<u8, HeadRefused>
@@ -55,37 +63,12 @@ impl Section<'_> {
         ensures { Reads result (selector_at self.now.place (members_of self.now)) }
     {
         let gti = self.indicator(alloc)?;
-        let tt = self.octet(
-            alloc,
-            "tt",
-            &Bounds::usual(
-                0,
-                0,
-                if gti == 1 {
-                    0
-                } else {
-                    u32::from(GREATEST_OCTET)
-                },
-            ),
-        )?;
-        let np = self.octet(
-            alloc,
-            "np",
-            &Bounds::usual(
-                0,
-                0,
-                if gti == 1 {
-                    0
-                } else {
-                    u32::from(NUMBERING_PLANS) - 1
-                },
-            ),
-        )?;
-        let nai = self.octet(
-            alloc,
-            "nai",
-            &Bounds::usual(0, 0, if gti == 3 { 0 } else { u32::from(NATURES) - 1 }),
-        )?;
+        let types = part_bounds(gti == 1, u32::from(GREATEST_OCTET));
+        let plans = part_bounds(gti == 1, u32::from(NUMBERING_PLANS) - 1);
+        let natures = part_bounds(gti == 3, u32::from(NATURES) - 1);
+        let tt = self.octet(alloc, "tt", &types)?;
+        let np = self.octet(alloc, "np", &plans)?;
+        let nai = self.octet(alloc, "nai", &natures)?;
         Ok(Selector { gti, tt, np, nai })
     }
 

@@ -35,16 +35,6 @@ fn at_line(line: u32, kind: LineKind) -> Option<CaptureFault> {
     Some(CaptureFault::Line(LineFault { line, kind }))
 }
 
-/// What is wrong with a capture, as `Hex of line 4`, and `too many Barriers` where there is too much.
-fn fault_text(alloc: Global, fault: CaptureFault) -> Result<String, AllocError> {
-    match fault {
-        CaptureFault::Head(fault) => format!(in alloc; "{fault:?}"),
-        CaptureFault::Line(fault) => format!(in alloc; "{:?} of line {}", fault.kind, fault.line),
-        CaptureFault::TooLong(limit) => format!(in alloc; "too many {limit:?}"),
-        CaptureFault::Memory => format!(in alloc; "memory"),
-    }
-}
-
 /// The text that a row stands for: each semicolon ends a line, and of `a{3 b}c` the `b` stands three times.
 fn spelled(alloc: Global, row: &str) -> Result<String, Fail> {
     let row = row.replace(alloc, ";", "\n")?;
@@ -69,7 +59,7 @@ fn assert_faults(rt: &impl Abort, alloc: Global, rows: &str) -> Result<(), Fail>
         let lines = spelled(alloc, lines)?;
         let found = match capture_of(alloc, lines.as_str()) {
             Ok(_) => String::from_str(alloc, "read")?,
-            Err(fault) => fault_text(alloc, fault)?,
+            Err(fault) => format!(in alloc; "{fault}")?,
         };
         assert_eq!(rt; found.as_str(), wanted, "{row}");
     }
@@ -310,32 +300,32 @@ u 1 9 grant 16384";
 #[test]
 fn sizes(rt: HostRuntime) -> Result<(), Fail> {
     let rows = "u 1 8 unit 5 0 r 4208{38 00} - aa => read
-u 1 8 unit 5 0 r 4208{39 00} 0 0 => Size of line 4
+u 1 8 unit 5 0 r 4208{39 00} 0 0 => line 4 size
 u 1 8 unit 5 0 r 1208001204{35 00} - aa => read
-u 1 8 unit 5 0 r 1208001204{36 00} - aa => Size of line 4
-u 1 8 unit 5 2 r 4208{39 00} - aa => Number of line 4
+u 1 8 unit 5 0 r 1208001204{36 00} - aa => line 4 size
+u 1 8 unit 5 2 r 4208{39 00} - aa => line 4 number
 u 1 8 unit 5 0 r 4209 4208{38 00} aa => read
-u 1 8 unit 5 0 r 4209 4208{39 00} 0 => Size of line 4
+u 1 8 unit 5 0 r 4209 4208{39 00} 0 => line 4 size
 u 1 8 unit 5 0 r 4209 - {2560 00} => read
-u 1 8 unit 5 0 r 4209 - {2561 00} => Size of line 4
-u 1 8 unit 5 0 r 4209 - {2561 00}0 => Hex of line 4
-u 1 8 unit 5 0 r 42 - {2561 00} => Address of line 4
+u 1 8 unit 5 0 r 4209 - {2561 00} => line 4 size
+u 1 8 unit 5 0 r 4209 - {2561 00}0 => line 4 hex
+u 1 8 unit 5 0 r 42 - {2561 00} => line 4 address
 u 1 8 conn 7 2 0 4208{38 00} - => read
-u 1 8 conn 7 2 0 4208{39 00} 0 => Size of line 4
+u 1 8 conn 7 2 0 4208{39 00} 0 => line 4 size
 u 1 8 conn 7 2 0 4209 {128 00} => read
-u 1 8 conn 7 2 0 4209 {129 00} => Size of line 4
+u 1 8 conn 7 2 0 4209 {129 00} => line 4 size
 u 1 8 conn 7 3 0 4209 {128 00} => read
-u 1 8 conn 7 3 0 4209 {129 00} => Size of line 4
+u 1 8 conn 7 3 0 4209 {129 00} => line 4 size
 u 1 8 accept 16 3 0 {128 00} => read
-u 1 8 accept 16 3 0 {129 00} => Size of line 4
+u 1 8 accept 16 3 0 {129 00} => line 4 size
 u 1 8 refuse 16 0 {128 00} => read
-u 1 8 refuse 16 0 {129 00} => Size of line 4
+u 1 8 refuse 16 0 {129 00} => line 4 size
 u 1 8 send 16 {8192 00} => read
-u 1 8 send 16 {8193 00} => Size of line 4
+u 1 8 send 16 {8193 00} => line 4 size
 u 1 8 ed 16 {32 00} => read
-u 1 8 ed 16 {33 00} => Size of line 4
+u 1 8 ed 16 {33 00} => line 4 size
 u 1 8 disc 16 0 {128 00} => read
-u 1 8 disc 16 0 {129 00} => Size of line 4";
+u 1 8 disc 16 0 {129 00} => line 4 size";
     assert_faults(&rt, rt.alloc(), rows)
 }
 
@@ -344,11 +334,11 @@ u 1 8 disc 16 0 {129 00} => Size of line 4";
 fn limit_of_barriers(rt: HostRuntime) -> Result<(), Fail> {
     let rows = "{1000 w;}# none;; => read
 {1000 w;}m 1 200 5 - => read
-{999 w;}w 1 => Words of line 1003
-{1000 w;}w => too many Barriers
-{1000 w;}w 1 => too many Barriers
-{1000 w;}x => Words of line 1004
-x;{1001 w;} => Words of line 4";
+{999 w;}w 1 => line 1003 words
+{1000 w;}w => too long barriers
+{1000 w;}w 1 => too long barriers
+{1000 w;}x => line 1004 words
+x;{1001 w;} => line 4 words";
     assert_faults(&rt, rt.alloc(), rows)
 }
 
@@ -356,18 +346,18 @@ x;{1001 w;} => Words of line 4";
 #[test]
 fn limit_of_ticks(rt: HostRuntime) -> Result<(), Fail> {
     let rows = "{20000 t;}# none;;w;m 1 200 5 - => read
-{19999 t;}t 1 => Words of line 20003
-{20000 t;}t => too many Ticks
-{20000 t;}t 1 => too many Ticks
-{20000 t;}x => Words of line 20004
-x;{20001 t;} => Words of line 4";
+{19999 t;}t 1 => line 20003 words
+{20000 t;}t => too long ticks
+{20000 t;}t 1 => too long ticks
+{20000 t;}x => line 20004 words
+x;{20001 t;} => line 4 words";
     assert_faults(&rt, rt.alloc(), rows)
 }
 
 /// The line that passes both limits passes that of event lines.
 #[test]
 fn both_limits(rt: HostRuntime) -> Result<(), Fail> {
-    let row = "{20000 t;}{180000 m 1 200 5 -;}t => too many Lines";
+    let row = "{20000 t;}{180000 m 1 200 5 -;}t => too long lines";
     assert_faults(&rt, rt.alloc(), row)
 }
 
@@ -375,7 +365,7 @@ fn both_limits(rt: HostRuntime) -> Result<(), Fail> {
 #[test]
 fn limit_of_event_lines(rt: HostRuntime) -> Result<(), Fail> {
     let rows = "{200000 m 1 200 5 -;}# none;;w => read
-{200000 m 1 200 5 -;}x => too many Lines";
+{200000 m 1 200 5 -;}x => too long lines";
     assert_faults(&rt, rt.alloc(), rows)
 }
 
@@ -464,14 +454,14 @@ point = 100;%%;m 1 200 5 - => 1 phases
 point = 100;%%;t => 1 phases
 point = 100;%%;m 1 200 5 -\r; => 1 phases
 point = 100;%%;m 1 200 5 -;w; => 2 phases
-point = 100;%%;m 1 200 5 -\r => Hex of line 3
-point = 100;%%;w\r => Words of line 3";
+point = 100;%%;m 1 200 5 -\r => line 3 hex
+point = 100;%%;w\r => line 3 words";
     for row in rows.lines() {
         let (text, wanted) = row.split_once(" => ").ok_or("no arrow")?;
         let text = spelled(rt.alloc(), text)?;
         let found = match read_capture(rt.alloc(), text.as_bytes()) {
             Ok(capture) => format!(in rt.alloc(); "{} phases", capture.phases.len())?,
-            Err(fault) => fault_text(rt.alloc(), fault)?,
+            Err(fault) => format!(in rt.alloc(); "{fault}")?,
         };
         assert_eq!(rt; found.as_str(), wanted, "{row}");
     }
@@ -687,7 +677,7 @@ u 1 8 reset 31 => Conn(0)";
         let found = match place_of(rt.alloc(), line) {
             Ok(Some(lane)) => format!(in rt.alloc(); "{lane:?}")?,
             Ok(None) => String::from_str(rt.alloc(), "no event")?,
-            Err(fault) => fault_text(rt.alloc(), fault)?,
+            Err(fault) => format!(in rt.alloc(); "{fault}")?,
         };
         assert_eq!(rt; found.as_str(), wanted, "{row}");
     }

@@ -1,5 +1,5 @@
 use Rattle.std.proofs.Common.{◌≡◌, drop}
-use Rattle.capture_generator.specs.Counts.{with_control}
+use Rattle.capture_generator.specs.Inner.Tally.{with_control}
 use Rattle.capture_generator.proofs.tally.Counts.take_control.Given as goal
 
 -- the counts so far, and the entries that are left

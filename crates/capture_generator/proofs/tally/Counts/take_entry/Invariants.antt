@@ -1,5 +1,5 @@
 use Rattle.std.proofs.Common.{◌≡◌, drop, fold}
-use Rattle.capture_generator.specs.Counts.{with_output}
+use Rattle.capture_generator.specs.Inner.Tally.{with_output}
 use Rattle.capture_generator.proofs.tally.Counts.take_entry.Given as goal
 
 -- the counts so far, and the outputs that are left

@@ -1,5 +1,5 @@
 use Rattle.std.proofs.Common.{◌≡◌, drop}
-use Rattle.capture_generator.specs.Counts.{with_lanes}
+use Rattle.capture_generator.specs.Inner.Tally.{with_lanes}
 use Rattle.capture_generator.proofs.tally.Counts.take_lanes.Given as goal
 
 -- the counts so far, and the journals that are left

@@ -1,0 +1,31 @@
+-- How the code counts: each number stays at the last one of its width.
+use Rattle.std.specs.Prelude.{◌+◌, List, fold}
+use Rattle.relay_base.specs.declared.words.Output.{Output}
+use Rattle.relay_base.specs.declared.words.Output.TheVariants.{Sent, Told, Lost}
+use Rattle.plant_core.specs.declared.entry.Entry.{Entry}
+use Rattle.plant_core.specs.declared.entry.ControlEntry.{ControlEntry}
+use Rattle.capture_generator.specs.Counts.{Totals, counted}
+use Rattle.capture_generator.specs.declared.tally.Counts.{Counts}
+
+abbrev pub all_counted : Totals → Counts
+all_counted t = record { entries = counted t.entries; sent = counted t.sent; told = counted t.told; lost = counted t.lost }
+
+-- one output more
+abbrev pub with_output : Counts → Output → Counts
+with_output c (Sent point sls bytes) = record c { sent = counted (c.sent + 1) }
+with_output c (Told ssn tell) = record c { told = counted (c.told + 1) }
+with_output c (Lost loss) = record c { lost = counted (c.lost + 1) }
+
+-- one entry more, with its outputs
+abbrev pub with_entry : Counts → List Output → Counts
+with_entry c outs = fold with_output (record c { entries = counted (c.entries + 1) }) outs
+
+-- the entries of a journal more, of the journal of the control lane, of the journals of lanes
+abbrev pub with_journal : Counts → List Entry → Counts
+with_journal c journal = fold (λ d e. with_entry d e.outs) c journal
+
+abbrev pub with_control : Counts → List ControlEntry → Counts
+with_control c journal = fold (λ d e. with_entry d e.outs) c journal
+
+abbrev pub with_lanes : Counts → List (List Entry) → Counts
+with_lanes c lanes = fold with_journal c lanes
