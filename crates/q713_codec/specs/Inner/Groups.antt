@@ -1,7 +1,6 @@
 -- The messages whose octets are copied, by their kind.
 use Rattle.std.specs.Prelude.{Bool, true, false}
-use Rattle.q713_codec.specs.declared.message.View.{View}
-use Rattle.q713_codec.specs.declared.message.View.TheVariants.{Cr, Cc, Cref, Rlsd, Dt1, Dt2, Udt, Udts, Ed, Xudt, Xudts, Ludt, Ludts}
+use Rattle.q713_codec.specs.Names.{View, Cr, Cc, Cref, Rlsd, Dt1, Dt2, Udt, Udts, Ed, Xudt, Xudts, Ludt, Ludts}
 
 abbrev pub is_unitdata : View → Bool
 is_unitdata (Udt _ _ _ _) = true
