@@ -2,7 +2,7 @@
 ghost use Rattle.std.specs.Prelude.{◌≡◌, length, IfOk, IsTrue, Ok};
 ghost use Rattle.q713_codec.specs.Reading.{reading_of};
 ghost use Rattle.q713_codec.specs.Writing.{spelling_of, is_in_range, InRange};
-ghost use Rattle.q713_codec.specs.Inner.Groups.{is_unitdata, is_extended, is_long, is_opening, is_ending, is_data, is_answer, is_check};
+ghost use Rattle.q713_codec.specs.Inner.Groups.{is_unitdata, is_extended, is_long, is_request, is_answer, is_data, is_fixed};
 ghost use Rattle.q713_codec.specs.Inner.Written.{IsWritten};
 
 use crate::message::Message;
@@ -58,61 +58,52 @@ fn long_written(message: &Message) -> Written<'_>
     }
 }
 
-/// CR or CC.
-fn opening_written(message: &Message) -> Written<'_>
-    requires { IsTrue (is_opening message.now) }
+/// CR.
+fn request_written(message: &Message) -> Written<'_>
+    requires { IsTrue (is_request message.now) }
     ensures { IsWritten result message.now }
 {
     written_by! { message;
         Cr { slr, class_octet; called, credit, calling, body, hop, importance } cr_written
-        Cc { dlr, slr, class_octet; credit, called, body, importance } cc_written
     }
 }
 
-/// CREF or RLSD.
-fn ending_written(message: &Message) -> Written<'_>
-    requires { IsTrue (is_ending message.now) }
+/// CC or CREF.
+fn answer_written(message: &Message) -> Written<'_>
+    requires { IsTrue (is_answer message.now) }
     ensures { IsWritten result message.now }
 {
     written_by! { message;
+        Cc { dlr, slr, class_octet; credit, called, body, importance } cc_written
         Cref { dlr, cause; called, body, importance } cref_written
-        Rlsd { dlr, slr, cause; body, importance } rlsd_written
     }
 }
 
-/// DT1, DT2 or ED.
+/// RLSD, DT1, DT2 or ED.
 fn data_written(message: &Message) -> Written<'_>
     requires { IsTrue (is_data message.now) }
     ensures { IsWritten result message.now }
 {
     written_by! { message;
+        Rlsd { dlr, slr, cause; body, importance } rlsd_written
         Dt1 { dlr, segmenting; body } dt1_written
         Dt2 { dlr, sequencing; body } dt2_written
         Ed { dlr; body } ed_written
     }
 }
 
-/// RLC, AK, EA or ERR.
-fn answer_written(message: &Message) -> Written<'_>
-    requires { IsTrue (is_answer message.now) }
+/// RLC, AK, EA, RSR, RSC, ERR or IT.
+fn fixed_written(message: &Message) -> Written<'_>
+    requires { IsTrue (is_fixed message.now) }
     ensures { IsWritten result message.now }
 {
     written_by! { message;
         Rlc { dlr, slr; } rlc_written
         Ak { dlr, receive, credit; } ak_written
         Ea { dlr; } ea_written
-        Err { dlr, cause; } err_written
-    }
-}
-
-/// RSR, RSC or IT.
-fn check_written(message: &Message) -> Written<'_>
-    requires { IsTrue (is_check message.now) }
-    ensures { IsWritten result message.now }
-{
-    written_by! { message;
         Rsr { dlr, slr, cause; } rsr_written
         Rsc { dlr, slr; } rsc_written
+        Err { dlr, cause; } err_written
         It { dlr, slr, class_octet, sequencing, credit; } it_written
     }
 }
@@ -125,12 +116,13 @@ fn written(message: &Message) -> Written<'_>
         Message::Udt { .. } | Message::Udts { .. } => unitdata_written(message),
         Message::Xudt { .. } | Message::Xudts { .. } => extended_written(message),
         Message::Ludt { .. } | Message::Ludts { .. } => long_written(message),
-        Message::Cr { .. } | Message::Cc { .. } => opening_written(message),
-        Message::Cref { .. } | Message::Rlsd { .. } => ending_written(message),
-        Message::Dt1 { .. } | Message::Dt2 { .. } | Message::Ed { .. } => data_written(message),
-        Message::Rlc { .. } | Message::Ak { .. } => answer_written(message),
-        Message::Ea { .. } | Message::Err { .. } => answer_written(message),
-        Message::Rsr { .. } | Message::Rsc { .. } | Message::It { .. } => check_written(message),
+        Message::Cr { .. } => request_written(message),
+        Message::Cc { .. } | Message::Cref { .. } => answer_written(message),
+        Message::Rlsd { .. } | Message::Ed { .. } => data_written(message),
+        Message::Dt1 { .. } | Message::Dt2 { .. } => data_written(message),
+        Message::Rlc { .. } | Message::Ak { .. } | Message::Ea { .. } => fixed_written(message),
+        Message::Rsr { .. } | Message::Rsc { .. } => fixed_written(message),
+        Message::Err { .. } | Message::It { .. } => fixed_written(message),
     }
 }
 

@@ -18,36 +18,32 @@ is_long (Ludt _ _ _ _ _ _ _) = true
 is_long (Ludts _ _ _ _ _ _ _) = true
 is_long _ = false
 
--- opens a connection
-abbrev pub is_opening : {O : Type 0} → MessageOf O → Bool
-is_opening (Cr _ _ _ _ _ _ _ _) = true
-is_opening (Cc _ _ _ _ _ _ _) = true
-is_opening _ = false
+-- asks for a connection
+abbrev pub is_request : {O : Type 0} → MessageOf O → Bool
+is_request (Cr _ _ _ _ _ _ _ _) = true
+is_request _ = false
 
--- refuses or releases one
-abbrev pub is_ending : {O : Type 0} → MessageOf O → Bool
-is_ending (Cref _ _ _ _ _) = true
-is_ending (Rlsd _ _ _ _ _) = true
-is_ending _ = false
+-- answers such a request
+abbrev pub is_answer : {O : Type 0} → MessageOf O → Bool
+is_answer (Cc _ _ _ _ _ _ _) = true
+is_answer (Cref _ _ _ _ _) = true
+is_answer _ = false
 
--- has data of a connection
+-- has data and no address
 abbrev pub is_data : {O : Type 0} → MessageOf O → Bool
+is_data (Rlsd _ _ _ _ _) = true
 is_data (Dt1 _ _ _) = true
 is_data (Dt2 _ _ _) = true
 is_data (Ed _ _) = true
 is_data _ = false
 
--- answers or refuses what the peer sent on a connection
-abbrev pub is_answer : {O : Type 0} → MessageOf O → Bool
-is_answer (Rlc _ _) = true
-is_answer (Ak _ _ _) = true
-is_answer (Ea _) = true
-is_answer (Error _ _) = true
-is_answer _ = false
-
--- resets a connection, or asks whether it is alive
-abbrev pub is_check : {O : Type 0} → MessageOf O → Bool
-is_check (Rsr _ _ _) = true
-is_check (Rsc _ _) = true
-is_check (It _ _ _ _ _) = true
-is_check _ = false
+-- has nothing beside its fixed part
+abbrev pub is_fixed : {O : Type 0} → MessageOf O → Bool
+is_fixed (Rlc _ _) = true
+is_fixed (Ak _ _ _) = true
+is_fixed (Ea _) = true
+is_fixed (Rsr _ _ _) = true
+is_fixed (Rsc _ _) = true
+is_fixed (Error _ _) = true
+is_fixed (It _ _ _ _ _) = true
+is_fixed _ = false
