@@ -31,6 +31,8 @@ pub struct Slots {
 
 impl Model for Slots {
     ghost use Rattle.std.specs.Prelude.{◌≡◌, ◌≤◌, ◌<◌, length};
+    ghost use Rattle.relay_base.specs.declared.limits.TheConstants.{MOST_LANES, SLOTS};
+    ghost use Rattle.local_refs.specs.declared.state.TheConstants.{LONGEST};
     ghost use Rattle.local_refs.specs.Slots.{LaneSlots};
     ghost use Rattle.local_refs.specs.Inner.Swept.{swept_all, soonest_in, AreTaken};
 
