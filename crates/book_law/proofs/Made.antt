@@ -8,7 +8,7 @@ use Rattle.plant_core.specs.declared.entry.ControlEvent.{ControlEvent}
 use Rattle.plant_core.specs.declared.entry.ControlEvent.TheVariants.{Plain}
 use Rattle.q713_shape.specs.Format.{Values}
 use Rattle.q713_shape.specs.Reading.{value_at, variable_at, variables_at, options_in, options_at, values_of}
-use Rattle.q713_codec.specs.declared.message.Message.{Message}
+use Rattle.q713_codec.specs.Names.{Message}
 use Rattle.q713_codec.specs.Longest.{is_too_long}
 use Rattle.q713_codec.specs.Formats.{cr_format, dt1_format}
 use Rattle.q713_codec.specs.Messages.{cr_of, dt1_of}

@@ -3,6 +3,7 @@ use Rattle.std.proofs.Common.{◌≡◌, ◌∙◌, ℕ, zero, suc, ◌+◌, ◌
 use Rattle.std.proofs.lemmas.List.Concat.{flat_map-append}
 use Rattle.std.specs.List.{AllByRecursion, IsDistinct}
 use Rattle.plant_core.specs.Terms.{AreTicks}
+use Rattle.plant_core.specs.declared.terms.TheConstants.{USUAL_TICKS}
 use Rattle.node_head.specs.Ranges.{AreNumbers, AreReplicates, IsHead}
 use Rattle.relay_base.specs.declared.words.Event.{Event}
 use Rattle.relay_base.specs.declared.words.Event.TheVariants.{Asked}
@@ -11,7 +12,7 @@ use Rattle.plant_core.specs.declared.entry.ControlEvent.{ControlEvent}
 use Rattle.plant_core.specs.declared.entry.ControlEvent.TheVariants.{Plain}
 use Rattle.capture_form.specs.Events.{Stamped, phase_events, all_events, AreOfLinks, AreOfPhases}
 use Rattle.capture_form.specs.Links.{comes_on_link, AreOnLinks, AreLinked}
-use Rattle.capture_generator.specs.Generator.{usual_ticks, generator_head, Phases, number_after, reference_at, unit_octets, request_octets, data_octets, message_at, event_of_kind, stamped_at, events_after, block_phase, tick_phase, whole_blocks, phases_after}
+use Rattle.capture_generator.specs.Generator.{generator_head, Phases, number_after, reference_at, unit_octets, request_octets, data_octets, message_at, event_of_kind, stamped_at, events_after, block_phase, tick_phase, whole_blocks, phases_after}
 
 pub all-append : {A : Type 0} (P : A → Type 0) (xs ys : List A) → AllByRecursion P xs → AllByRecursion P ys → AllByRecursion P (xs ++ ys)
 all-append P [] ys f g = g
@@ -34,7 +35,7 @@ head-replicates : AreReplicates 1 (8 ∷ []) []
 unfolding IsDistinct
 head-replicates = record { each = tt; distinct = tt }
 
-ticks-within : AreTicks usual_ticks
+ticks-within : AreTicks USUAL_TICKS
 ticks-within = record {
   connect = (omega arith, omega arith);
   ias = (omega arith, omega arith);

@@ -1,33 +1,20 @@
 -- The capture of the generator: a fixed head, and events that a sequence of numbers picks.
 use Rattle.std.specs.Prelude.{ℕ, zero, suc, ◌+◌, ◌*◌, ◌/◌, ◌%◌, ◌==◌, List, [], ◌∷◌, ◌++◌, if◌then◌else◌}
+use Rattle.relay_base.specs.declared.limits.TheConstants.{LINK_SELECTIONS}
+use Rattle.relay_base.specs.References.{reference_of_slot}
 use Rattle.relay_base.specs.declared.words.Event.{Event}
 use Rattle.relay_base.specs.declared.words.Event.TheVariants.{Message as Arrived, Asked, Tick}
 use Rattle.relay_base.specs.declared.words.Request.TheVariants.{Accept}
 use Rattle.relay_base.specs.declared.words.Stamp.{Stamp}
 use Rattle.plant_core.specs.declared.entry.ControlEvent.{ControlEvent}
 use Rattle.plant_core.specs.declared.entry.ControlEvent.TheVariants.{Plain}
-use Rattle.plant_core.specs.declared.terms.Ticks.{Ticks}
+use Rattle.plant_core.specs.declared.terms.TheConstants.{USUAL_TICKS}
+use Rattle.q713_codec.specs.Messages.{octets3}
 use Rattle.node_head.specs.declared.head.Head.{Head}
 use Rattle.capture_form.specs.Events.{Stamped}
 use Rattle.capture_form.specs.declared.capture.Capture.{Capture}
 
 -- ---- the head: five lines with its mark, so that the events begin at line 6
-
-abbrev pub usual_ticks : Ticks
-usual_ticks = record {
-  connect = 90;
-  ias = 420;
-  iar = 900;
-  rel = 15;
-  repeat = 15;
-  int = 60;
-  reset = 15;
-  reassembly = 15;
-  freeze = 60;
-  status = 30;
-  status_max = 600;
-  coord = 90;
-}
 
 abbrev pub generator_head : Head
 generator_head = record {
@@ -38,7 +25,7 @@ generator_head = record {
   links = 1;
   credit = 7;
   concerned = [];
-  timers = usual_ticks;
+  timers = USUAL_TICKS;
   row = [];
   replicate = [];
 }
@@ -55,13 +42,9 @@ number_after x (suc n) = next_number (number_after x n)
 
 -- ---- the event of line i, from 0
 
--- the three octets of a reference, the least one first
-abbrev pub reference_octets : ℕ → List ℕ
-reference_octets n = n % 256 ∷ n / 256 % 256 ∷ n / 65536 ∷ []
-
 -- the reference that line i names: one of the first hundred slots of a lane
 abbrev pub reference_at : ℕ → ℕ
-reference_at i = 16 * (1 + i % 100) + i % 4
+reference_at i = reference_of_slot (i % 4) (1 + i % 100)
 
 -- a UDT to subsystem 8, with one octet of data
 abbrev pub unit_octets : List ℕ
@@ -69,15 +52,15 @@ unit_octets = 9 ∷ 0 ∷ 3 ∷ 5 ∷ 7 ∷ 2 ∷ 66 ∷ 8 ∷ 2 ∷ 66 ∷ 6 �
 
 -- a CR of class 2 to subsystem 8, with nothing optional
 abbrev pub request_octets : ℕ → List ℕ
-request_octets source = 1 ∷ reference_octets source ++ 2 ∷ 2 ∷ 0 ∷ 2 ∷ 66 ∷ 8 ∷ []
+request_octets source = 1 ∷ octets3 source ++ 2 ∷ 2 ∷ 0 ∷ 2 ∷ 66 ∷ 8 ∷ []
 
 -- a DT1 without more data, of one octet
 abbrev pub data_octets : ℕ → ℕ → List ℕ
-data_octets destination octet = 6 ∷ reference_octets destination ++ 0 ∷ 1 ∷ 1 ∷ octet ∷ []
+data_octets destination octet = 6 ∷ octets3 destination ++ 0 ∷ 1 ∷ 1 ∷ octet ∷ []
 
 -- a message from point 2
 abbrev pub message_at : ℕ → List ℕ → Event
-message_at i octets = Arrived 2 (i % 16) octets
+message_at i octets = Arrived 2 (i % LINK_SELECTIONS) octets
 
 -- by the kind 0 to 3: a UDT, a CR, an acceptance, a DT1
 abbrev pub event_of_kind : ℕ → ℕ → Event

@@ -1,8 +1,10 @@
 //! The events of the generator's lines.
 ghost use Rattle.std.specs.Prelude.{◌≡◌, ◌<◌, ◌≤◌, IfOk};
-ghost use Rattle.capture_generator.specs.Generator.{next_number, reference_octets, reference_at, unit_octets, request_octets, data_octets, message_at, event_of_kind, event_at, stamp_at, stamped_at};
+ghost use Rattle.capture_generator.specs.Generator.{next_number, reference_at, unit_octets, request_octets, data_octets, message_at, event_of_kind, event_at, stamp_at, stamped_at};
 
 use plant_core::ControlEvent;
+use q713_codec::octets3;
+use relay_base::limits::{LINK_SELECTIONS, MOST_LANES};
 use relay_base::{Event, Memory, Octets, Pc, Ref24, Request, Sls, Ssn, Stamp};
 use std::alloc::Global;
 
@@ -16,24 +18,11 @@ pub fn next_number(x: u32) -> u32
     ((1_103_515_245 * u64::from(x) + 12_345) % 2_147_483_648) as u32
 }
 
-/// The octets of a reference, the least one first.
-fn reference_octets(reference: u32) -> [u8; 3]
-    requires { reference < 16777216 }
-    ensures { result ≡ reference_octets reference }
-{
-    [
-        (reference % 256) as u8,
-        (reference / 256 % 256) as u8,
-        (reference / 65_536) as u8,
-    ]
-}
-
 /// The reference that a line names: one of the first hundred slots of a lane.
-fn reference_at(line: u32) -> u32
-    ensures value { result ≡ reference_at line }
-    ensures range { result < 16777216 }
+fn reference_at(line: u32) -> Ref24
+    ensures { result ≡ reference_at line }
 {
-    16 * (1 + line % 100) + line % 4
+    Ref24::new((1 + line % 100) * u32::from(MOST_LANES) + line % 4).unwrap()
 }
 
 /// A UDT to subsystem 8, with one octet of data.
@@ -45,21 +34,19 @@ fn unit_octets(alloc: Global) -> Result<Octets, Memory>
 }
 
 /// A CR of class 2 to subsystem 8, with nothing optional.
-fn request_octets(alloc: Global, source: u32) -> Result<Octets, Memory>
-    requires { source < 16777216 }
+fn request_octets(alloc: Global, source: Ref24) -> Result<Octets, Memory>
     ensures { IfOk result (λ octets. octets ≡ request_octets source) }
 {
-    let [low, middle, high] = reference_octets(source);
+    let [low, middle, high] = octets3(source);
     let octets = [1, low, middle, high, 2, 2, 0, 2, 0x42, 8];
     Octets::from_slice(alloc, octets.as_slice())
 }
 
 /// A DT1 without more data, of one octet.
-fn data_octets(alloc: Global, destination: u32, octet: u8) -> Result<Octets, Memory>
-    requires { destination < 16777216 }
+fn data_octets(alloc: Global, destination: Ref24, octet: u8) -> Result<Octets, Memory>
     ensures { IfOk result (λ octets. octets ≡ data_octets destination octet) }
 {
-    let [low, middle, high] = reference_octets(destination);
+    let [low, middle, high] = octets3(destination);
     let octets = [6, low, middle, high, 0, 1, 1, octet];
     Octets::from_slice(alloc, octets.as_slice())
 }
@@ -70,7 +57,7 @@ fn message_at(line: u32, bytes: Octets) -> Event
 {
     Event::Message {
         opc: Pc::new(2).unwrap(),
-        sls: Sls::new(line % 16).unwrap(),
+        sls: Sls::new(line % LINK_SELECTIONS).unwrap(),
         bytes,
     }
 }
@@ -82,7 +69,7 @@ fn acceptance_at(alloc: Global, line: u32) -> Event
     Event::Asked {
         ssn: Ssn::from(8),
         request: Request::Accept {
-            mine: Ref24::new(reference_at(line)).unwrap(),
+            mine: reference_at(line),
             class: 2,
             credit: 0,
             body: Octets::new(alloc),
@@ -97,7 +84,7 @@ fn event_of_kind(alloc: Global, kind: u32, line: u32) -> Result<Event, Memory>
 {
     let octets = match kind {
         0 => unit_octets(alloc)?,
-        1 => request_octets(alloc, line + 1)?,
+        1 => request_octets(alloc, Ref24::new(line + 1).unwrap())?,
         2 => return Ok(acceptance_at(alloc, line)),
         _ => data_octets(alloc, reference_at(line), (line % 256) as u8)?,
     };

@@ -5,34 +5,14 @@ ghost use Rattle.node_head.specs.Ranges.{IsHead};
 ghost use Rattle.capture_form.specs.Events.{all_events, IsStamped};
 ghost use Rattle.capture_form.specs.Links.{AreLinked};
 ghost use Rattle.capture_form.specs.declared.steps.TheConstants.{MOST_LINES};
-ghost use Rattle.capture_generator.specs.Generator.{usual_ticks, generator_head, generated_capture};
+ghost use Rattle.capture_generator.specs.Generator.{generator_head, generated_capture};
 
 use crate::blocks::phases_after;
 use capture_form::Capture;
 use node_head::{Head, RowList};
-use plant_core::{ReplicateList, Ticks};
+use plant_core::{ReplicateList, USUAL_TICKS};
 use relay_base::{Memory, Pc, PcList, Ssn, SsnList};
 use std::alloc::Global;
-
-/// The timers of a head that states none.
-fn usual_ticks() -> Ticks
-    ensures { result ≡ usual_ticks }
-{
-    Ticks {
-        connect: 90,
-        ias: 420,
-        iar: 900,
-        rel: 15,
-        repeat: 15,
-        int: 60,
-        reset: 15,
-        reassembly: 15,
-        freeze: 60,
-        status: 30,
-        status_max: 600,
-        coord: 90,
-    }
-}
 
 /// The head: point 1, user 8, four lanes of each kind.
 fn generator_head(alloc: Global) -> Result<Head, Memory>
@@ -48,7 +28,7 @@ fn generator_head(alloc: Global) -> Result<Head, Memory>
         links: 1,
         credit: 7,
         concerned: PcList::new(alloc),
-        timers: usual_ticks(),
+        timers: USUAL_TICKS,
         row: RowList::new(alloc),
         replicate: ReplicateList::new(alloc),
     })

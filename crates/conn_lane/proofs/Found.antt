@@ -9,7 +9,8 @@ use Rattle.relay_base.specs.declared.words.Event.{Event}
 use Rattle.relay_base.specs.declared.words.Event.TheVariants.{Message as Arrived, Asked as Requested, Tick}
 use Rattle.relay_base.specs.declared.words.Output.{Output}
 use Rattle.section_model.specs.Step.{hears, connection_step}
-use Rattle.section_model.specs.Lane.{is_tick, slot_of}
+use Rattle.relay_base.specs.References.{slot_of}
+use Rattle.section_model.specs.Lane.{is_tick}
 use Rattle.section_coupling.specs.Duos.{DuoState, duo_at, taken_after}
 use Rattle.conn_lane.specs.Inner.Remnants.{Remnant, takes_slot, part_at, first_part, remnant_after, has_freed}
 use Rattle.conn_lane.specs.Inner.Index.{place_at, IsIndexOf}

@@ -3,7 +3,8 @@ use Rattle.std.proofs.Common.{◌≡◌, ℕ, ◌-◌, ◌==◌, ◌&&◌, ◌||
 use Rattle.std.specs.List.{list_any, range_with_len}
 use Rattle.std.proofs.lemmas.Bool.{cases_Bool, ltb-true, ltb-false, eq-eqb, ne_eqb}
 use Rattle.plant_core.specs.declared.terms.Ticks.{Ticks}
-use Rattle.section_model.specs.Lane.{Lane, Opening, gone_for, reference_of, slot_of, is_at, is_kept_by, holds, is_held, lowest_free, enough}
+use Rattle.relay_base.specs.References.{slot_of}
+use Rattle.section_model.specs.Lane.{Lane, Opening, gone_for, reference_of, is_at, is_kept_by, holds, is_held, lowest_free, enough}
 use Rattle.conn_lane.specs.Inner.Remnants.{remnant_of, takes_slot, sits, seat_by, is_frozen_out, frozen_by, lowest_in}
 
 left_over : (freeze count : ℕ) → nat_lt count freeze ≡ not (freeze - count == 0)

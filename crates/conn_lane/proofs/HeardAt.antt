@@ -12,7 +12,8 @@ use Rattle.relay_base.specs.declared.words.Event.TheVariants.{Message as Arrived
 use Rattle.relay_base.specs.declared.words.Output.{Output}
 use Rattle.section_model.specs.Ends.{End, wire, owner, Connection, is_gone}
 use Rattle.section_model.specs.Step.{connection_step, hears, names, named, is_named, is_in_range, end_is_gone}
-use Rattle.section_model.specs.Lane.{fed, next, slot_of, is_tick}
+use Rattle.relay_base.specs.References.{slot_of}
+use Rattle.section_model.specs.Lane.{fed, next, is_tick}
 use Rattle.conn_lane.specs.Inner.Remnants.{Live, Seat, Remnant, live_of, ticks_in, left_after, seat_after, remnant_after, part_at, first_of, first_part, is_frozen_out, sits, takes_slot}
 use Rattle.conn_lane.specs.Inner.Seated.{SeatIs, AreSeated, IsOn, IsInLane, IsSeated, AreApart, AreOrderly, reference_in}
 use Rattle.conn_lane.proofs.Seated.{kept_as}

@@ -11,7 +11,8 @@ use Rattle.relay_base.specs.declared.words.Event.{Event}
 use Rattle.conn_lane.specs.declared.kept.Hold.{Hold}
 use Rattle.conn_lane.specs.Inner.Remnants.{Seat, Live, Remnant, ticks_in, sits, takes_slot, is_frozen_out, holds_out, left_after, seat_after, remnant_after, is_freed, has_freed}
 use Rattle.section_model.specs.Step.{end_is_gone}
-use Rattle.section_model.specs.Lane.{fed, slot_of}
+use Rattle.relay_base.specs.References.{slot_of}
+use Rattle.section_model.specs.Lane.{fed}
 use Rattle.conn_lane.specs.Inner.Views.{KeptOpeningState, seat_at, remnant_at, remnants_at}
 use Rattle.conn_lane.specs.Inner.Index.{place_at, slot_held, marked, IsIndexOf, is_marked, unmarked}
 

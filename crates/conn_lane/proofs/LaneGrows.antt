@@ -17,7 +17,7 @@ use Rattle.section_model.specs.Ends.{Connection}
 use Rattle.section_model.specs.Laws.{openings_from}
 use Rattle.section_model.specs.Opening.{Wish, by_cr, by_user, no_wish, wish_of, question_of, slots_needed, opened, Opened}
 use Rattle.section_model.specs.Lane.{Lane, Opening, with_event, opening_of, opening_list, openings_after, legal_outputs, other_outputs, outputs_by, answer_of, IsLegalEntry, stray_answer, is_tick}
-use Rattle.section_model.proofs.Growing.{grows}
+use Rattle.journal_law.proofs.Splitting.{splits}
 use Rattle.plant_core.specs.declared.terms.Ticks.{Ticks}
 use Rattle.section_coupling.specs.Duos.{DuoState, duo_at, taken_after}
 use Rattle.section_coupling.specs.Openings.{is_wish, IsAnswered}
@@ -114,7 +114,7 @@ lane_grows plant head number journal before after entry lane more =
     let legal : IsLegalEntry (lane_of head number) openings entry =
     record { routed = ap is_some more.asked ∙ routed plant.edition plant.routing (question_of wish); outputs = outs } in
     record {
-      legal = grows (lane_of head number) journal entry lane.legal legal;
+      legal = (splits (lane_of head number) [] journal (entry ∷ [])).1 (lane.legal, (legal, tt));
       keeps = record {
         keeps =
             more.keeps

@@ -6,7 +6,8 @@ use Rattle.std.proofs.lemmas.Iterator.Adapters.{position_from-zero}
 use Rattle.std.specs.List.{list_any, range_with_len, position_from}
 use Rattle.std.proofs.lemmas.List.{take-append-le, map-append, length-map, get_or_default}
 use Rattle.std.proofs.lemmas.List.Elements.{filter-append}
-use Rattle.section_model.specs.Lane.{Lane, reference_at, enough}
+use Rattle.relay_base.specs.References.{reference_of_slot}
+use Rattle.section_model.specs.Lane.{Lane, enough}
 use Rattle.conn_lane.specs.Inner.Remnants.{Remnant, takes_slot}
 use Rattle.conn_lane.specs.Inner.Index.{marked, IsIndexOf, is_marked, unmarked, lowest_unmarked}
 
@@ -136,7 +137,7 @@ lowest_alike : (n count : ℕ) (lane : Lane) (keeps : List Remnant) (places : Li
     → (if length (lowest_unmarked places lane.number count n) == count then lowest_unmarked places lane.number count n else [])
     ≡ enough lane count (take count (filter (λ slot. not (list_any (takes_slot slot) keeps)) (range_with_len 1 n)))
 lowest_alike n count lane keeps places index small =
-    ap (λ k. if k == count then lowest_unmarked places lane.number count n else []) (length-map (take count (unmarked places n)) (reference_at lane))
+    ap (λ k. if k == count then lowest_unmarked places lane.number count n else []) (length-map (take count (unmarked places n)) (reference_of_slot lane.number))
     ∙ ap (λ xs. enough lane count (take count xs)) (free_alike n keeps places index small)
 
 lowest_tested : (n count number : ℕ) (lane : Lane) (keeps : List Remnant) (places : List (Option ℕ)) (lowest : List ℕ) (b : Bool) → IsIndexOf keeps places → n < 4096

@@ -9,7 +9,8 @@ use Rattle.relay_base.specs.declared.words.Event.{Event}
 use Rattle.relay_base.specs.declared.words.Event.TheVariants.{Message as Arrived, Asked as Requested, Tick}
 use Rattle.plant_core.specs.declared.answer.Answer.{Answer}
 use Rattle.section_model.specs.Opening.{Wish, by_cr, by_user, no_wish, slots_needed, opened}
-use Rattle.section_model.specs.Lane.{Lane, slot_of, enough, stray_answer}
+use Rattle.relay_base.specs.References.{slot_of}
+use Rattle.section_model.specs.Lane.{Lane, enough, stray_answer}
 use Rattle.conn_lane.specs.Inner.Remnants.{Seat}
 use Rattle.conn_lane.specs.Inner.Remnants.{Live, Remnant, ticks_in, seat_after, remnant_after, part_at, first_of, first_part, or_none, all_parts, sits, takes_slot, lowest_in, holds_out, is_needed, needed}
 use Rattle.conn_lane.specs.Inner.Views.{KeptOpeningState, remnant_at, remnants_at}

@@ -10,7 +10,8 @@ use Rattle.plant_core.specs.declared.terms.Ticks.{Ticks}
 use Rattle.section_model.specs.Ends.{End, Connection}
 use Rattle.section_model.specs.Opening.{Wish, slots_needed}
 use Rattle.section_model.specs.Step.{end_is_gone}
-use Rattle.section_model.specs.Lane.{Lane, heard, follow, gone_for, reference_of, slot_of, reference_at}
+use Rattle.relay_base.specs.References.{slot_of, reference_of_slot}
+use Rattle.section_model.specs.Lane.{Lane, heard, follow, gone_for, reference_of}
 use Rattle.hearing_law.proofs.Opened.{EndsAre, AreAmong, opened_among}
 use Rattle.conn_lane.specs.Inner.Remnants.{Remnant, frozen_by, seat_by, remnant_of, remnant_after, sits, takes_slot, is_frozen_out, free_in, lowest_in, needed}
 use Rattle.conn_lane.specs.Inner.Seated.{SeatIs, IsInLane, IsSeated, AreOrderly}
@@ -41,9 +42,9 @@ free_slots keeps = λ k d within.
       free = not-true (list_any (takes_slot (get_or (free_in keeps) k d)) keeps) (filter_passes (λ slot. not (list_any (takes_slot slot) keeps)) (range_with_len 1 4095) k d within);
     }
 
-free_reference : (lane : Lane) (keeps : List Remnant) (slot : ℕ) → lane.number < 16 → IsFreeSlot keeps slot → IsFree keeps (reference_at lane slot)
+free_reference : (lane : Lane) (keeps : List Remnant) (slot : ℕ) → lane.number < 16 → IsFreeSlot keeps slot → IsFree keeps (reference_of_slot lane.number slot)
 free_reference lane keeps slot within is =
-    let same : slot ≡ slot_of (reference_at lane slot) = sym (div-mul-add slot 16 lane.number within) in
+    let same : slot ≡ slot_of (reference_of_slot lane.number slot) = sym (div-mul-add slot 16 lane.number within) in
     record { in_lane = subst (λ s. s < 4096) same is.below; free = subst (λ s. list_any (takes_slot s) keeps ≡ false) same is.free }
 
 lowest_free : (lane : Lane) (keeps : List Remnant) (count : ℕ) → lane.number < 16 → All (IsFree keeps) (lowest_in lane keeps count)
@@ -52,10 +53,10 @@ lowest_free lane keeps count within = by_test (length free == count)
     free : List ℕ
     free = take count (free_in keeps)
 
-    by_test : (b : Bool) → All (IsFree keeps) (if b then map (reference_at lane) free else [])
+    by_test : (b : Bool) → All (IsFree keeps) (if b then map (reference_of_slot lane.number) free else [])
     by_test true =
-        All-map (IsFree keeps) (reference_at lane) free
-        (All-weaker (IsFreeSlot keeps) (λ slot. IsFree keeps (reference_at lane slot)) (λ slot is. free_reference lane keeps slot within is) free
+        All-map (IsFree keeps) (reference_of_slot lane.number) free
+        (All-weaker (IsFreeSlot keeps) (λ slot. IsFree keeps (reference_of_slot lane.number slot)) (λ slot is. free_reference lane keeps slot within is) free
         (All-take (IsFreeSlot keeps) count (free_in keeps) (free_slots keeps)))
     by_test false = All-nil (IsFree keeps)
 

@@ -1,11 +1,13 @@
 //! The index of the local references of a lane, and those that are free (Q.714, 3.3.2).
 ghost use Rattle.std.specs.Prelude.{◌≡◌, ℕ, ◌<◌, ◌*◌, ◌+◌, replicate, List, None, IfOk, IfSome, option_map};
-ghost use Rattle.section_model.specs.Lane.{Lane, slot_of};
+ghost use Rattle.relay_base.specs.References.{slot_of};
+ghost use Rattle.section_model.specs.Lane.{Lane};
 ghost use Rattle.conn_lane.specs.Inner.Remnants.{Remnant, sits, takes_slot, lowest_in};
 ghost use Rattle.conn_lane.specs.Inner.Index.{place_at, marked, slot_held, lowest_unmarked, IsIndexOf};
 ghost use Rattle.conn_lane.specs.Inner.Views.{seat_at, remnant_at, remnants_at};
 
 use crate::kept::{Hold, KeptOpening};
+use relay_base::limits::{MOST_LANES, SLOTS};
 use relay_base::{Memory, PlainList, Ref24};
 use std::alloc::Global;
 use std::marker::Model;
@@ -14,10 +16,10 @@ use std::marker::Model;
 pub type RefList = PlainList<Ref24>;
 
 /// How many slots a lane has. Slot 0 is never taken for a new connection.
-const SLOT_COUNT: usize = 4096;
+const SLOT_COUNT: usize = SLOTS as usize + 1;
 
 /// How many lanes share a slot: each number of a lane has one local reference in it.
-const LANE_COUNT: u32 = 16;
+const LANE_COUNT: u32 = MOST_LANES as u32;
 
 /// For each slot the place of the opening that takes it, if one does; and a slot below which none is free.
 #[derive(Drop)]

@@ -2,6 +2,7 @@
 ghost use Rattle.std.specs.Prelude.{◌≡◌, ◌≤◌, ◌<◌, ◌^◌, ◌++◌, [], length, map, true, false, IfOk, IfSome, OnOk, OnErr};
 ghost use Rattle.plant_core.specs.declared.terms.Terms.{Terms};
 ghost use Rattle.std.specs.Option.{option_map};
+ghost use Rattle.relay_base.specs.declared.limits.TheConstants.{MOST_LANES};
 ghost use Rattle.plant_core.specs.Asking.{answer_in};
 ghost use Rattle.section_model.specs.Opening.{wish_of, question_of, slots_needed};
 ghost use Rattle.relay_base.specs.declared.words.Event.TheVariants.{Tick};
@@ -140,7 +141,7 @@ impl Context {
         openings: &Openings,
     ) -> Result<Begun, Memory>
         requires taken { openings.now.taken ≤ 4_294_967_295 }
-        requires number { self.now.number < 16 }
+        requires number { self.now.number < MOST_LANES }
         requires credit { IsCredit self.now.head.terms.credit }
         requires answered { let wish = wish_of self.now.head.terms event.now in
             IsAnswered wish (answer_in asked.now) }
@@ -171,7 +172,7 @@ impl Context {
     /// A CR, or a user's request for a connection.
     fn open(&self, plant: &Plant, event: &Event, openings: Openings) -> Result<Turn, Memory>
         requires taken { openings.taken ≤ 4_294_967_295 }
-        requires number { self.now.number < 16 }
+        requires number { self.now.number < MOST_LANES }
         requires credit { IsCredit self.now.head.terms.credit }
         requires wish { is_wish (wish_of self.now.head.terms event.now) ≡ true }
         ensures { IfOk result (λ turn. TurnsInto plant.now self.now event.now openings turn) }
@@ -218,7 +219,7 @@ impl Context {
     /// What comes of an event.
     fn turn(&self, plant: &Plant, event: &Event, openings: Openings) -> Result<Turn, Memory>
         requires taken { openings.taken ≤ 4_294_967_295 }
-        requires number { self.now.number < 16 }
+        requires number { self.now.number < MOST_LANES }
         requires credit { IsCredit self.now.head.terms.credit }
         ensures { IfOk result (λ turn. TurnsInto plant.now self.now event.now openings turn) }
     {
@@ -240,7 +241,7 @@ impl Context {
         openings: Openings,
     ) -> Result<(Openings, Entry), Memory>
         requires taken { openings.taken ≤ 4_294_967_295 }
-        requires number { self.now.number < 16 }
+        requires number { self.now.number < MOST_LANES }
         requires credit { IsCredit self.now.head.terms.credit }
         ensures grows { IfOk result (λ r.
             Grows plant.now self.now.head self.now.number openings r.0 r.1) }
@@ -269,7 +270,7 @@ impl ConnLane {
 
     /// The connection lane of this number, 0 to 15, before its first event. The greatest credit of its head is 127 at most.
     pub fn new(alloc: Global, head: &LaneHead, number: u8) -> Result<ConnLane, Memory>
-        requires number { number < 16 }
+        requires number { number < MOST_LANES }
         requires credit { IsCredit head.now.terms.credit }
         ensures { IfOk result (λ lane. lane ≡
             record { head = head.now; number = number; journal = [] }) }

@@ -1,6 +1,7 @@
 //! The openings of a lane that are needed yet, and the index of their local references.
 ghost use Rattle.std.specs.Prelude.{◌≡◌, ◌≤◌, ◌<◌, ◌+◌, ◌++◌, [], All, map, false, Some, IfOk};
 ghost use Rattle.relay_base.specs.declared.words.Event.TheVariants.{Tick};
+ghost use Rattle.relay_base.specs.declared.limits.TheConstants.{MOST_LANES};
 ghost use Rattle.section_model.specs.Lane.{Lane, is_tick};
 ghost use Rattle.conn_lane.specs.Inner.Remnants.{remnant_after, first_part, all_parts, lowest_in, needed};
 ghost use Rattle.conn_lane.specs.Inner.Seated.{IsSeated, AreOrderly, reference_in};
@@ -185,7 +186,7 @@ impl Openings {
 
     /// The local references of so many lowest free slots, in the lane of this number, or none where there are too few.
     pub fn lowest_free(&self, number: u8, count: u8) -> Result<RefList, Memory>
-        requires { number < 16 }
+        requires { number < MOST_LANES }
         ensures { (lane : Lane) → lane.number ≡ number →
             IfOk result (λ refs. refs ≡ lowest_in lane self.now.keeps count) }
     {

@@ -2,7 +2,7 @@
 use Rattle.std.proofs.Common.{◌≡◌, refl, subst}
 use Rattle.std.specs.Prelude.{Option, Some, IsOk, IsSome, IfSome}
 use Rattle.sccp_address.specs.Parsing.{address_of}
-use Rattle.q713_codec.specs.declared.message.Message.{Message}
+use Rattle.q713_codec.specs.Names.{Message}
 use Rattle.connectionless.specs.Unitdata.{Unitdata, unitdata_of}
 use Rattle.connectionless.specs.Calls.{IsRoutable}
 

@@ -14,7 +14,7 @@ use Rattle.sccp_address.specs.declared.address.AddressFault.{AddressFault}
 use Rattle.plant_core.specs.declared.answer.Origin.TheVariants.{Network, User as FromUser}
 use Rattle.plant_core.specs.Asking.{Question}
 use Rattle.q713_codec.specs.Longest.{is_too_long}
-use Rattle.q713_codec.specs.declared.message.Message.{Message}
+use Rattle.q713_codec.specs.Names.{Message}
 use Rattle.q713_codec.specs.Reading.{reading_of}
 use Rattle.connectionless.specs.Unitdata.{Unitdata, unitdata_of, class_of}
 use Rattle.connectionless.specs.Given.{Given, given_of}

@@ -10,7 +10,7 @@ use Rattle.sccp_address.specs.declared.address.AddressFault.{AddressFault}
 use Rattle.plant_core.specs.declared.answer.Origin.TheVariants.{User as FromUser}
 use Rattle.plant_core.specs.declared.answer.Answer.{Answer}
 use Rattle.plant_core.specs.Asking.{Question}
-use Rattle.q713_codec.specs.declared.message.Message.{Message}
+use Rattle.q713_codec.specs.Names.{Message}
 use Rattle.connectionless.specs.Unitdata.{Unitdata, unitdata_of}
 use Rattle.connectionless.specs.Given.{Given, Sending, is_unit_request, given_outcome}
 use Rattle.connectionless.specs.Routed.{Outcome, done, unit_outcome}

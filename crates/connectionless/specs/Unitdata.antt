@@ -1,6 +1,7 @@
 -- The six messages of the connectionless service (Q.713, 4.10, 4.11 and 4.18 to 4.21), as one record of their parameters.
-use Rattle.std.specs.Prelude.{ℕ, ◌%◌, Bool, true, false, List, Option, Some, None, unwrap_or}
-use Rattle.q713_codec.specs.declared.message.Message.{Message}
+use Rattle.std.specs.Prelude.{ℕ, Bool, true, false, List, Option, Some, None, unwrap_or}
+use Rattle.q713_codec.specs.Names.{Message}
+use Rattle.q713_codec.specs.Messages.{protocol_class}
 use Rattle.q713_codec.specs.declared.message.Message.TheVariants.{Udt, Udts, Xudt, Xudts, Ludt, Ludts}
 use Rattle.connectionless.specs.declared.unitdata.Kind.{Kind}
 use Rattle.connectionless.specs.declared.unitdata.Kind.TheVariants.{Basic, Extended, Long}
@@ -66,6 +67,6 @@ message_by Long true x = Ludts x.first (unwrap_or x.hop 0) x.called x.calling x.
 unfoldable pub message_of : Unitdata → Message
 message_of x = message_by x.kind x.is_service x
 
--- the low four bits of a class octet (Q.713, 3.6)
+-- the class of a unit
 abbrev pub class_of : Unitdata → ℕ
-class_of x = x.first % 16
+class_of x = protocol_class x.first

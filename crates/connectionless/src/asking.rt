@@ -14,7 +14,7 @@ ghost use Rattle.plant_core.specs.Asking.{seen_ask};
 use crate::given::is_unit_request;
 use crate::unitdata::{UnitView, unit_of};
 use plant_core::{Ask, Origin};
-use q713_codec::{View, is_too_long, read};
+use q713_codec::{View, is_too_long, protocol_class, read};
 use relay_base::{Lost, Request};
 use sccp_address::parse;
 
@@ -26,7 +26,7 @@ fn asked<'a>(unit: &UnitView<'a>) -> Result<Ask<'a>, Lost>
 {
     match parse(unit.called) {
         Err(_) => Err(Lost::Address),
-        Ok(_) if !unit.is_service && unit.first % 16 > 1 => Err(Lost::Class),
+        Ok(_) if !unit.is_service && protocol_class(unit.first) > 1 => Err(Lost::Class),
         Ok(called) => Ok(Ask {
             called,
             hop: unit.hop,

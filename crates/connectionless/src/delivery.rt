@@ -5,6 +5,7 @@ ghost use Rattle.connectionless.specs.Routed.{told_by, segmentation_in, segment_
 
 use crate::segment::{Next, Segment};
 use crate::unitdata::{Kind, UnitView};
+use q713_codec::protocol_class;
 use relay_base::{BoxedOctets, Memory, Octets, Output, Outs, Pc, Sls, Ssn, Tell};
 use std::alloc::Global;
 
@@ -24,7 +25,7 @@ fn tell_of(alloc: Global, unit: &UnitView<'_>) -> Result<Tell, Memory>
         });
     }
     Ok(Tell::Unit {
-        class: unit.first % 16,
+        class: protocol_class(unit.first),
         called,
         calling,
         body,

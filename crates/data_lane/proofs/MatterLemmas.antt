@@ -13,7 +13,7 @@ use Rattle.sccp_address.specs.declared.address.AddressFault.{AddressFault}
 use Rattle.plant_core.specs.Asking.{Question}
 use Rattle.plant_core.specs.declared.answer.Answer.{Answer}
 use Rattle.plant_core.specs.declared.terms.LaneHead.{LaneHead}
-use Rattle.q713_codec.specs.declared.message.Message.{Message}
+use Rattle.q713_codec.specs.Names.{Message}
 use Rattle.connectionless.specs.Unitdata.{Unitdata, unitdata_of}
 use Rattle.connectionless.specs.declared.segment.Next.{Next}
 use Rattle.connectionless.specs.Given.{Given, given_of, given_in, is_unit_request, reference_after}

@@ -9,10 +9,10 @@ use Rattle.relay_base.specs.declared.words.Request.TheVariants as request
 use Rattle.plant_core.specs.declared.answer.Answer.{Answer}
 use Rattle.plant_core.specs.declared.answer.Answer.TheVariants.{Local, Forward, Refused}
 use Rattle.plant_core.specs.declared.terms.Terms.{Terms}
-use Rattle.q713_codec.specs.declared.message.Message.{Message}
+use Rattle.q713_codec.specs.Names.{Message}
 use Rattle.q713_codec.specs.declared.message.Message.TheVariants.{Cr}
 use Rattle.q713_codec.specs.Reading.{reading_of}
-use Rattle.section_model.specs.Parameters.{class_in}
+use Rattle.q713_codec.specs.Messages.{protocol_class}
 use Rattle.section_model.specs.declared.cell.UserState.TheVariants as user
 use Rattle.section_model.specs.Ends.{Connection}
 use Rattle.section_model.specs.Opening.{Wanted, Wish, by_cr, by_user, no_wish, wish_of_message, wish_of_reading, may_be_wanted, wish_of_request, wish_of, offered, fits, asked_section, asking_section, new_user, opened_by_cr, opened_by_user, opened, Opened}
@@ -33,7 +33,7 @@ offered_fits terms class credit fits = either (λ (n : ℕ). n ≤ 127) (class =
 
 message_fits : (terms : Terms) (point sls : ℕ) (m : Message) → terms.credit ≤ 127 → CreditFits (wish_of_message terms point sls m)
 unfolding CreditFits
-message_fits terms point sls (Cr slr class called credit calling body hop importance) fits = offered_fits terms (class_in class) (unwrap_or credit 1) fits
+message_fits terms point sls (Cr slr class called credit calling body hop importance) fits = offered_fits terms (protocol_class class) (unwrap_or credit 1) fits
 message_fits terms point sls _ fits = tt
 
 reading_fits : (terms : Terms) (point sls : ℕ) (r : Result Message ReadFault) → terms.credit ≤ 127 → CreditFits (wish_of_reading terms point sls r)

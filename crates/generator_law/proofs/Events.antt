@@ -11,7 +11,8 @@ use Rattle.journal_text.specs.Print.{spaced, octets_text}
 use Rattle.capture_form.specs.Text.{hex_of}
 use Rattle.capture_form.specs.Line.{event_of}
 use Rattle.capture_form.specs.Capture.{is_skipped, begins}
-use Rattle.capture_generator.specs.Generator.{generator_head, reference_octets, reference_at, unit_octets, request_octets, data_octets, message_at, event_of_kind}
+use Rattle.q713_codec.specs.Messages.{octets3}
+use Rattle.capture_generator.specs.Generator.{generator_head, reference_at, unit_octets, request_octets, data_octets, message_at, event_of_kind}
 use Rattle.capture_generator.specs.Text.{message_words, acceptance_words, words_of_kind}
 use Rattle.generator_law.proofs.Splitting.{IsWord, word, stated}
 use Rattle.generator_law.proofs.Words.{AreOctets, are_octets, IsShort, below-decimal, decimal-word, decimal-short, octets-word, octets-hex, octets-length}
@@ -86,7 +87,7 @@ acceptance-writes i =
 
 -- ---- the octets of the messages
 
-three : (n : ℕ) (rest : List ℕ) → n < 16777216 → AreOctets rest → AreOctets (reference_octets n ++ rest)
+three : (n : ℕ) (rest : List ℕ) → n < 16777216 → AreOctets rest → AreOctets (octets3 n ++ rest)
 three n rest h more = (omega arith, (omega arith, (omega (arith, h), more)))
 
 unit-octets : AreOctets unit_octets

@@ -11,7 +11,9 @@ use Rattle.plant_core.specs.declared.terms.Terms.{Terms}
 use Rattle.plant_core.specs.declared.terms.Ticks.{Ticks}
 use Rattle.section_model.specs.Ends.{Connection}
 use Rattle.section_model.specs.Opening.{Wanted, Wish, by_cr, by_user, no_wish, fits, slots_needed, opened_by_cr, opened_by_user, opened, opened_through, not_opened, cref_to}
-use Rattle.section_model.specs.Lane.{Lane, Opening, reference_of, slot_of, reference_at, is_held, free_slots, lowest_free, opening_of}
+use Rattle.relay_base.specs.declared.limits.TheConstants.{MOST_LANES, SLOTS}
+use Rattle.relay_base.specs.References.{slot_of, reference_of_slot}
+use Rattle.section_model.specs.Lane.{Lane, Opening, reference_of, is_held, free_slots, lowest_free, opening_of}
 
 -- What is opened has its references among those that are given.
 
@@ -67,14 +69,14 @@ IsFree ticks openings reference = IsFreeSlot ticks openings (slot_of reference)
 slots_are_free : (ticks : Ticks) (openings : List Opening) → All (IsFreeSlot ticks openings) (free_slots ticks openings)
 slots_are_free ticks openings = λ k d within.
     not-true (is_held ticks openings (get_or (free_slots ticks openings) k d))
-    (filter_passes (λ slot. not (is_held ticks openings slot)) (range_with_len 1 4095) k d within)
+    (filter_passes (λ slot. not (is_held ticks openings slot)) (range_with_len 1 SLOTS) k d within)
 
-reference_is_free : (lane : Lane) (openings : List Opening) (slot : ℕ) → lane.number < 16
-    → IsFreeSlot lane.terms.ticks openings slot → IsFree lane.terms.ticks openings (reference_at lane slot)
+reference_is_free : (lane : Lane) (openings : List Opening) (slot : ℕ) → lane.number < MOST_LANES
+    → IsFreeSlot lane.terms.ticks openings slot → IsFree lane.terms.ticks openings (reference_of_slot lane.number slot)
 reference_is_free lane openings slot within free =
-    subst (IsFreeSlot lane.terms.ticks openings) (sym (div-mul-add slot 16 lane.number within)) free
+    subst (IsFreeSlot lane.terms.ticks openings) (sym (div-mul-add slot MOST_LANES lane.number within)) free
 
-lowest_are_free : (lane : Lane) (openings : List Opening) (count : ℕ) → lane.number < 16
+lowest_are_free : (lane : Lane) (openings : List Opening) (count : ℕ) → lane.number < MOST_LANES
     → All (IsFree lane.terms.ticks openings) (lowest_free lane openings count)
 unfolding lowest_free
 lowest_are_free lane openings count within = by_test (length free == count)
@@ -85,15 +87,15 @@ lowest_are_free lane openings count within = by_test (length free == count)
     free : List ℕ
     free = take count (free_slots ticks openings)
 
-    by_test : (b : Bool) → All (IsFree ticks openings) (if b then map (reference_at lane) free else [])
+    by_test : (b : Bool) → All (IsFree ticks openings) (if b then map (reference_of_slot lane.number) free else [])
     by_test true =
-        All-map (IsFree ticks openings) (reference_at lane) free
-        (All-weaker (IsFreeSlot ticks openings) (λ slot. IsFree ticks openings (reference_at lane slot)) (λ slot is. reference_is_free lane openings slot within is) free
+        All-map (IsFree ticks openings) (reference_of_slot lane.number) free
+        (All-weaker (IsFreeSlot ticks openings) (λ slot. IsFree ticks openings (reference_of_slot lane.number slot)) (λ slot is. reference_is_free lane openings slot within is) free
         (All-take (IsFreeSlot ticks openings) count (free_slots ticks openings) (slots_are_free ticks openings)))
     by_test false = All-nil (IsFree ticks openings)
 
 -- what an event opens has free references
-pub opens_free : (lane : Lane) (openings : List Opening) (wish : Wish) (answer : Option Answer) → lane.number < 16
+pub opens_free : (lane : Lane) (openings : List Opening) (wish : Wish) (answer : Option Answer) → lane.number < MOST_LANES
     → AreAmong (IsFree lane.terms.ticks openings) (opening_of lane openings wish answer).connection
 opens_free lane openings wish answer within =
     opened_among (IsFree lane.terms.ticks openings) lane.terms wish answer (lowest_free lane openings (slots_needed wish answer))

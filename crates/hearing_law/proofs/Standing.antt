@@ -9,7 +9,9 @@ use Rattle.plant_core.specs.declared.entry.Entry.{Entry}
 use Rattle.plant_core.specs.declared.terms.Ticks.{Ticks}
 use Rattle.section_model.specs.Ends.{End, Connection}
 use Rattle.section_model.specs.Opening.{wish_of}
-use Rattle.section_model.specs.Lane.{Lane, Opening, reference_of, slot_of, is_at, is_kept_by, gone_for, holds, holds_by, is_held, with_event, opening_of, opening_list, openings_after, answer_of}
+use Rattle.relay_base.specs.declared.limits.TheConstants.{MOST_LANES}
+use Rattle.relay_base.specs.References.{slot_of}
+use Rattle.section_model.specs.Lane.{Lane, Opening, reference_of, is_at, is_kept_by, gone_for, holds, holds_by, is_held, with_event, opening_of, opening_list, openings_after, answer_of}
 use Rattle.section_model.specs.Laws.{openings_from}
 use Rattle.hearing_law.specs.HearingLaw.{OneHolds}
 use Rattle.hearing_law.proofs.Opened.{EndsAre, AreAmong, IsFree, opens_free}
@@ -74,14 +76,14 @@ apart_opened ticks event openings (Some c) free apart =
 
 -- All entries.
 
-apart_next : (lane : Lane) (openings : List Opening) (event : Event) (answer : Option Answer) → lane.number < 16
+apart_next : (lane : Lane) (openings : List Opening) (event : Event) (answer : Option Answer) → lane.number < MOST_LANES
     → AreApart lane.terms.ticks openings → AreApart lane.terms.ticks (openings_after lane openings event answer)
 unfolding openings_after
 apart_next lane openings event answer within apart =
     let wish = wish_of lane.terms event in
     apart_opened lane.terms.ticks event openings (opening_of lane openings wish answer).connection (opens_free lane openings wish answer within) apart
 
-pub apart_from : (lane : Lane) (openings : List Opening) (journal : List Entry) → lane.number < 16
+pub apart_from : (lane : Lane) (openings : List Opening) (journal : List Entry) → lane.number < MOST_LANES
     → AreApart lane.terms.ticks openings → AreApart lane.terms.ticks (openings_from lane openings journal)
 apart_from lane openings [] within apart = apart
 apart_from lane openings (entry ∷ journal) within apart =

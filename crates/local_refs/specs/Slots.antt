@@ -1,5 +1,6 @@
 -- The slots of a lane's local references (Q.714, 3.3.2): the lane numbers them from 1, and its number is in each reference.
-use Rattle.std.specs.Prelude.{◌≡◌, ℕ, ◌+◌, ◌-◌, ◌*◌, ◌/◌, ◌≤◌, zero, suc, Bool, true, false, List, [], ◌∷◌, map, Some, slice_get, slice_set, if◌then◌else◌}
+use Rattle.std.specs.Prelude.{◌≡◌, ℕ, ◌+◌, ◌-◌, ◌≤◌, zero, suc, Bool, true, false, List, [], ◌∷◌, map, Some, slice_get, slice_set, if◌then◌else◌}
+use Rattle.relay_base.specs.References.{slot_of, reference_of_slot}
 use Rattle.local_refs.specs.declared.state.SlotState.{SlotState}
 use Rattle.local_refs.specs.declared.state.SlotState.TheVariants.{Free, Held, Frozen}
 
@@ -19,16 +20,9 @@ unfoldable pub free_from : ℕ → List SlotState → List ℕ
 free_from slot [] = []
 free_from slot (state ∷ more) = if is_free state then slot ∷ free_from (slot + 1) more else free_from (slot + 1) more
 
--- the local reference of a slot
-abbrev pub reference : ℕ → ℕ → ℕ
-reference lane slot = slot * 16 + lane
-
-abbrev pub slot_of : ℕ → ℕ
-slot_of mine = mine / 16
-
 -- the references of the free slots by rising number
 abbrev pub free_references : LaneSlots → List ℕ
-free_references slots = map (reference slots.lane) (free_from 1 slots.states)
+free_references slots = map (reference_of_slot slots.lane) (free_from 1 slots.states)
 
 -- the slot of this number is in this state
 abbrev pub IsIn : LaneSlots → ℕ → SlotState → Type 0
@@ -36,7 +30,7 @@ IsIn slots slot state = (1 ≤ slot) × (slice_get slots.states (slot - 1) ≡ S
 
 -- a reference of this lane whose slot is held
 abbrev pub IsHeld : LaneSlots → ℕ → Type 0
-IsHeld slots mine = (mine ≡ reference slots.lane (slot_of mine)) × IsIn slots (slot_of mine) Held
+IsHeld slots mine = (mine ≡ reference_of_slot slots.lane (slot_of mine)) × IsIn slots (slot_of mine) Held
 
 -- this slot comes into this state, and no other changes
 abbrev pub with_state : LaneSlots → ℕ → SlotState → LaneSlots

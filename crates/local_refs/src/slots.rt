@@ -1,16 +1,14 @@
 //! The slots of a lane.
 ghost use Rattle.std.specs.Prelude.{◌≡◌, ◌<◌, ◌≤◌, [], replicate, length, Some, slice_get, IfOk, IfSome, OnErr};
-ghost use Rattle.local_refs.specs.Slots.{free_from, free_references, reference, slot_of, IsHeld, with_state, after_tick};
+ghost use Rattle.relay_base.specs.References.{slot_of, reference_of_slot};
+ghost use Rattle.local_refs.specs.Slots.{free_from, free_references, IsHeld, with_state, after_tick};
 ghost use Rattle.local_refs.specs.declared.state.SlotState.TheVariants.{Free, Held, Frozen};
 
 use crate::state::{LONGEST, SlotState, first_free, free_slot, soonest_in, sweep};
-use relay_base::limits::MOST_LANES;
+use relay_base::limits::{MOST_LANES, SLOTS};
 use relay_base::{Memory, Ref24};
 use std::alloc::Global;
 use std::marker::Model;
-
-/// How many slots a lane has.
-const SLOTS: usize = 4_095;
 
 /// All slots are held or frozen.
 #[derive(Clone, Copy, Debug, PartialEq, Eq)]
@@ -33,6 +31,8 @@ pub struct Slots {
 
 impl Model for Slots {
     ghost use Rattle.std.specs.Prelude.{◌≡◌, ◌≤◌, ◌<◌, length};
+    ghost use Rattle.relay_base.specs.declared.limits.TheConstants.{MOST_LANES, SLOTS};
+    ghost use Rattle.local_refs.specs.declared.state.TheConstants.{LONGEST};
     ghost use Rattle.local_refs.specs.Slots.{LaneSlots};
     ghost use Rattle.local_refs.specs.Inner.Swept.{swept_all, soonest_in, AreTaken};
 
@@ -40,21 +40,21 @@ impl Model for Slots {
 
     ghost view = { λ s. record { lane = s.lane; freeze = s.freeze; states = swept_all s.passed s.states.items } };
 
-    ghost invariant = { λ s. (length s.states.items ≡ 4095) × (s.lane < 16) × (1 ≤ s.freeze)
-        × (s.passed < s.soonest) × (s.soonest ≤ 4294967295) × (s.soonest ≤ soonest_in s.states.items)
+    ghost invariant = { λ s. (length s.states.items ≡ SLOTS) × (s.lane < MOST_LANES) × (1 ≤ s.freeze)
+        × (s.passed < s.soonest) × (s.soonest ≤ LONGEST) × (s.soonest ≤ soonest_in s.states.items)
         × AreTaken s.first s.states.items };
 }
 
 impl Slots {
     /// All slots are free. The lane is 0 to 15, and a slot that is given up stays frozen for `freeze` ticks, at least 1.
     pub fn new(alloc: Global, lane: u8, freeze: u32) -> Result<Slots, Memory>
-        requires lane { lane < 16 }
+        requires lane { lane < MOST_LANES }
         requires freeze { 1 ≤ freeze }
-        ensures { let states = replicate 4095 Free in
+        ensures { let states = replicate SLOTS Free in
             IfOk result (λ slots. slots ≡ record { lane = lane; freeze = freeze; states = states }) }
     {
         let mut states = Vec::new(alloc);
-        states.resize(SLOTS, SlotState::Free)?;
+        states.resize(usize::from(SLOTS), SlotState::Free)?;
         Ok(Slots {
             lane,
             freeze,
@@ -68,15 +68,15 @@ impl Slots {
     /// The free slot that stands at this place, from 0, among all by rising number.
     fn free_slot(&self, at: usize) -> Option<usize>
         ensures value { result ≡ slice_get (free_from 1 self.now.states) at }
-        ensures within { IfSome result (λ slot. (1 ≤ slot) × (slot ≤ 4095)) }
+        ensures within { IfSome result (λ slot. (1 ≤ slot) × (slot ≤ SLOTS)) }
     {
         free_slot(&self.states, self.first, at)
     }
 
     /// The local reference of a slot.
     fn reference(&self, slot: usize) -> Ref24
-        requires { slot ≤ 4095 }
-        ensures { result ≡ reference self.now.lane slot }
+        requires { slot ≤ SLOTS }
+        ensures { result ≡ reference_of_slot self.now.lane slot }
     {
         Ref24::new(slot as u32 * u32::from(MOST_LANES) + u32::from(self.lane)).unwrap()
     }

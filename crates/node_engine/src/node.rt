@@ -1,6 +1,7 @@
 //! The lanes of a node.
 ghost use Rattle.std.specs.Prelude.{◌≡◌, ◌++◌, ◌≤◌, ◌+◌, [], ◌∷◌, length, IsTrue, IfOk, OnOk};
 ghost use Rattle.std.specs.List.{AllByRecursion};
+ghost use Rattle.relay_base.specs.declared.limits.TheConstants.{GREATEST_CREDIT, MOST_LANES};
 ghost use Rattle.node_head.specs.Addable.{are_addable};
 ghost use Rattle.node_head.specs.Ranges.{IsHead};
 ghost use Rattle.plant_core.specs.Terms.{IsLaneHead};
@@ -100,8 +101,8 @@ fn control_lane(alloc: Global, head: &Head) -> Result<ControlLane, Memory>
 
 /// The connection lanes of a head, before their first events.
 fn conn_lanes(alloc: Global, head: &Head) -> Result<ConnLaneList, Memory>
-    requires lanes { head.now.conn_lanes ≤ 16 }
-    requires credit { head.now.credit ≤ 127 }
+    requires lanes { head.now.conn_lanes ≤ MOST_LANES }
+    requires credit { head.now.credit ≤ GREATEST_CREDIT }
     ensures count { IfOk result (λ lanes. length lanes.items ≡ head.now.conn_lanes) }
     ensures lanes { IfOk result (λ lanes. LanesFrom (IsConnLaneOf head.now) 0 lanes.items) }
     ensures empty { IfOk result (λ lanes. AllByRecursion (λ l. l.journal ≡ []) lanes.items) }

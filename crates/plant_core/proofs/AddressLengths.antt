@@ -4,6 +4,7 @@ use Rattle.std.specs.Prelude.{◌==◌, ◌||◌, ◌&&◌, nat_lt, is_some, sli
 use Rattle.std.specs.declared.result.Result.{Result}
 use Rattle.std.proofs.lemmas.Bool.{eqb-false, ltb-false}
 use Rattle.relay_base.specs.Giving.{◌>>=◌}
+use Rattle.relay_base.proofs.GivingLemmas.{bound}
 use Rattle.sccp_address.specs.Form.{Form, TitleForm, no_title, bcd, other}
 use Rattle.sccp_address.specs.Digits.{halves, digits_in, digit_octets}
 use Rattle.sccp_address.specs.Titles.{title_at, is_title_short, is_bcd, has_digits, parity_of, selector_of, encoding_of, lead_of}
@@ -16,11 +17,6 @@ use Rattle.sccp_address.proofs.DigitLemmas.{length-halves, length-digit_octets}
 use Rattle.plant_core.specs.declared.answer.Rewrite.{Rewrite}
 use Rattle.plant_core.specs.declared.answer.Rewrite.TheVariants.{Keep, Set}
 use Rattle.plant_core.specs.Rewriting.{taken_ssn, address_after, onward_by, called_onward}
-
--- a step that follows keeps what the first one gave
-pub bound : {A B E : Type 0} (P : A → Type 0) (Q : B → Type 0) (r : Result A E) (f : A → Result B E) → IfOk r P → ((x : A) → P x → IfOk (f x) Q) → IfOk (r >>= f) Q
-bound P Q (Ok x) f first next = next x first
-bound P Q (Err e) f first next = tt
 
 abbrev PointWithin : List ℕ → Option ℕ × List ℕ → Type 0
 PointWithin octets x = length (point_octets x.0) + length x.1 ≤ length octets

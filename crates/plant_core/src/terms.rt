@@ -33,6 +33,22 @@ pub struct Ticks {
     pub coord: u32,
 }
 
+/// The ticks of a node whose head states none.
+pub const USUAL_TICKS: Ticks = Ticks {
+    connect: 90,
+    ias: 420,
+    iar: 900,
+    rel: 15,
+    repeat: 15,
+    int: 60,
+    reset: 15,
+    reassembly: 15,
+    freeze: 60,
+    status: 30,
+    status_max: 600,
+    coord: 90,
+};
+
 /// What a connection is opened with: the own point code, the greatest credit (1 to 127; Q.713, 3.10), and the ticks.
 #[derive(Clone, Copy)]
 pub struct Terms {

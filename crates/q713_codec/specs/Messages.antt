@@ -15,6 +15,10 @@ two_at place fixed = slice_index fixed place ∷ slice_index fixed (place + 1) �
 abbrev pub reference_at : ℕ → List ℕ → ℕ
 reference_at place fixed = slice_index fixed place + 256 * slice_index fixed (place + 1) + 65_536 * slice_index fixed (place + 2)
 
+-- the class in its octet (Q.713, 3.6)
+abbrev pub protocol_class : ℕ → ℕ
+protocol_class octet = octet % 16
+
 -- the variable parameter and the optional one at a place of their list
 abbrev pub variable_in : ℕ → Values → List ℕ
 variable_in place values = slice_index_or values.vars place []

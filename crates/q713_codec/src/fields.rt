@@ -2,7 +2,7 @@
 ghost use Rattle.std.specs.Prelude.{◌≡◌, ◌+◌, ◌<◌, [], length, slice_index_or};
 ghost use Rattle.std.specs.Option.{option_map};
 ghost use Rattle.q713_shape.specs.Parts.{slices, optional_slices};
-ghost use Rattle.q713_codec.specs.Messages.{reference_at, two_at, one_octet, four_octets};
+ghost use Rattle.q713_codec.specs.Messages.{reference_at, two_at, protocol_class, one_octet, four_octets};
 
 use relay_base::Ref24;
 
@@ -23,6 +23,13 @@ pub fn pair(fixed: &[u8], place: usize) -> [u8; 2]
     ensures { result ≡ two_at place fixed.now }
 {
     [fixed[place], fixed[place + 1]]
+}
+
+/// The protocol class, 0 to 15, in its octet (Q.713, 3.6).
+pub fn protocol_class(octet: u8) -> u8
+    ensures { result ≡ protocol_class octet }
+{
+    octet % 16
 }
 
 /// The variable parameter at a place.

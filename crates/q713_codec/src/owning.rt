@@ -1,7 +1,7 @@
 //! Owning a message.
 ghost use Rattle.std.specs.Prelude.{◌≡◌, IfOk, IsTrue};
 ghost use Rattle.q713_codec.specs.Reading.{seen, optional_seen};
-ghost use Rattle.q713_codec.specs.Inner.Groups.{is_unitdata, is_extended, is_long, is_opening, is_ending, is_data};
+ghost use Rattle.q713_codec.specs.Inner.Groups.{is_unitdata, is_extended, is_long, is_request, is_answer, is_data};
 
 use crate::message::{Message, View};
 use relay_base::{Memory, Octets};
@@ -124,34 +124,34 @@ fn own_long(alloc: Global, view: &View<'_>) -> Result<Message, Memory>
     }
 }
 
-/// CR or CC.
-fn own_opening(alloc: Global, view: &View<'_>) -> Result<Message, Memory>
-    requires { IsTrue (is_opening view.now) }
+/// CR.
+fn own_cr(alloc: Global, view: &View<'_>) -> Result<Message, Memory>
+    requires { IsTrue (is_request view.now) }
     ensures { IfOk result (λ message. message ≡ seen view.now) }
 {
     copied! { alloc, view;
-        Cr { slr, class_octet, credit, hop, importance } own_request { called, calling, body }
-        Cc { dlr, slr, class_octet, credit, importance } own_answer { called, body };
+        Cr { slr, class_octet, credit, hop, importance } own_request { called, calling, body };
     }
 }
 
-/// CREF or RLSD.
-fn own_ending(alloc: Global, view: &View<'_>) -> Result<Message, Memory>
-    requires { IsTrue (is_ending view.now) }
+/// CC or CREF.
+fn own_answering(alloc: Global, view: &View<'_>) -> Result<Message, Memory>
+    requires { IsTrue (is_answer view.now) }
     ensures { IfOk result (λ message. message ≡ seen view.now) }
 {
     copied! { alloc, view;
+        Cc { dlr, slr, class_octet, credit, importance } own_answer { called, body }
         Cref { dlr, cause, importance } own_answer { called, body };
-        Rlsd { dlr, slr, cause, importance } from_optional body
     }
 }
 
-/// DT1, DT2 or ED.
+/// RLSD, DT1, DT2 or ED.
 fn own_data(alloc: Global, view: &View<'_>) -> Result<Message, Memory>
     requires { IsTrue (is_data view.now) }
     ensures { IfOk result (λ message. message ≡ seen view.now) }
 {
     copied! { alloc, view; ;
+        Rlsd { dlr, slr, cause, importance } from_optional body
         Dt1 { dlr, segmenting } from_slice body
         Dt2 { dlr, sequencing } from_slice body
         Ed { dlr } from_slice body
@@ -168,9 +168,10 @@ pub fn own(alloc: Global, view: &View<'_>) -> Result<Message, Memory>
                 View::Udt { .. } | View::Udts { .. } => own_unitdata(alloc, view),
                 View::Xudt { .. } | View::Xudts { .. } => own_extended(alloc, view),
                 View::Ludt { .. } | View::Ludts { .. } => own_long(alloc, view),
-                View::Cr { .. } | View::Cc { .. } => own_opening(alloc, view),
-                View::Cref { .. } | View::Rlsd { .. } => own_ending(alloc, view),
-                View::Dt1 { .. } | View::Dt2 { .. } | View::Ed { .. } => own_data(alloc, view),
+                View::Cr { .. } => own_cr(alloc, view),
+                View::Cc { .. } | View::Cref { .. } => own_answering(alloc, view),
+                View::Rlsd { .. } | View::Ed { .. } => own_data(alloc, view),
+                View::Dt1 { .. } | View::Dt2 { .. } => own_data(alloc, view),
                 $(View::$variant { $($field,)* } => Ok(Message::$variant { $($field,)* }),)*
             }
         };

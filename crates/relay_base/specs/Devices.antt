@@ -6,6 +6,6 @@ use Rattle.std.specs.List.{list_any}
 abbrev pub one_more : ℕ → ℕ
 one_more count = min (count + 1) (2 ^ 64 - 1)
 
--- the list of the calls that fail names this one
-abbrev pub is_named : List ℕ → ℕ → Bool
-is_named fails call = list_any (λ named. nat_eq named call) fails
+-- this call is one of those that are to fail
+abbrev pub is_to_fail : List ℕ → ℕ → Bool
+is_to_fail fails call = list_any (λ named. nat_eq named call) fails

@@ -30,6 +30,9 @@ pub const LONGEST_PARAMETER: usize = 255;
 /// The most lanes of connections, and of units. A local reference modulo it is the number of its lane.
 pub const MOST_LANES: u8 = 16;
 
+/// The slots of a lane's local references: 1 to this.
+pub const SLOTS: u16 = 4_095;
+
 /// The most octets of an input.
 pub const MOST_BYTES: usize = 67_108_864;
 

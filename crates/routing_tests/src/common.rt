@@ -2,7 +2,7 @@
 ghost use Rattle.plant_core.specs.Terms.{AreTicks};
 
 use gtt_table::{Entity, Row};
-use plant_core::Ticks;
+use plant_core::{Ticks, USUAL_TICKS};
 use relay_base::{Digit, Digits, Octets, Pc, Sls, Ssn};
 use sccp_address::Selector;
 use std::alloc::Global;
@@ -67,17 +67,9 @@ pub fn ticks() -> Ticks
     ensures { AreTicks result }
 {
     Ticks {
-        connect: 90,
-        ias: 420,
-        iar: 900,
-        rel: 15,
-        repeat: 15,
-        int: 60,
-        reset: 15,
-        reassembly: 15,
-        freeze: 60,
         status: 2,
         status_max: 5,
         coord: 3,
+        ..USUAL_TICKS
     }
 }

@@ -9,7 +9,7 @@ use Rattle.sccp_address.specs.Form.{Form}
 use Rattle.sccp_address.specs.Parsing.{address_of}
 use Rattle.sccp_address.specs.Subsystems.{subsystem_address}
 use Rattle.sccp_address.specs.declared.address.AddressFault.{AddressFault}
-use Rattle.q713_codec.specs.declared.message.Message.{Message}
+use Rattle.q713_codec.specs.Names.{Message}
 use Rattle.q713_codec.specs.declared.message.Message.TheVariants.{Udt}
 use Rattle.q713_codec.specs.Reading.{reading_of}
 use Rattle.q713_codec.specs.declared.longest.TheConstants.{LONGEST}

@@ -5,7 +5,7 @@ use Rattle.plant_core.specs.declared.answer.Answer.{Answer}
 use Rattle.sccp_address.specs.Subsystems.{subsystem_address}
 use Rattle.plant_core.specs.declared.terms.Terms.{Terms}
 use Rattle.section_model.specs.Lengths.{IsAddress, IsData}
-use Rattle.q713_codec.specs.declared.message.Message.{Message}
+use Rattle.q713_codec.specs.Names.{Message}
 use Rattle.section_model.specs.Opening.{Wanted, Wish, by_cr, by_user, no_wish, Opened, question_of, offered, onward}
 use Rattle.section_coupling.specs.declared.wish.Calling.{Calling}
 use Rattle.section_coupling.specs.declared.wish.Calling.TheVariants.{Absent, Given, Subsystem}

@@ -14,7 +14,7 @@ use crate::wish::{Calling, WantedView, WishView, wish_of};
 use plant_core::{Answer, Rewrite};
 use q713_codec::LONGEST;
 use relay_base::Event;
-use relay_base::limits::LONGEST_DATA;
+use relay_base::limits::{GREATEST_OCTET, LONGEST_DATA, LONGEST_PARAMETER};
 use sccp_address::{Address, Selector, Title, parse};
 
 /// Whether CR as it goes on can be written, and has at most 268 octets.
@@ -43,13 +43,13 @@ fn are_fitting(called: usize, options: usize) -> bool
     requires { options ≤ 1_000 }
     ensures { result ≡ are_fitting called options }
 {
-    if called > 255 {
+    if called > LONGEST_PARAMETER {
         return false;
     }
     if options == 0 {
         return true;
     }
-    called <= 253 && AROUND + called + options <= LONGEST
+    2 + called <= usize::from(GREATEST_OCTET) && AROUND + called + options <= LONGEST
 }
 
 /// Whether a calling address is short enough for a message.
@@ -57,7 +57,7 @@ fn is_calling(calling: &Calling<'_>) -> bool
     ensures { result ≡ is_option 0x04 (seen_calling calling.now) }
 {
     match calling {
-        Calling::Given(octets) => octets.len() <= 255,
+        Calling::Given(octets) => octets.len() <= LONGEST_PARAMETER,
         Calling::Absent | Calling::Subsystem(_) => true,
     }
 }

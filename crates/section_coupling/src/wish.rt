@@ -9,9 +9,9 @@ ghost use Rattle.section_model.specs.UserEnd.{given};
 ghost use Rattle.section_model.specs.Opening.{wish_of_message, wish_of_request, wish_of, may_be_wanted, question_of, asked_for, by_cr};
 ghost use Rattle.section_coupling.specs.Openings.{is_wish, seen_calling, seen_wanted, seen_wish, UserWithin};
 
-use plant_core::{Ask, Origin};
-use q713_codec::{View, read};
-use relay_base::limits::{GREATEST_CREDIT, LONGEST_DATA};
+use plant_core::{Ask, MOST_HOPS, Origin};
+use q713_codec::{View, protocol_class, read};
+use relay_base::limits::{GREATEST_CREDIT, LINK_SELECTIONS, LONGEST_DATA, LONGEST_GIVEN_ADDRESS};
 use relay_base::{Event, Octets, Pc, Ref24, Request, Sls, Ssn};
 use sccp_address::parse;
 
@@ -81,7 +81,7 @@ fn wish_of_message<'a>(point: Pc, sls: Sls, view: &View<'a>) -> WishView<'a>
     };
     let wanted = WantedView {
         sls,
-        class: class_octet % 16,
+        class: protocol_class(class_octet),
         credit: credit.unwrap_or(1),
         called,
         calling: calling_of(calling),
@@ -107,7 +107,7 @@ fn may_be_wanted(class: u8, credit: u8, called: &[u8], body: &[u8]) -> bool
 {
     (class == 2 || class == 3)
         && credit <= GREATEST_CREDIT
-        && called.len() <= 40
+        && called.len() <= LONGEST_GIVEN_ADDRESS
         && parse(called).is_ok()
         && body.len() <= LONGEST_DATA
 }
@@ -148,7 +148,7 @@ fn wish_of_request(ssn: Ssn, request: &Request) -> WishView<'_>
         called: called.as_slice(),
         calling: Calling::Subsystem(ssn),
         body: given(body),
-        hop: Some(15),
+        hop: Some(MOST_HOPS),
         importance: None,
     };
     WishView::ByUser(Outgoing {
@@ -160,9 +160,9 @@ fn wish_of_request(ssn: Ssn, request: &Request) -> WishView<'_>
 
 /// The link selection that comes of a tag.
 fn sls_of(tag: u16) -> Sls
-    ensures { result ≡ tag % 16 }
+    ensures { result ≡ tag % LINK_SELECTIONS }
 {
-    Sls::new(u32::from(tag % 16)).unwrap()
+    Sls::new(u32::from(tag) % LINK_SELECTIONS).unwrap()
 }
 
 /// What an event wants.

@@ -5,7 +5,7 @@ use Rattle.std.specs.List.{list_all}
 use Rattle.std.proofs.lemmas.Bool.{and_from}
 use Rattle.q713_shape.specs.Format.{is_option_length}
 use Rattle.q713_shape.specs.Writing.{have_lengths, is_option, are_options, fits_pointer, pointers, optional_skip_of, are_in_range}
-use Rattle.q713_codec.specs.declared.message.Message.{Message}
+use Rattle.q713_codec.specs.Names.{Message}
 use Rattle.q713_codec.specs.declared.message.Message.TheVariants.{Cr, Cc, Cref, Rlsd, Rlc, Dt1, Dt2, Ak, Ed, Ea, Rsr, Rsc, Err as Error, It}
 use Rattle.q713_codec.specs.Messages.{format_in, values_of_message, in_one}
 use Rattle.q713_codec.specs.Writing.{is_in_range, InRange}

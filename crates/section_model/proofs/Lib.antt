@@ -1,6 +1,5 @@
 pub mod Following
 pub mod Handing
-pub mod Growing
 pub mod ReadLengths
 pub mod ReadWithin
 pub mod InRanges

@@ -5,6 +5,7 @@ use Rattle.std.specs.List.{list_any, filter}
 use Rattle.std.specs.declared.result.Result.{Result}
 use Rattle.std.proofs.lemmas.Bool.{and_from, and_parts, or_left, or_right, not-false, both_ways}
 use Rattle.relay_base.specs.Giving.{◌>>=◌}
+use Rattle.relay_base.proofs.GivingLemmas.{bound}
 use Rattle.relay_base.specs.declared.words.ReadFault.{ReadFault}
 use Rattle.relay_base.specs.declared.words.ReadFault.TheVariants.{Empty, Short, PointerOut, ValueLength}
 use Rattle.q713_shape.specs.declared.rules.VarRule.{VarRule}
@@ -18,12 +19,7 @@ pub record HaveLengths (format : Format) (values : Values) : Type 0 where
   pub vars : IsTrue (have_lengths format.vars values.vars)
   pub options : IsTrue (are_options format.options values.options)
 
--- a step that follows keeps what the first one gave
-pub bound : {A B E : Type 0} (P : A → Type 0) (Q : B → Type 0) (r : Result A E) (f : A → Result B E) → IfOk r P → ((x : A) → P x → IfOk (f x) Q) → IfOk (r >>= f) Q
-bound P Q (Ok x) f first next = next x first
-bound P Q (Err e) f first next = tt
-
--- and so does one that follows a test
+-- a step that follows a test keeps what the test's arms give
 unless : {A E : Type 0} (P : A → Type 0) (test : Bool) (fault : E) (r : Result A E) → (test ≡ false → IfOk r P) → IfOk (if test then Err fault else r) P
 unless P true fault r next = tt
 unless P false fault r next = next refl

@@ -10,7 +10,8 @@ use Rattle.q713_codec.specs.Formats.{cr_format, cc_format, cref_format, rlsd_for
 use Rattle.q713_codec.specs.Messages.{cr_of, cc_of, cref_of, rlsd_of, dt1_of, dt2_of, ed_of}
 use Rattle.q713_codec.specs.Reading.{Kind, kind_of, kinds, kind_at, message_as, message_by, reading_of}
 use Rattle.section_model.specs.Lengths.{IsWithin, IsAddress, IsData, HasLengths, ReadsWithin}
-use Rattle.section_model.proofs.ReadLengths.{HaveLengths, bound, values-lengths}
+use Rattle.section_model.proofs.ReadLengths.{HaveLengths, values-lengths}
+use Rattle.relay_base.proofs.GivingLemmas.{bound}
 
 -- the only variable parameter, and the optional one of a place
 only : (rule : VarRule) (values : List (List ℕ)) → 1 ≤ length values → IsTrue (have_lengths (rule ∷ []) values) → IsWithin rule.least rule.most (slice_index_or values 0 [])

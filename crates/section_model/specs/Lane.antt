@@ -1,7 +1,9 @@
 -- A legal connection journal: each entry has the outputs that the entries before it determine.
-use Rattle.std.specs.Prelude.{◌≡◌, ℕ, ◌+◌, ◌*◌, ◌/◌, ◌==◌, ◌&&◌, ◌||◌, nat_lt, not, Bool, true, false, List, [], ◌∷◌, ◌++◌, length, map, take, filter, find, if◌then◌else◌, Option, Some, None, is_some, flat_map, count_by}
+use Rattle.std.specs.Prelude.{◌≡◌, ℕ, ◌==◌, ◌&&◌, ◌||◌, nat_lt, not, Bool, true, false, List, [], ◌∷◌, ◌++◌, length, map, take, filter, find, if◌then◌else◌, Option, Some, None, is_some, flat_map, count_by}
 use Rattle.std.specs.List.{list_any, range_with_len}
 use Rattle.relay_base.specs.declared.causes.TheConstants.{ERROR_UNASSIGNED_REFERENCE}
+use Rattle.relay_base.specs.declared.limits.TheConstants.{SLOTS}
+use Rattle.relay_base.specs.References.{slot_of, reference_of_slot}
 use Rattle.relay_base.specs.declared.words.Output.{Output}
 use Rattle.relay_base.specs.declared.words.Output.TheVariants.{Sent, Told, Lost as Dropped}
 use Rattle.relay_base.specs.declared.words.Lost.TheVariants as lost
@@ -18,7 +20,6 @@ use Rattle.q713_codec.specs.declared.message.Message.TheVariants.{Rlc, Err as Er
 use Rattle.q713_codec.specs.Writing.{spelling_of}
 use Rattle.section_model.specs.declared.cell.Occasion.{Occasion}
 use Rattle.section_model.specs.declared.cell.Occasion.TheVariants as on
-use Rattle.section_model.specs.declared.limits.TheConstants.{SLOTS}
 use Rattle.section_model.specs.Parameters.{Parameters, Arrival, arrival_in}
 use Rattle.section_model.specs.Ends.{End, wire, owner, Connection}
 use Rattle.section_model.specs.Step.{connection_step, hears, is_in_range, end_is_gone}
@@ -85,13 +86,6 @@ abbrev pub reference_of : End → Option ℕ
 reference_of (wire x) = Some x.head.mine
 reference_of (owner u) = None
 
--- the slot of a reference, and the reference of a slot
-abbrev pub slot_of : ℕ → ℕ
-slot_of reference = reference / 16
-
-abbrev pub reference_at : Lane → ℕ → ℕ
-reference_at lane slot = slot * 16 + lane.number
-
 abbrev pub is_at : ℕ → Option ℕ → Bool
 is_at slot None = false
 is_at slot (Some mine) = slot_of mine == slot
@@ -112,7 +106,7 @@ free_slots ticks openings = filter (λ slot. not (is_held ticks openings slot)) 
 
 -- the references of the lowest free slots, or none where there are too few
 abbrev pub enough : Lane → ℕ → List ℕ → List ℕ
-enough lane count free = if length free == count then map (reference_at lane) free else []
+enough lane count free = if length free == count then map (reference_of_slot lane.number) free else []
 
 unfoldable pub lowest_free : Lane → List Opening → ℕ → List ℕ
 lowest_free lane openings count = enough lane count (take count (free_slots lane.terms.ticks openings))

@@ -9,7 +9,7 @@ use Rattle.plant_core.specs.declared.terms.Ticks.{Ticks}
 use Rattle.section_model.specs.Ends.{End, Connection}
 use Rattle.section_model.specs.Acting.{end_takes}
 use Rattle.section_model.specs.Coupling.{exchange, settles}
-use Rattle.section_model.specs.Lane.{Lane, Opening, heard, follow, fed, part_of, openings_after, answer_of, IsLegalEntry, IsConnectionJournal}
+use Rattle.section_model.specs.Lane.{Lane, Opening, heard, follow, fed, part_of, openings_after, answer_of}
 
 -- what a connection is after one more event hangs on what it was alone
 abbrev pub StepByStep : Type 0
@@ -26,11 +26,6 @@ TwoWorlds = (ticks : Ticks) (c : Connection) (one other : List Event) (event : E
 abbrev pub openings_from : Lane → List Opening → List Entry → List Opening
 openings_from lane openings [] = openings
 openings_from lane openings (entry ∷ entries) = openings_from lane (openings_after lane openings entry.event (answer_of entry)) entries
-
--- a legal journal with one more legal entry is legal
-abbrev pub JournalGrows : Type 0
-JournalGrows = (lane : Lane) (journal : List Entry) (entry : Entry) →
-    IsConnectionJournal lane journal → IsLegalEntry lane (openings_from lane [] journal) entry → IsConnectionJournal lane (journal ++ entry ∷ [])
 
 -- No hand is lost: what an end hands back on an effect is an answer, and on an answer nothing is handed back. So two turns of the exchange are
 -- enough, and more change nothing.

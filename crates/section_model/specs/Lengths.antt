@@ -1,6 +1,6 @@
 -- How many octets the addresses and the data of a connection's messages have (Q.713).
 use Rattle.std.specs.Prelude.{◌≡◌, ℕ, ◌≤◌, List, [], ◌∷◌, length, Option, Some, None, Ok}
-use Rattle.q713_codec.specs.declared.message.Message.{Message}
+use Rattle.q713_codec.specs.Names.{Message}
 use Rattle.q713_codec.specs.declared.message.Message.TheVariants.{Cr, Cc, Cref, Rlsd, Rlc, Dt1, Dt2, Ak, Ed, Ea, Rsr, Rsc, Err as Error, It}
 use Rattle.q713_codec.specs.Reading.{reading_of}
 use Rattle.section_model.specs.declared.cell.Occasion.{Occasion}

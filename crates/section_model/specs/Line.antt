@@ -7,7 +7,7 @@ use Rattle.section_model.specs.declared.hand.Hand.TheVariants as hand
 use Rattle.section_model.specs.declared.cell.Cell.{Cell}
 use Rattle.section_model.specs.declared.cell.Cell.TheVariants as cell
 use Rattle.section_model.specs.declared.cell.SectionState.TheVariants.{Waning, Up, Ending, Gone}
-use Rattle.q713_codec.specs.declared.message.Message.{Message}
+use Rattle.q713_codec.specs.Names.{Message}
 use Rattle.q713_codec.specs.declared.message.Message.TheVariants.{Cc, Cref, Rlsd, Rlc, Dt1, It}
 use Rattle.q713_codec.specs.Writing.{spelling_of}
 use Rattle.section_model.specs.Parameters.{Parameters}

@@ -14,6 +14,7 @@ use Rattle.sccp_address.specs.Form.{Form}
 use Rattle.sccp_address.specs.Parsing.{address_of}
 use Rattle.sccp_address.specs.Subsystems.{subsystem_address}
 use Rattle.sccp_address.specs.declared.address.AddressFault.{AddressFault}
+use Rattle.plant_core.specs.declared.answer.TheConstants.{MOST_HOPS}
 use Rattle.plant_core.specs.declared.answer.Answer.{Answer}
 use Rattle.plant_core.specs.declared.answer.Answer.TheVariants.{Local, Forward, Refused}
 use Rattle.plant_core.specs.declared.answer.Rewrite.{Rewrite}
@@ -22,20 +23,20 @@ use Rattle.plant_core.specs.declared.answer.Origin.TheVariants.{Network, User as
 use Rattle.plant_core.specs.declared.terms.Terms.{Terms}
 use Rattle.plant_core.specs.declared.terms.Ticks.{Ticks}
 use Rattle.plant_core.specs.Causes.{refusal_code}
-use Rattle.q713_codec.specs.declared.message.Message.{Message}
+use Rattle.q713_codec.specs.Names.{Message}
 use Rattle.q713_codec.specs.declared.message.Message.TheVariants.{Cr, Cref}
+use Rattle.q713_codec.specs.Messages.{protocol_class}
 use Rattle.q713_codec.specs.Reading.{reading_of}
 use Rattle.q713_codec.specs.declared.longest.TheConstants.{LONGEST}
 use Rattle.q713_codec.specs.Writing.{spelling_of, is_in_range}
 use Rattle.plant_core.specs.Asking.{Question}
 use Rattle.plant_core.specs.Rewriting.{called_onward}
 use Rattle.scmg_messages.specs.Messages.{status_outputs}
-use Rattle.relay_base.specs.declared.limits.TheConstants.{GREATEST_CREDIT, LONGEST_DATA}
+use Rattle.relay_base.specs.declared.limits.TheConstants.{GREATEST_CREDIT, LINK_SELECTIONS, LONGEST_DATA, LONGEST_GIVEN_ADDRESS}
 use Rattle.section_model.specs.declared.cell.SectionState.{SectionState}
 use Rattle.section_model.specs.declared.cell.SectionState.TheVariants as section
 use Rattle.section_model.specs.declared.cell.UserState.{UserState}
 use Rattle.section_model.specs.declared.cell.UserState.TheVariants as user
-use Rattle.section_model.specs.Parameters.{class_in}
 use Rattle.section_model.specs.Ends.{SectionHead, End, wire, owner, Connection, no_kept, cleared, no_timers}
 use Rattle.section_model.specs.Line.{credit_of, agreed_credit}
 use Rattle.section_model.specs.Timing.{entered}
@@ -70,8 +71,8 @@ wish_of_message terms point sls (Cr slr class called credit calling body hop imp
   point = point;
   sls = sls;
   slr = slr;
-  class = class_in class;
-  credit = offered terms (class_in class) (unwrap_or credit 1);
+  class = protocol_class class;
+  credit = offered terms (protocol_class class) (unwrap_or credit 1);
   called = called;
   calling = calling;
   body = body;
@@ -87,20 +88,20 @@ wish_of_reading terms point sls (Err fault) = no_wish
 -- a request for a connection in its ranges
 abbrev pub may_be_wanted : ℕ → ℕ → List ℕ → List ℕ → Bool
 may_be_wanted class credit called body =
-    (class == 2 || class == 3) && nat_le credit GREATEST_CREDIT && nat_le (length called) 40 && is_ok (address_of called) && nat_le (length body) LONGEST_DATA
+    (class == 2 || class == 3) && nat_le credit GREATEST_CREDIT && nat_le (length called) LONGEST_GIVEN_ADDRESS && is_ok (address_of called) && nat_le (length body) LONGEST_DATA
 
--- A user's connection: the calling address is its subsystem, the hop counter is 15, and the link selection comes of its tag.
+-- A user's connection: the calling address is its subsystem, the hop counter is the greatest, and the link selection comes of its tag.
 abbrev pub wanted_by_user : Terms → ℕ → ℕ → ℕ → ℕ → List ℕ → List ℕ → Wanted
 wanted_by_user terms ssn tag class credit called body = record {
   point = terms.own;
-  sls = tag % 16;
+  sls = tag % LINK_SELECTIONS;
   slr = 0;
   class = class;
   credit = offered terms class credit;
   called = called;
   calling = Some (subsystem_address ssn);
   body = given body;
-  hop = Some 15;
+  hop = Some MOST_HOPS;
   importance = None;
 }
 

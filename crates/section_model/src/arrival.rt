@@ -6,7 +6,7 @@ ghost use Rattle.section_model.specs.Parameters.{only_dlr, arrival_of, arrival_i
 ghost use Rattle.section_model.specs.Views.{seen_parameters, seen_arrival};
 
 use crate::cell::Occasion;
-use q713_codec::{View, read};
+use q713_codec::{View, protocol_class, read};
 use relay_base::Ref24;
 
 /// The parameters of a message for a connection, in the octets that it was read from; 0, none and no octets stand for those that its
@@ -82,7 +82,7 @@ pub fn arrival_of<'a>(view: &View<'a>) -> Option<ArrivalView<'a>>
             body,
             importance,
         } => {
-            arrives!(Cc, dlr, slr: slr, class: class_octet % 16, credit: credit, called: called, body: body, importance: importance)
+            arrives!(Cc, dlr, slr: slr, class: protocol_class(class_octet), credit: credit, called: called, body: body, importance: importance)
         }
         View::Cref {
             dlr,
@@ -128,7 +128,7 @@ pub fn arrival_of<'a>(view: &View<'a>) -> Option<ArrivalView<'a>>
             slr,
             class_octet,
             ..
-        } => { arrives!(It, dlr, slr: slr, class: class_octet % 16) }
+        } => { arrives!(It, dlr, slr: slr, class: protocol_class(class_octet)) }
         View::Cr { .. } | View::Udt { .. } | View::Udts { .. } => None,
         View::Xudt { .. } | View::Xudts { .. } | View::Ludt { .. } | View::Ludts { .. } => None,
     }

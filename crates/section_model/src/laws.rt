@@ -1,5 +1,5 @@
 //! Laws of the definitions, each as the contract of a function.
-ghost use Rattle.section_model.specs.Laws.{JournalGrows, StepByStep, TwoWorlds, NoHandIsLost};
+ghost use Rattle.section_model.specs.Laws.{StepByStep, TwoWorlds, NoHandIsLost};
 ghost use Rattle.section_model.specs.Lengths.{ArrivesWithin, ReadsWithin, WritesWithin};
 
 /// What a connection is after one more event hangs on what it was alone.
@@ -18,12 +18,6 @@ pub fn two_worlds()
 #[tactic(auto, using(crate::proofs::Handing::no_hand_is_lost))]
 pub fn hands_end()
     ensures { NoHandIsLost }
-{}
-
-/// A legal journal with one more legal entry is legal.
-#[tactic(auto, using(crate::proofs::Growing::grows))]
-pub fn journal_grows()
-    ensures { JournalGrows }
 {}
 
 /// A message that was read has the lengths of Q.713.

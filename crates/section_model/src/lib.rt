@@ -14,6 +14,6 @@ pub use cell::{Cell, Occasion, SectionState, Timer, UserOccasion, UserState};
 pub use hand::{Acted, Hand, HandList, KeptRelease, Unit};
 pub use input::Input;
 pub use laws::{
-    arrives_within, hands_end, journal_grows, reads_within, step_by_step, two_worlds, writes_within,
+    arrives_within, hands_end, reads_within, step_by_step, two_worlds, writes_within,
 };
 pub use wire::WireHead;

@@ -1,4 +1,5 @@
 //! The sizes and the limits of connections.
+use relay_base::limits::LONGEST_PARAMETER;
 
 /// What sequence numbers are counted modulo (Q.713, 3.8 and 3.9).
 pub const SEQUENCE_NUMBERS: u8 = 128;
@@ -7,10 +8,7 @@ pub const SEQUENCE_NUMBERS: u8 = 128;
 pub const MOST_WAITING: usize = 127;
 
 /// The most octets of an address (Q.713, 3.4 and 3.5).
-pub const LONGEST_ADDRESS: usize = 255;
+pub const LONGEST_ADDRESS: usize = LONGEST_PARAMETER;
 
 /// The most octets of data in DT1 and DT2 (Q.713, 4.7 and 4.8).
-pub const LONGEST_UNIT: usize = 255;
-
-/// The slots of a lane's local references: 1 to this.
-pub const SLOTS: u16 = 4_095;
+pub const LONGEST_UNIT: usize = LONGEST_PARAMETER;

@@ -9,6 +9,7 @@ use Rattle.relay_base.specs.declared.words.Tell.TheVariants as tell
 use Rattle.relay_base.specs.declared.words.Output.{Output}
 use Rattle.relay_base.specs.declared.words.Output.TheVariants.{Sent, Told}
 use Rattle.gtt_table.specs.declared.row.Row.{Row}
+use Rattle.plant_core.specs.declared.terms.TheConstants.{USUAL_TICKS}
 use Rattle.plant_core.specs.declared.terms.Ticks.{Ticks}
 use Rattle.plant_core.specs.declared.answer.Answer.{Answer}
 use Rattle.plant_core.specs.Plant.{RoutingData, start_of}
@@ -31,7 +32,7 @@ abbrev pub routing : RoutingData
 routing = record (start_of 100 (8 ∷ [])) { rows = row ∷ [] }
 
 abbrev pub ticks : Ticks
-ticks = record { connect = 90; ias = 420; iar = 900; rel = 15; repeat = 15; int = 60; reset = 15; reassembly = 15; freeze = 60; status = 30; status_max = 600; coord = 90 }
+ticks = USUAL_TICKS
 
 -- its lane 0, by the greatest credit and the ticks of the timers; one with the defaults; and one that freezes references for a tick alone
 abbrev pub lane_with : ℕ → Ticks → Lane

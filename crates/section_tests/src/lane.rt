@@ -3,7 +3,7 @@ ghost use Rattle.std.specs.Prelude.{◌≡◌};
 
 use crate::outputs::assert_outs;
 use conn_lane::ConnLane;
-use plant_core::{LaneHead, Plant, Terms, Ticks};
+use plant_core::{LaneHead, Plant, Terms, USUAL_TICKS};
 use relay_base::{
     BoxedOctets, Event, Lost, Memory, Octets, Output, Outs, Pc, Ref24, Request, Sls, Ssn, Stamp,
     Tell,
@@ -19,28 +19,14 @@ const MOST_EVENTS: usize = 5;
 fn lane_head() -> LaneHead
     ensures { result.terms.credit ≡ 7 }
 {
-    let ticks = Ticks {
-        connect: 90,
-        ias: 420,
-        iar: 900,
-        rel: 15,
-        repeat: 15,
-        int: 60,
-        reset: 15,
-        reassembly: 15,
-        freeze: 60,
-        status: 30,
-        status_max: 600,
-        coord: 90,
-    };
     let terms = Terms {
         own: Pc::new(100).unwrap(),
         credit: 7,
-        ticks,
+        ticks: USUAL_TICKS,
     };
     LaneHead {
         terms,
-        reassembly: 15,
+        reassembly: USUAL_TICKS.reassembly,
     }
 }
 

@@ -22,7 +22,7 @@ use Rattle.plant_core.specs.declared.answer.Origin.{Origin}
 use Rattle.plant_core.specs.declared.answer.Origin.TheVariants.{Network, User as FromUser}
 use Rattle.plant_core.specs.declared.answer.RouteCause.TheVariants.{PointBarred, SubsystemBarred, Unequipped}
 use Rattle.plant_core.specs.declared.answer.Rewrite.TheVariants.{Keep, Set}
-use Rattle.plant_core.proofs.AddressLengths.{bound}
+use Rattle.relay_base.proofs.GivingLemmas.{bound}
 
 -- a title has at most 24 digits
 abbrev pub IsFew : TitleForm → Type 0

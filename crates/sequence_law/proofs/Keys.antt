@@ -8,7 +8,7 @@ use Rattle.relay_base.specs.declared.words.ReadFault.{ReadFault}
 use Rattle.relay_base.specs.declared.words.Event.TheVariants.{Message as Arrived, Asked as Requested, Tick}
 use Rattle.relay_base.specs.declared.words.Request.{Request}
 use Rattle.relay_base.specs.declared.words.Request.TheVariants.{Unit as UnitRequest}
-use Rattle.q713_codec.specs.declared.message.Message.{Message}
+use Rattle.q713_codec.specs.Names.{Message}
 use Rattle.q713_codec.specs.declared.message.Message.TheVariants.{Udt, Udts, Xudt, Xudts, Ludt, Ludts}
 use Rattle.q713_codec.specs.Longest.{is_too_long}
 use Rattle.q713_codec.specs.Reading.{reading_of}

@@ -1,6 +1,6 @@
 -- What is written reads back: the spelling of a message (Q.713, 2.3), and of an address (Q.713, 3.4 and 3.5).
 use Rattle.std.specs.Prelude.{◌≡◌, Ok}
-use Rattle.q713_codec.specs.declared.message.Message.{Message}
+use Rattle.q713_codec.specs.Names.{Message}
 use Rattle.q713_codec.specs.Reading.{reading_of}
 use Rattle.q713_codec.specs.Writing.{spelling_of, InRange}
 use Rattle.q713_codec.specs.Types.{HasTypes}

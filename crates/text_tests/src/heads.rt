@@ -3,7 +3,7 @@ use crate::same::assert_same;
 use bstr::ByteSlice;
 use gtt_table::{Entity, Row};
 use node_head::{HeadRefused, digits_of, entity_of, read_head, take_head};
-use plant_core::{Replicate, Ticks};
+use plant_core::{Replicate, Ticks, USUAL_TICKS};
 use relay_base::{Pc, Ssn};
 use sccp_address::Selector;
 use std::alloc::{AllocError, Global};
@@ -205,21 +205,7 @@ fn reads_the_defaults(rt: HostRuntime) -> Result<(), Fail> {
     assert!(rt; head.concerned.is_empty());
     assert!(rt; head.row.is_empty());
     assert!(rt; head.replicate.is_empty());
-    let ticks = Ticks {
-        connect: 90,
-        ias: 420,
-        iar: 900,
-        rel: 15,
-        repeat: 15,
-        int: 60,
-        reset: 15,
-        reassembly: 15,
-        freeze: 60,
-        status: 30,
-        status_max: 600,
-        coord: 90,
-    };
-    assert_same(&rt, &head.timers, &ticks);
+    assert_same(&rt, &head.timers, &USUAL_TICKS);
     Ok(())
 }
 

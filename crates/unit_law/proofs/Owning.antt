@@ -9,7 +9,7 @@ use Rattle.plant_core.specs.declared.answer.Answer.{Answer}
 use Rattle.plant_core.specs.declared.entry.Entry.{Entry}
 use Rattle.plant_core.specs.declared.terms.LaneHead.{LaneHead}
 use Rattle.plant_core.specs.Asking.{Question, answer_in}
-use Rattle.q713_codec.specs.declared.message.Message.{Message}
+use Rattle.q713_codec.specs.Names.{Message}
 use Rattle.connectionless.specs.Unitdata.{Unitdata, unitdata_of}
 use Rattle.connectionless.specs.Asking.{Matter, from_network, from_user, settled, of_tick, matter_of, matter_by_message, matter_by_unit, matter_by_question, message_in, question_of}
 use Rattle.reassembly.specs.declared.process.Process.{Process}

@@ -1,7 +1,7 @@
 -- The index of a lane: for each slot of a local reference (Q.714, 3.3.2), the place of the opening that takes it.
 use Rattle.std.specs.Prelude.{◌≡◌, ℕ, ◌+◌, ◌*◌, ◌<◌, not, Bool, if◌then◌else◌, List, map, take, filter, position, get_or, Option, Some, None, is_some}
 use Rattle.std.specs.List.{range_with_len}
-use Rattle.section_model.specs.Lane.{slot_of}
+use Rattle.relay_base.specs.References.{slot_of}
 use Rattle.conn_lane.specs.declared.kept.Hold.{Hold}
 use Rattle.conn_lane.specs.Inner.Remnants.{Remnant, takes_slot, holds_out}
 use Rattle.conn_lane.specs.Inner.Views.{seat_at}

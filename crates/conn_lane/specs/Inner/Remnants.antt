@@ -7,7 +7,8 @@ use Rattle.relay_base.specs.declared.words.Output.{Output}
 use Rattle.plant_core.specs.declared.terms.Ticks.{Ticks}
 use Rattle.section_model.specs.Ends.{End, Connection}
 use Rattle.section_model.specs.Step.{connection_step, hears, end_is_gone, is_over}
-use Rattle.section_model.specs.Lane.{Lane, Opening, connection_of, fed, gone_for, reference_of, slot_of, enough, is_tick}
+use Rattle.relay_base.specs.References.{slot_of}
+use Rattle.section_model.specs.Lane.{Lane, Opening, connection_of, fed, gone_for, reference_of, enough, is_tick}
 
 -- a connection that isn't over, with the ticks of its timers
 pub record Live : Type 0 where

@@ -6,7 +6,8 @@ use Rattle.relay_base.specs.declared.words.Event.TheVariants.{Message as Arrived
 use Rattle.section_model.specs.Ends.{End}
 use Rattle.section_model.specs.Parameters.{arrival_in}
 use Rattle.section_model.specs.Step.{destination_of, named, end_is_gone, is_over}
-use Rattle.section_model.specs.Lane.{reference_of, slot_of}
+use Rattle.relay_base.specs.References.{slot_of}
+use Rattle.section_model.specs.Lane.{reference_of}
 use Rattle.conn_lane.specs.Inner.Remnants.{Live, Seat, Remnant, takes_slot}
 
 -- the seat of an end has its reference, and is frozen exactly once the end is gone

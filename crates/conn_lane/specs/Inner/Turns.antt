@@ -1,5 +1,6 @@
 -- What comes of an event in a connection lane, from what it keeps of its openings.
 use Rattle.std.specs.Prelude.{◌≡◌, ℕ, ◌≤◌, ◌<◌, List, [], ◌∷◌, ◌++◌, length, map, Option, Some, None, IfSome}
+use Rattle.relay_base.specs.declared.limits.TheConstants.{MOST_LANES}
 use Rattle.relay_base.specs.declared.words.Event.{Event}
 use Rattle.relay_base.specs.declared.words.Event.TheVariants.{Message as Arrived, Asked as Requested, Tick}
 use Rattle.relay_base.specs.declared.words.Output.{Output}
@@ -49,5 +50,5 @@ pub record KeepsRemnants (head : LaneHead) (number : ℕ) (journal : List Entry)
 pub record IsConnLane (head : LaneHead) (number : ℕ) (journal : List Entry) (openings : Option OpeningsState) : Type 0 where
   pub legal : IsConnJournal head number journal
   pub keeps : IfSome openings (KeepsRemnants head number journal)
-  pub lanes : number < 16
+  pub lanes : number < MOST_LANES
   pub credit : IsCredit head.terms.credit

@@ -1,5 +1,6 @@
 -- How many octets CR has as it goes on, and whether it can be written, by the lengths of its parameters (Q.713, 4.2).
 use Rattle.std.specs.Prelude.{ℕ, ◌+◌, ◌==◌, ◌&&◌, nat_le, Bool, List, length, if◌then◌else◌, Option, Some, None}
+use Rattle.relay_base.specs.declared.limits.TheConstants.{GREATEST_OCTET, LONGEST_PARAMETER}
 use Rattle.q713_codec.specs.declared.longest.TheConstants.{LONGEST}
 use Rattle.section_model.specs.Line.{credit_of}
 use Rattle.section_model.specs.Opening.{Wanted}
@@ -26,4 +27,4 @@ part_size options = if options == 0 then 0 else options + 1
 -- CR has a called address of so many octets, and optional parameters of so many
 abbrev pub are_fitting : ℕ → ℕ → Bool
 are_fitting called options =
-    nat_le called 255 && nat_le (if options == 0 then 0 else 2 + called) 255 && nat_le (8 + called + part_size options) LONGEST
+    nat_le called LONGEST_PARAMETER && nat_le (if options == 0 then 0 else 2 + called) GREATEST_OCTET && nat_le (8 + called + part_size options) LONGEST

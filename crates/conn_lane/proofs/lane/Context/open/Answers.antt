@@ -1,6 +1,5 @@
-use Rattle.std.proofs.Common.{refl, subst, map}
+use Rattle.std.proofs.Common.{refl, subst}
 use Rattle.plant_core.specs.Asking.{answer_in}
-use Rattle.conn_lane.specs.Inner.Remnants.{remnant_after}
 use Rattle.conn_lane.specs.Inner.Seated.{AreOrderly}
 use Rattle.conn_lane.proofs.LaneGrows.{opens_answered, open_untimed, open_orderly, open_comes}
 use Rattle.conn_lane.proofs.lane.Context.open.Goals as goal

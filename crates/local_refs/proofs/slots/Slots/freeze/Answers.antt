@@ -2,7 +2,8 @@ use Rattle.std.proofs.Common.{◌≡◌, ◌+◌, ◌-◌, ◌/◌, refl, ap, ap
 use Rattle.std.specs.Prelude.{slice_set}
 use Rattle.std.proofs.lemmas.List.{length-set}
 use Rattle.local_refs.specs.declared.state.SlotState.TheVariants.{Frozen}
-use Rattle.local_refs.specs.Slots.{slot_of, with_state}
+use Rattle.relay_base.specs.References.{slot_of}
+use Rattle.local_refs.specs.Slots.{with_state}
 use Rattle.local_refs.specs.Inner.Swept.{swept_all}
 use Rattle.local_refs.proofs.Sweeps.{soonest_frozen, frozen_now}
 use Rattle.local_refs.proofs.Firsts.{taken_set}

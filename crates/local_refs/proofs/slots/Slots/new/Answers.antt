@@ -1,4 +1,5 @@
 use Rattle.std.proofs.Common.{◌≡◌, ◌-◌, ◌++◌, take, replicate, ap, ap₂, ◌∙◌, length, arith}
+use Rattle.relay_base.specs.declared.limits.TheConstants.{SLOTS}
 use Rattle.local_refs.specs.declared.state.SlotState.TheVariants.{Free}
 use Rattle.local_refs.specs.Inner.Swept.{swept_all, soonest_in}
 use Rattle.local_refs.proofs.Sweeps.{swept_free, soonest_free}
@@ -8,10 +9,10 @@ use Rattle.std.proofs.lemmas.List.{length-replicate}
 
 pub invariant_of-result : goal.invariant_of-result
 invariant_of-result c =
-    let made : c.resize.new.self.items ≡ replicate 4095 Free =
-    c.in_ok-resize.ensures.items ∙ ap₂ (λ xs n. take 4095 xs ++ replicate (4095 - n) Free) c.new-states.ensures.items c.new-states.ensures.len in
-    let never : soonest_in c.resize.new.self.items ≡ 4294967295 = ap soonest_in made ∙ soonest_free 4095 in (
-      ap (λ xs. length xs) made ∙ length-replicate 4095 Free,
+    let made : c.resize.new.self.items ≡ replicate SLOTS Free =
+    c.in_ok-resize.ensures.items ∙ ap₂ (λ xs n. take SLOTS xs ++ replicate (SLOTS - n) Free) c.new-states.ensures.items c.new-states.ensures.len in
+    let never : soonest_in c.resize.new.self.items ≡ 4294967295 = ap soonest_in made ∙ soonest_free SLOTS in (
+      ap (λ xs. length xs) made ∙ length-replicate SLOTS Free,
       c.requires.lane,
       c.requires.freeze,
       omega arith,
@@ -22,7 +23,7 @@ invariant_of-result c =
 
 pub returns : goal.returns
 returns c =
-    let made : c.resize.new.self.items ≡ replicate 4095 Free =
-    c.in_ok-resize.ensures.items ∙ ap₂ (λ xs n. take 4095 xs ++ replicate (4095 - n) Free) c.new-states.ensures.items c.new-states.ensures.len in
+    let made : c.resize.new.self.items ≡ replicate SLOTS Free =
+    c.in_ok-resize.ensures.items ∙ ap₂ (λ xs n. take SLOTS xs ++ replicate (SLOTS - n) Free) c.new-states.ensures.items c.new-states.ensures.len in
     ap (λ xs. record { lane = c.args.lane; freeze = c.args.freeze; states = swept_all 0 xs }) made
-    ∙ ap (λ xs. record { lane = c.args.lane; freeze = c.args.freeze; states = xs }) (swept_free 4095 0)
+    ∙ ap (λ xs. record { lane = c.args.lane; freeze = c.args.freeze; states = xs }) (swept_free SLOTS 0)

@@ -3,7 +3,9 @@ use Rattle.std.specs.Prelude.{IfSome, slice_get, slice_set}
 use Rattle.std.proofs.Common.{◌≡◌, ◌<◌, ◌≤◌, length, ◌-◌, subst, sym, ap, ◌∙◌, arith}
 use Rattle.std.proofs.lemmas.List.{length-set, map-set}
 use Rattle.local_refs.specs.declared.state.SlotState.TheVariants.{Held}
-use Rattle.local_refs.specs.Slots.{reference, slot_of, with_state}
+use Rattle.relay_base.specs.declared.limits.TheConstants.{MOST_LANES, SLOTS}
+use Rattle.relay_base.specs.References.{slot_of, reference_of_slot}
+use Rattle.local_refs.specs.Slots.{with_state}
 use Rattle.local_refs.specs.Inner.Swept.{swept, swept_all, AreTaken}
 use Rattle.local_refs.proofs.Sweeps.{soonest_held, held_seen}
 use Rattle.local_refs.proofs.slots.Slots.take_lowest.Goals as goal
@@ -23,10 +25,10 @@ invariant_of-self c =
 pub returns-clause-held : goal.returns-clause-held
 returns-clause-held c =
     let slot = c.in_ok-slot.slot in
-    let same : slot_of c.reference.result ≡ slot = ap slot_of c.reference.ensures ∙ div-mul-add slot 16 c.self.inside.lane c.self.invariant.1 in
-    let within = subst (λ found. IfSome found (λ n. (1 ≤ n) × (n ≤ 4095))) c.in_ok-slot.ensures.ok_part c.free_slot.ensures.within in
+    let same : slot_of c.reference.result ≡ slot = ap slot_of c.reference.ensures ∙ div-mul-add slot MOST_LANES c.self.inside.lane c.self.invariant.1 in
+    let within = subst (λ found. IfSome found (λ n. (1 ≤ n) × (n ≤ SLOTS))) c.in_ok-slot.ensures.ok_part c.free_slot.ensures.within in
     let place : slot - 1 < length c.self.inside.states.items = omega (arith, within.0, within.1, c.self.invariant.0) in (
-      c.reference.ensures ∙ ap (reference c.self.inside.lane) (sym same),
+      c.reference.ensures ∙ ap (reference_of_slot c.self.inside.lane) (sym same),
       (
         omega (arith, same, within.0),
         ap (λ n. slice_get (swept_all c.self.inside.passed (slice_set c.self.inside.states.items (slot - 1) Held)) (n - 1)) same
@@ -37,7 +39,7 @@ returns-clause-held c =
 pub returns-clause-rest : goal.returns-clause-rest
 returns-clause-rest c =
     let slot = c.in_ok-slot.slot in
-    let same : slot_of c.reference.result ≡ slot = ap slot_of c.reference.ensures ∙ div-mul-add slot 16 c.self.inside.lane c.self.invariant.1 in
+    let same : slot_of c.reference.result ≡ slot = ap slot_of c.reference.ensures ∙ div-mul-add slot MOST_LANES c.self.inside.lane c.self.invariant.1 in
     ap (λ xs. record { lane = c.self.inside.lane; freeze = c.self.inside.freeze; states = xs }) (map-set (swept c.self.inside.passed) c.self.inside.states.items (slot - 1) Held)
     ∙ ap (λ s. with_state s slot Held) c.self.view_is
     ∙ ap (λ n. with_state c.args.self.now n Held) (sym same)
