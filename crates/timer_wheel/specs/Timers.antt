@@ -1,0 +1,51 @@
+-- The running timers of a lane's connections, as those of setting up, release, inactivity and reset (Q.714, 3.1, 3.3, 3.4, 3.7), by
+-- rising connection and timer.
+use Rattle.std.specs.Prelude.{◌≡◌, ◌==◌, ◌&&◌, ◌-◌, ◌≤◌, ℕ, Bool, true, not, List, ◌∷◌, ◌++◌, All, AllPairs, filter, map}
+use Rattle.timer_wheel.specs.declared.due.Due.{Due}
+use Rattle.timer_wheel.specs.Order.{is_before}
+
+-- A timer of a connection, and how many ticks are left of it.
+pub record Armed : Type 0 where
+  pub due : Due
+  pub ticks : ℕ
+
+-- The running timers, and for how many in all memory is there.
+pub record Timers : Type 0 where
+  pub armed : List Armed
+  pub room : ℕ
+
+-- What a list of due timers holds, and for how many in all memory is there.
+pub record Dues : Type 0 where
+  pub timers : List Due
+  pub room : ℕ
+
+abbrev pub timer_of : ℕ → ℕ → Due
+timer_of conn timer = record { conn = conn; timer = timer }
+
+abbrev pub is_timer : Due → Armed → Bool
+is_timer due armed = armed.due.conn == due.conn && armed.due.timer == due.timer
+
+-- all but this timer
+abbrev pub others : Due → List Armed → List Armed
+others due armed = filter (λ a. not (is_timer due a)) armed
+
+-- this timer with so many ticks left, behind the timers that come before it
+abbrev pub with_timer : Due → ℕ → List Armed → List Armed
+with_timer due ticks armed =
+    filter (λ a. is_before a.due due) armed ++ record { due = due; ticks = ticks } ∷ filter (λ a. is_before due a.due) armed
+
+-- the timers of which one tick is left
+abbrev pub due_now : List Armed → List Due
+due_now armed = map (λ a. a.due) (filter (λ a. a.ticks == 1) armed)
+
+-- a tick drops these, and lowers what is left of the others
+abbrev pub after_tick : List Armed → List Armed
+after_tick armed = map (λ (a : Armed). record a { ticks = a.ticks - 1 }) (filter (λ a. not (a.ticks == 1)) armed)
+
+-- each comes before all later ones
+abbrev pub IsRising : List Armed → Type 0
+IsRising armed = AllPairs (λ earlier later. is_before earlier.due later.due ≡ true) armed
+
+-- something is left of each
+abbrev pub AreRunning : List Armed → Type 0
+AreRunning armed = All (λ a. 1 ≤ a.ticks) armed

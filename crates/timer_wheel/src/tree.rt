@@ -1,0 +1,226 @@
+//! The running timers in a tree, from left to right by rising connection and timer. Each node has a rank that is scattered over all
+//! numbers, and none below it a higher one, so that the depth is about a logarithm of the timers, in whatever order they are started.
+ghost use Rattle.std.specs.Prelude.{◌≡◌, ◌+◌, ◌<◌, ◌≤◌, ◌∷◌, ◌++◌, [], All, filter, length, vec_len, map};
+ghost use Rattle.std.specs.Vec.{vec_capacity};
+ghost use Rattle.timer_wheel.specs.Order.{is_before};
+ghost use Rattle.timer_wheel.specs.Inner.Tree.{alarms, before, behind, due_by, not_fires, recounted, IsSound, Rises};
+
+use crate::due::{Alarm, Due};
+use std::mem;
+
+/// A node and what is below it, or nothing.
+#[cycle(tree)]
+#[derive(Drop)]
+pub enum Tree {
+    Leaf,
+    Fork(Box<Node>),
+}
+
+/// A running timer, with those before it on its left and those behind it on its right.
+#[cycle(tree)]
+#[derive(Drop)]
+pub struct Node {
+    left: Tree,
+    alarm: Alarm,
+    /// No node below has a higher rank.
+    rank: u32,
+    /// No timer here or below fires earlier.
+    soonest: u64,
+    right: Tree,
+}
+
+impl Node {
+    /// A node of no timer.
+    pub(crate) fn spare() -> Node {
+        Node {
+            left: Tree::Leaf,
+            alarm: Alarm {
+                due: Due { conn: 0, timer: 0 },
+                tick: 0,
+            },
+            rank: 0,
+            soonest: 0,
+            right: Tree::Leaf,
+        }
+    }
+}
+
+impl Tree {
+    /// No timer fires before this tick.
+    fn soonest(&self) -> u64
+        requires { IsSound self.now }
+        ensures { All (λ alarm. result ≤ alarm.tick) (alarms self.now) }
+    {
+        match self {
+            Tree::Leaf => u64::MAX,
+            Tree::Fork(node) => node.soonest,
+        }
+    }
+
+    pub(crate) fn take(&mut self) -> Tree
+        ensures { result ≡ self.old }
+    {
+        mem::replace(self, Tree::Leaf)
+    }
+}
+
+/// A node without its sides, and these.
+fn open(mut node: Box<Node>) -> (Tree, Box<Node>, Tree)
+    ensures left { result.0 ≡ node.value.left }
+    ensures alarm { result.1.value.alarm ≡ node.value.alarm }
+    ensures right { result.2 ≡ node.value.right }
+{
+    let left = node.left.take();
+    let right = node.right.take();
+    (left, node, right)
+}
+
+/// A node with these sides.
+fn fork(mut node: Box<Node>, left: Tree, right: Tree) -> Tree
+    requires left { IsSound left }
+    requires right { IsSound right }
+    ensures alarms { alarms result ≡ alarms left ++ node.value.alarm ∷ alarms right }
+    ensures sound { IsSound result }
+{
+    node.soonest = node.alarm.tick.min(left.soonest()).min(right.soonest());
+    node.left = left;
+    node.right = right;
+    Tree::Fork(node)
+}
+
+/// One tree of two, of which the first comes before the second.
+pub(crate) fn join(left: Tree, right: Tree) -> Tree
+    requires left { IsSound left }
+    requires right { IsSound right }
+    ensures alarms { alarms result ≡ alarms left ++ alarms right }
+    ensures sound { IsSound result }
+{
+    match left {
+        Tree::Leaf => right,
+        Tree::Fork(mut node) => match right {
+            Tree::Leaf => Tree::Fork(node),
+            Tree::Fork(mut other) => {
+                if node.rank >= other.rank {
+                    let (before, behind) = (node.left.take(), node.right.take());
+                    let behind = join(behind, Tree::Fork(other));
+                    fork(node, before, behind)
+                } else {
+                    let (before, behind) = (other.left.take(), other.right.take());
+                    let before = join(Tree::Fork(node), before);
+                    fork(other, before, behind)
+                }
+            }
+        },
+    }
+}
+
+/// Takes the tree apart into the timers before this one and those behind it. The node of this one becomes spare.
+pub(crate) fn part(tree: Tree, due: Due, spare: &mut Vec<Box<Node>>) -> (Tree, Tree)
+    requires sound { IsSound tree }
+    requires rising { Rises (alarms tree) }
+    requires room { vec_len spare.old + length (alarms tree) ≤ vec_capacity spare.old }
+    ensures before { alarms result.0 ≡ before due (alarms tree) }
+    ensures behind { alarms result.1 ≡ behind due (alarms tree) }
+    ensures sound { IsSound result.0 × IsSound result.1 }
+    ensures nodes { let parted = length (alarms result.0) + length (alarms result.1)
+        in vec_len spare.new + parted ≡ vec_len spare.old + length (alarms tree) }
+    ensures capacity { vec_capacity spare.new ≡ vec_capacity spare.old }
+{
+    match tree {
+        Tree::Leaf => (Tree::Leaf, Tree::Leaf),
+        Tree::Fork(node) => {
+            let (left, node, right) = open(node);
+            if node.alarm.due.is_before(due) {
+                let (before, behind) = part(right, due, spare);
+                (fork(node, left, before), behind)
+            } else if due.is_before(node.alarm.due) {
+                let (before, behind) = part(left, due, spare);
+                (before, fork(node, behind, right))
+            } else {
+                spare.push_reserved(node);
+                (left, right)
+            }
+        }
+    }
+}
+
+/// Drops the timers that fire up to this tick. Their nodes become spare.
+#[tactic(auto, using(crate::proofs::Order::all_stay))]
+pub(crate) fn without_due(tree: Tree, tick: u64, spare: &mut Vec<Box<Node>>) -> Tree
+    requires sound { IsSound tree }
+    requires room { vec_len spare.old + length (alarms tree) ≤ vec_capacity spare.old }
+    ensures alarms { alarms result ≡ filter (not_fires tick) (alarms tree) }
+    ensures sound { IsSound result }
+    ensures nodes { vec_len spare.new + length (alarms result) ≡ vec_len spare.old + length (alarms tree) }
+    ensures capacity { vec_capacity spare.new ≡ vec_capacity spare.old }
+{
+    match tree {
+        Tree::Leaf => Tree::Leaf,
+        Tree::Fork(mut node) => {
+            if node.soonest > tick {
+                return Tree::Fork(node);
+            }
+            let left = without_due(node.left.take(), tick, spare);
+            let right = without_due(node.right.take(), tick, spare);
+            if node.alarm.tick <= tick {
+                spare.push_reserved(node);
+                join(left, right)
+            } else {
+                fork(node, left, right)
+            }
+        }
+    }
+}
+
+/// Puts the timers that fire up to this tick at the end of a list, which has room for all.
+#[tactic(auto, using(crate::proofs::Order::none_fires))]
+pub(crate) fn list_due(tree: &Tree, tick: u64, list: &mut Vec<Due>)
+    requires sound { IsSound tree.now }
+    requires room { vec_len list.old + length (alarms tree.now) ≤ vec_capacity list.old }
+    ensures items { list.new.items ≡ list.old.items ++ due_by tick (alarms tree.now) }
+    ensures room { vec_len list.new ≤ vec_len list.old + length (alarms tree.now) }
+    ensures capacity { vec_capacity list.new ≡ vec_capacity list.old }
+{
+    if let Tree::Fork(node) = tree {
+        if node.soonest > tick {
+            return;
+        }
+        list_due(&node.left, tick, list);
+        if node.alarm.tick <= tick {
+            list.push_reserved(node.alarm.due);
+        }
+        list_due(&node.right, tick, list);
+    }
+}
+
+/// Counts the ticks at which the timers fire from so many ticks later.
+pub(crate) fn recount(tree: &mut Tree, ticks: u64)
+    requires sound { IsSound tree.old }
+    ensures alarms { alarms tree.new ≡ map (recounted ticks) (alarms tree.old) }
+    ensures sound { IsSound tree.new }
+{
+    if let Tree::Fork(node) = tree {
+        node.soonest = node.soonest.saturating_sub(ticks);
+        node.alarm.tick = node.alarm.tick.saturating_sub(ticks);
+        recount(&mut node.left, ticks);
+        recount(&mut node.right, ticks);
+    }
+}
+
+/// A number that is the same for the same timer, and scattered over all numbers.
+fn rank(due: Due) -> u32 {
+    let mixed = due.conn.wrapping_mul(0x9e37_79b9) ^ u32::from(due.timer).wrapping_mul(0x85eb_ca6b);
+    let mixed = (mixed ^ mixed >> 16).wrapping_mul(0x7feb_352d);
+    let mixed = (mixed ^ mixed >> 15).wrapping_mul(0x846c_a68b);
+    mixed ^ mixed >> 16
+}
+
+/// A node of this timer alone.
+pub(crate) fn planted(mut node: Box<Node>, alarm: Alarm) -> Tree
+    ensures alarms { alarms result ≡ alarm ∷ [] }
+    ensures sound { IsSound result }
+{
+    node.alarm = alarm;
+    node.rank = rank(alarm.due);
+    fork(node, Tree::Leaf, Tree::Leaf)
+}

@@ -1,0 +1,159 @@
+//! The wheel of timers. Nodes for them are made beforehand, and `arm` takes one. Its cost and that of `cancel` are logarithmic in the timers
+//! that run, that of `due` and `advance` logarithmic for each timer that is due, and constant where none is: where each timer fires is held
+//! as a tick that is counted from one beginning, so that a tick changes no timer that stays. Once in 2^63 ticks the count begins anew.
+ghost use Rattle.std.specs.Prelude.{◌≡◌, ◌<◌, ◌≤◌, ◌+◌, ◌^◌, [], length, max, vec_len, OnOk, OnErr};
+ghost use Rattle.std.specs.Vec.{vec_capacity};
+ghost use Rattle.timer_wheel.specs.Timers.{timer_of, others, with_timer, due_now, after_tick, IsRising, AreRunning};
+ghost use Rattle.timer_wheel.specs.Inner.Tree.{alarms};
+ghost use Rattle.timer_wheel.specs.Inner.Turning.{armed_at, IsTurned};
+
+use crate::due::{Alarm, Due, DueList};
+use crate::tree::{Node, Tree, join, part, planted, recount, without_due};
+use relay_base::Memory;
+use std::alloc::Global;
+use std::marker::Model;
+
+/// After so many ticks the count of them begins anew.
+const LAST: u64 = 1 << 63;
+
+/// The running timers of a lane's connections.
+#[derive(Drop)]
+pub struct Wheel {
+    tree: Tree,
+    /// The nodes of no timer. All nodes together are as many as the timers that there is room for.
+    spare: Vec<Box<Node>>,
+    alloc: Global,
+    room: u32,
+    /// The ticks that were taken since the count began.
+    passed: u64,
+}
+
+impl Model for Wheel {
+    ghost use Rattle.std.specs.Prelude.{◌≡◌, ◌+◌, ◌≤◌, ◌^◌, length, vec_len};
+    ghost use Rattle.std.specs.Vec.{vec_capacity};
+    ghost use Rattle.timer_wheel.specs.Timers.{Timers};
+    ghost use Rattle.timer_wheel.specs.Inner.Tree.{alarms};
+    ghost use Rattle.timer_wheel.specs.Inner.Turning.{armed_at, IsTurned};
+
+    ghost Value = { Timers };
+
+    ghost view = { λ w. record { armed = armed_at w.passed (alarms w.tree); room = w.room } };
+
+    ghost invariant = { λ w. IsTurned w.passed w.tree × (vec_len w.spare + length (alarms w.tree) ≡ w.room)
+        × (w.room ≤ vec_capacity w.spare) × (w.passed ≤ 2 ^ 63) };
+}
+
+impl Wheel {
+    /// No timer runs, and there is room for none.
+    pub fn new(alloc: Global) -> Wheel
+        ensures { result ≡ record { armed = []; room = 0 } }
+    {
+        Wheel {
+            tree: Tree::Leaf,
+            spare: Vec::new(alloc),
+            alloc,
+            room: 0,
+            passed: 0,
+        }
+    }
+
+    /// Takes memory for so many running timers in all.
+    pub fn reserve(&mut self, timers: u32) -> Result<(), Memory>
+        ensures ok { OnOk result (self.new ≡ record self.old { room = max self.old.room timers }) }
+        ensures err { OnErr result (self.new ≡ self.old) }
+    {
+        if timers <= self.room {
+            return Ok(());
+        }
+        let before = self.spare.len();
+        self.spare.reserve(timers as usize)?;
+        match grow(self.alloc, &mut self.spare, timers - self.room) {
+            Ok(()) => {
+                self.room = timers;
+                Ok(())
+            }
+            Err(memory) => {
+                self.spare.truncate(before);
+                Err(memory)
+            }
+        }
+    }
+
+    /// Stops a timer, if it runs.
+    pub fn cancel(&mut self, conn: u32, timer: u8)
+        ensures { self.new ≡ record self.old { armed = others (timer_of conn timer) self.old.armed } }
+    {
+        let (before, behind) = part(self.tree.take(), Due { conn, timer }, &mut self.spare);
+        self.tree = join(before, behind);
+    }
+
+    /// Starts a timer for so many ticks, in the place of an earlier start. There is room for it beside the others.
+    pub fn arm(&mut self, conn: u32, timer: u8, ticks: u32)
+        requires ticks { 1 ≤ ticks }
+        requires room { length (others (timer_of conn timer) self.old.armed) < self.old.room }
+        ensures { let due = timer_of conn timer
+            in self.new ≡ record self.old { armed = with_timer due ticks self.old.armed } }
+    {
+        let due = Due { conn, timer };
+        let tick = self.passed + u64::from(ticks);
+        let (before, behind) = part(self.tree.take(), due, &mut self.spare);
+        let timer = planted(taken(&mut self.spare), Alarm { due, tick });
+        self.tree = join(join(before, timer), behind);
+    }
+
+    /// Gives the timers that the next tick makes due, by rising connection and timer.
+    pub fn due(&self, list: &mut DueList)
+        requires room { length self.now.armed ≤ list.old.room }
+        ensures value { list.new ≡ record list.old { timers = due_now self.now.armed } }
+        ensures rising { IsRising self.now.armed }
+        ensures running { AreRunning self.now.armed }
+    {
+        list.fill(&self.tree, self.passed + 1);
+    }
+
+    /// Takes a tick, and drops the timers that it makes due.
+    pub fn advance(&mut self)
+        ensures { self.new ≡ record self.old { armed = after_tick self.old.armed } }
+    {
+        self.passed = counted_anew(&mut self.tree, self.passed) + 1;
+        self.tree = without_due(self.tree.take(), self.passed, &mut self.spare);
+    }
+}
+
+/// Makes so many more nodes.
+fn grow(alloc: Global, spare: &mut Vec<Box<Node>>, more: u32) -> Result<(), Memory>
+    requires room { vec_len spare.old + more ≤ vec_capacity spare.old }
+    ensures ok { OnOk result (vec_len spare.new ≡ vec_len spare.old + more) }
+    ensures longer { vec_len spare.old ≤ vec_len spare.new }
+    ensures capacity { vec_capacity spare.new ≡ vec_capacity spare.old }
+{
+    for _ in 0..more {
+        spare.push_reserved(Box::new(alloc, Node::spare())?);
+    }
+    Ok(())
+}
+
+/// The ticks that were taken since the count began. Where they are too many, it begins anew.
+fn counted_anew(tree: &mut Tree, passed: u64) -> u64
+    requires turned { IsTurned passed tree.old }
+    requires within { passed ≤ 2 ^ 63 }
+    ensures same { armed_at result (alarms tree.new) ≡ armed_at passed (alarms tree.old) }
+    ensures turned { IsTurned result tree.new }
+    ensures count { length (alarms tree.new) ≡ length (alarms tree.old) }
+    ensures below { result < 2 ^ 63 }
+{
+    if passed < LAST {
+        return passed;
+    }
+    recount(tree, passed);
+    0
+}
+
+/// Takes a node from where there is one.
+fn taken(spare: &mut Vec<Box<Node>>) -> Box<Node>
+    requires some { 0 < vec_len spare.old }
+    ensures len { vec_len spare.new + 1 ≡ vec_len spare.old }
+    ensures capacity { vec_capacity spare.new ≡ vec_capacity spare.old }
+{
+    spare.pop().unwrap()
+}
