@@ -1,7 +1,6 @@
 //! A place from which a thread looks at what is published.
 ghost use Rattle.std.specs.Prelude.{◌≡◌};
 ghost use Rattle.left_right.specs.Sides.{view};
-ghost use Rattle.gtt_editions.specs.Editions.{edition_of};
 ghost use Rattle.gtt_editions.specs.Published.{Begins};
 ghost use Rattle.gtt_editions.specs.Marked.{shown_by, list_of};
 ghost use Rattle.gtt_editions.specs.Rule.{IsOpened, standing};
@@ -109,7 +108,8 @@ impl<'r, R: Wait> Place<'r, R> {
 impl<'r, R: Wait> Looking<'r, R> {
     /// The routing data of the edition, with its number.
     pub fn plant(&self) -> &Plant
-        ensures { edition_of result.now ≡ newest_of self.now }
+        ensures routing { result.now.routing ≡ (newest_of self.now).routing }
+        ensures edition { result.now.edition ≡ (newest_of self.now).number }
     {
         &self.reading.get().plant
     }
