@@ -1,0 +1,4 @@
+pub mod EditionLemmas
+pub mod PublishedLemmas
+pub mod RuleKeeps
+pub mod SameChanges

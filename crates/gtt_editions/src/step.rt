@@ -1,0 +1,12 @@
+//! What is published.
+use plant_core::Change;
+
+/// One step of what is published.
+#[derive(Clone, Copy)]
+pub enum Step {
+    /// From now on the publisher knows the edition at the opening.
+    Open,
+    Change(Change),
+    /// Nothing is published after it.
+    End,
+}
