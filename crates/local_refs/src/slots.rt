@@ -54,7 +54,7 @@ impl Slots {
             IfOk result (λ slots. slots ≡ record { lane = lane; freeze = freeze; states = states }) }
     {
         let mut states = Vec::new(alloc);
-        states.resize(usize::from(SLOTS), SlotState::Free)?;
+        states.resize(SLOTS as usize, SlotState::Free)?;
         Ok(Slots {
             lane,
             freeze,

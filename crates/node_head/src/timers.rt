@@ -8,7 +8,7 @@ ghost use Rattle.node_head.specs.Inner.Timers.{connection_ticks, release_ticks, 
 
 use crate::fault::{HeadKind, HeadRefused};
 use crate::section::{Bounds, Place, Section, refuse};
-use plant_core::{MOST_TICKS, Ticks};
+use plant_core::{MOST_TICKS, Ticks, USUAL_TICKS};
 use std::alloc::Global;
 use toml::Value;
 
@@ -28,9 +28,9 @@ impl Section<'_> {
     fn connection_ticks(&self, alloc: Global) -> Result<(u32, u32, u32), HeadRefused>
         ensures { Reads result (connection_ticks self.now.place (members_of self.now)) }
     {
-        let connect = self.ticks(alloc, "connect", 90, 1)?;
-        let ias = self.ticks(alloc, "ias", 420, 60)?;
-        let iar = self.ticks(alloc, "iar", 900, 1)?;
+        let connect = self.ticks(alloc, "connect", USUAL_TICKS.connect, 1)?;
+        let ias = self.ticks(alloc, "ias", USUAL_TICKS.ias, 60)?;
+        let iar = self.ticks(alloc, "iar", USUAL_TICKS.iar, 1)?;
         Ok((connect, ias, iar))
     }
 
@@ -39,9 +39,9 @@ impl Section<'_> {
     fn release_ticks(&self, alloc: Global) -> Result<(u32, u32, u32), HeadRefused>
         ensures { Reads result (release_ticks self.now.place (members_of self.now)) }
     {
-        let rel = self.ticks(alloc, "rel", 15, 1)?;
-        let repeat = self.ticks(alloc, "repeat", 15, 5)?;
-        let int = self.ticks(alloc, "int", 60, 1)?;
+        let rel = self.ticks(alloc, "rel", USUAL_TICKS.rel, 1)?;
+        let repeat = self.ticks(alloc, "repeat", USUAL_TICKS.repeat, 5)?;
+        let int = self.ticks(alloc, "int", USUAL_TICKS.int, 1)?;
         Ok((rel, repeat, int))
     }
 
@@ -50,9 +50,9 @@ impl Section<'_> {
     fn waiting_ticks(&self, alloc: Global) -> Result<(u32, u32, u32), HeadRefused>
         ensures { Reads result (waiting_ticks self.now.place (members_of self.now)) }
     {
-        let reset = self.ticks(alloc, "reset", 15, 1)?;
-        let reassembly = self.ticks(alloc, "reassembly", 15, 1)?;
-        let freeze = self.ticks(alloc, "freeze", 60, 1)?;
+        let reset = self.ticks(alloc, "reset", USUAL_TICKS.reset, 1)?;
+        let reassembly = self.ticks(alloc, "reassembly", USUAL_TICKS.reassembly, 1)?;
+        let freeze = self.ticks(alloc, "freeze", USUAL_TICKS.freeze, 1)?;
         Ok((reset, reassembly, freeze))
     }
 
@@ -61,9 +61,14 @@ impl Section<'_> {
     fn management_ticks(&self, alloc: Global) -> Result<(u32, u32, u32), HeadRefused>
         ensures { Reads result (management_ticks self.now.place (members_of self.now)) }
     {
-        let status = self.ticks(alloc, "status", 30, 1)?;
-        let status_max = self.ticks(alloc, "status_max", status.max(600), status)?;
-        let coord = self.ticks(alloc, "coord", 90, 1)?;
+        let status = self.ticks(alloc, "status", USUAL_TICKS.status, 1)?;
+        let status_max = self.ticks(
+            alloc,
+            "status_max",
+            status.max(USUAL_TICKS.status_max),
+            status,
+        )?;
+        let coord = self.ticks(alloc, "coord", USUAL_TICKS.coord, 1)?;
         Ok((status, status_max, coord))
     }
 
