@@ -34,9 +34,11 @@ use Rattle.section_model.specs.Lane.{heard, follow}
 use Rattle.flow_law.specs.InStep.{passed_at, got_at, InCredit, InWindow, PassesOn, IsInStep}
 use Rattle.flow_law.specs.SentUnits.{leaving}
 
--- (b) and (c) on a section of class 3, and of (a) what the two ends show.
+-- (b) and (c) on a section of class 3, and of (a) what the two ends show; and in class 2 that all units left that came.
 abbrev pub EndKept : End → End → Type 0
-EndKept (wire x) other = x.head.class ≡ 3 → InCredit x.head.credit x.windows × InWindow x.windows × PassesOn x.windows (passed_at other) (got_at other)
+EndKept (wire x) other =
+    (x.head.class ≡ 3 → InCredit x.head.credit x.windows × InWindow x.windows × PassesOn x.windows (passed_at other) (got_at other))
+    × (x.head.class ≡ 2 → passed_at other ≡ length (got_at other))
 EndKept (owner u) other = Unit {0}
 
 abbrev pub FlowKept : Connection → Type 0

@@ -5,7 +5,7 @@ ghost use Rattle.section_model.specs.Ends.{wire, is_connected};
 ghost use Rattle.section_class3.specs.Windows.{windows_act};
 ghost use Rattle.section_class2.specs.Lines.{line_acts};
 ghost use Rattle.section_model.specs.Views.{section_of};
-ghost use Rattle.section_model.specs.Acting.{is_sent, is_windowed, is_by_class, in_windows, by_line, by_windows, timed};
+ghost use Rattle.section_model.specs.Acting.{is_sent, is_by_class, in_windows, by_line, by_windows, timed};
 ghost use Rattle.section_model.specs.Timing.{timers_after};
 ghost use Rattle.section_model.specs.declared.input.Input.TheVariants as input;
 ghost use Rattle.section_coupling.specs.Views.{section_at, section_by, IsAct};
@@ -46,25 +46,16 @@ fn has_sent(outs: &Outs) -> bool
     outs.as_slice().iter().any(|output| is_sent(output))
 }
 
-/// Whether a cell is one of class 3 alone.
-fn is_windowed(cell: Cell) -> bool
-    ensures { result ≡ is_windowed cell }
-{
-    match cell {
-        Cell::TakeNumberedData | Cell::TakeAcknowledgement => true,
-        Cell::TakeExpedited | Cell::TakeExpeditedAcknowledgement => true,
-        Cell::ResetByPeer | Cell::ResetComplete | Cell::Left => true,
-        _ => false,
-    }
-}
-
 /// Whether the class decides what a cell does.
 fn is_by_class(cell: Cell) -> bool
     ensures { result ≡ is_by_class cell }
 {
     match cell {
-        Cell::SendTest | Cell::PassUnit | Cell::PassExpedited => true,
-        Cell::PassReset | Cell::ClearCounts => true,
+        Cell::TakeData | Cell::TakeNumberedData | Cell::TakeAcknowledgement => true,
+        Cell::TakeExpedited | Cell::TakeExpeditedAcknowledgement => true,
+        Cell::ResetByPeer | Cell::ResetComplete | Cell::SendTest => true,
+        Cell::PassUnit | Cell::PassExpedited | Cell::PassReset => true,
+        Cell::ClearCounts | Cell::Left => true,
         _ => false,
     }
 }
@@ -106,7 +97,7 @@ impl Wire {
     fn in_windows(&self, cell: Cell) -> bool
         ensures { (now : ℕ) → result ≡ in_windows cell (section_at now self.now) }
     {
-        is_windowed(cell) || (is_by_class(cell) && self.head.class == 3)
+        is_by_class(cell) && self.head.class == 3
     }
 
     /// An act of the line; the timers stay.
