@@ -1,4 +1,4 @@
--- The law of the windows of class 3 (Q.714, 3.5.2): what holds at every moment of a connection, whatever it hears.
+-- The law of the windows of class 3 (Q.714, 3.5.2), and of what leaves in class 2: what holds at every moment of a connection, whatever it hears.
 --
 -- Let X and Y be its ends, where section Y is of class 3. The units that came in on X since the counts were last cleared are got(X), and
 -- passed(X) of them left on Y.
@@ -9,6 +9,8 @@
 --     while sent - acked is below the send credit: `within` of `SendingLaw`.
 -- (d) Whether ED is unanswered on Y is one truth value, so there is at most one such; and none leaves while it is true: `one_expedited`
 --     and `none_at_once` of `SendingLaw`. EA makes it false before what waits leaves, and lets nothing leave where it is false (`none_unasked`).
+-- In class 2 no window holds a unit back: where section Y is of class 2, all that came in on X left on Y, so passed(X) is the length of got(X)
+-- (`EndKept`).
 -- What a connection sends by this as DT2 and ED, octet for octet, is the law of `message_law`.
 use Rattle.std.specs.Prelude.{◌≡◌, ℕ, ◌+◌, ◌-◌, ◌≤◌, ◌<◌, ◌==◌, ◌&&◌, not, true, false, List, [], ◌∷◌, ◌++◌, length, if◌then◌else◌, Option, Some, unwrap_or, is_some}
 use Rattle.relay_base.specs.declared.words.Event.{Event}
