@@ -1,5 +1,5 @@
 -- The format of a message type, and the values that a message has in it (Q.713, 2.3).
-use Rattle.std.specs.Prelude.{ℕ, ◌+◌, ◌-◌, ◌*◌, ◌==◌, ◌||◌, ◌&&◌, nat_lt, nat_le, Bool, List, [], ◌++◌, length, replicate, Option, Some, None, if◌then◌else◌}
+use Rattle.std.specs.Prelude.{ℕ, ◌+◌, ◌-◌, ◌*◌, ◌==◌, ◌||◌, ◌&&◌, nat_lt, nat_le, Bool, List, ◌++◌, length, replicate, Option, Some, None, if◌then◌else◌}
 use Rattle.relay_base.specs.declared.limits.TheConstants.{LONGEST_DATA, LONGEST_PARAMETER}
 use Rattle.q713_shape.specs.declared.rules.VarRule.{VarRule}
 
