@@ -15,7 +15,7 @@ use crate::written::Written;
 use relay_base::{Memory, Octets};
 use std::alloc::Global;
 
-/// The message as the function of its type writes it: the fields that are passed as they are, then those by their place.
+/// The message as the function of its type writes it: for each type the fields that are copied, then those that are lent.
 macro_rules! written_by {
     ($message:ident; $($variant:ident { $($value:ident),*; $($place:ident),* } $written:ident)*) => {
         match $message {
