@@ -22,7 +22,7 @@ both-true true true = omega arith
 both-true true false = omega arith
 both-true false t = omega arith
 
-before-all : (phase : ℕ) (control : List ControlEntry) → editions_before phase control ≤ count_by (λ e. is_some e.published) control
+pub before-all : (phase : ℕ) (control : List ControlEntry) → editions_before phase control ≤ count_by (λ e. is_some e.published) control
 before-all phase [] = omega arith
 before-all phase (e ∷ es) = omega (arith, count-first (λ x. is_some x.published) e es, count-first (λ x. is_some x.published && nat_lt x.stamp.phase phase) e es, both-true (is_some e.published) (nat_lt e.stamp.phase phase), before-all phase es)
 
@@ -45,7 +45,7 @@ and-false : (p t : Bool) → t ≡ false → cond {A = ℕ} (p && t) 1 0 ≡ 0
 and-false true t h = ap (λ b. cond b 1 0) h
 and-false false t h = refl
 
-upto-whole : (phase : ℕ) (control : List ControlEntry) → AllByRecursion (λ e. e.stamp.phase ≤ phase) control → editions_upto phase control ≡ count_by (λ e. is_some e.published) control
+pub upto-whole : (phase : ℕ) (control : List ControlEntry) → AllByRecursion (λ e. e.stamp.phase ≤ phase) control → editions_upto phase control ≡ count_by (λ e. is_some e.published) control
 upto-whole phase [] h = refl
 upto-whole phase (e ∷ es) h =
     omega (arith, count-first (λ x. is_some x.published) e es, count-first (λ x. is_some x.published && nat_le x.stamp.phase phase) e es, and-true (is_some e.published) (nat_le e.stamp.phase phase) (le-test e.stamp.phase phase h.0), upto-whole phase es h.1)
@@ -56,7 +56,7 @@ none-before phase earlier [] le h = refl
 none-before phase earlier (e ∷ es) le h =
     omega (arith, count-first (λ x. is_some x.published && nat_lt x.stamp.phase earlier) e es, and-false (is_some e.published) (nat_lt e.stamp.phase earlier) (lt-test e.stamp.phase earlier (omega (arith, le, h.0))), none-before phase earlier es le h.1)
 
-before-more : (phase earlier : ℕ) (control more : List ControlEntry) → earlier ≤ phase → AllByRecursion (λ e. e.stamp.phase ≡ phase) more → editions_before earlier (control ++ more) ≡ editions_before earlier control
+pub before-more : (phase earlier : ℕ) (control more : List ControlEntry) → earlier ≤ phase → AllByRecursion (λ e. e.stamp.phase ≡ phase) more → editions_before earlier (control ++ more) ≡ editions_before earlier control
 before-more phase earlier control more le h =
     omega (arith, sum_by-append (λ e. cond (is_some e.published && nat_lt e.stamp.phase earlier) 1 0) control more, none-before phase earlier more le h)
 
@@ -95,16 +95,6 @@ routing-kept head phase at old new None None le counted g h = tt
 routing-kept head phase at old new None (Some a) le counted g h = h
 routing-kept head phase at old new (Some q) None le counted g h = h
 routing-kept head phase at old new (Some q) (Some a) le counted g h = answer-kept head phase at old new q a le counted g h
-
--- the answer of the newest edition, in the phase of the newest entries
-pub routing-new : (head : Head) (phase : ℕ) (control : List ControlEntry) (asks : Option Question) → IsCounted head control → AllByRecursion (λ e. e.stamp.phase ≤ phase) control
-    → IsRouting head control phase asks (asked_at (length (changes_of head control)) (routing_after (routing_of head) (changes_of head control)) asks)
-routing-new head phase control None counted within = tt
-routing-new head phase control (Some q) counted within = record {
-  least = omega (arith, before-all phase control, counted);
-  most = omega (arith, upto-whole phase control within, counted);
-  answer = ap (λ l. answer_to (routing_after (routing_of head) l) q) (sym (take_all (length (changes_of head control)) (changes_of head control) (omega arith)));
-}
 
 -- the editions that a routing names were published
 pub routing-known : (head : Head) (at : ℕ) (control : List ControlEntry) (asks : Option Question) (asked : Option Asked) → IsCounted head control → IsRouting head control at asks asked

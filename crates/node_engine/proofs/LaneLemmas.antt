@@ -20,17 +20,9 @@ use Rattle.node_engine.specs.Own.{pairs_of}
 use Rattle.node_engine.specs.Heads.{routing_of}
 use Rattle.node_engine.specs.Editions.{changes_of, editions_in, named, IsRouting}
 use Rattle.node_engine.specs.Lanes.{IsRouted}
-use Rattle.node_engine.specs.Running.{Extends, ExtendsIf, IsRightSoFar, IsCounted}
+use Rattle.node_engine.specs.Running.{IsRightSoFar, IsCounted}
 use Rattle.node_engine.proofs.ListLemmas.{weaker-two, all-append, all-push}
-use Rattle.node_engine.proofs.EditionLemmas.{Grows, routing-kept, routing-new, routing-known}
-
--- what a journal has after an event, where it takes it
-pub extends-pairs : (t : Bool) (asks : Option Question) (edition : ℕ) (routing : RoutingData) (stamp : Stamp) (e : Event) (old new : List Entry) → ExtendsIf t asks edition routing stamp e old new
-    → pairs_of new ≡ pairs_of old ++ cond t ((stamp, Plain e) ∷ []) []
-extends-pairs true asks edition routing stamp e old new h =
-    let pair : (h.entry.stamp, Plain h.entry.event) ≡ (stamp, Plain e) = λ i. (h.stamped i, Plain (h.of_event i)) in
-    ap pairs_of h.journal ∙ map-append (λ (x : Entry). (x.stamp, Plain x.event)) old (h.entry ∷ []) ∙ ap (λ p. pairs_of old ++ p ∷ []) pair
-extends-pairs false asks edition routing stamp e old new h = ap pairs_of h ∙ sym (append-nil (pairs_of old))
+use Rattle.node_engine.proofs.EditionLemmas.{Grows, routing-kept, routing-known}
 
 -- ---- the control journal grew
 
@@ -43,51 +35,11 @@ stands-kept question head phase before after journal counted g h = record {
   rising = h.rising;
 }
 
--- ---- one entry more
+-- ---- the editions that are named
 
-known-editions : (question : Event → Option Question) (head : Head) (control : List ControlEntry) (journal : List Entry) → IsCounted head control → AllByRecursion (IsRouted question head control) journal
+pub known-editions : (question : Event → Option Question) (head : Head) (control : List ControlEntry) (journal : List Entry) → IsCounted head control → AllByRecursion (IsRouted question head control) journal
     → AllByRecursion (λ n. n ≤ length (changes_of head control)) (editions_in journal)
 known-editions question head control [] counted h = tt
 known-editions question head control (e ∷ es) counted h =
     all-append (λ n. n ≤ length (changes_of head control)) (named e.asked) (editions_in es)
     (routing-known head e.stamp.phase control (question e.event) e.asked counted h.0) (known-editions question head control es counted h.1)
-
-rising-push : (most : ℕ) (editions : List ℕ) → AllByRecursion (λ n. n ≤ most) editions → IsNonDecreasing editions → IsNonDecreasing (editions ++ most ∷ [])
-rising-push most editions h r =
-    IsNonDecreasingBy-push (λ n. n) editions most r (λ d some. All-from_recursion (λ n. n ≤ most) editions h (length editions - 1) d (omega (arith, some)))
-
-rising-asked : (most : ℕ) (editions : List ℕ) (routing : RoutingData) (asks : Option Question) → AllByRecursion (λ n. n ≤ most) editions → IsNonDecreasing editions → IsNonDecreasing (editions ++ named (asked_at most routing asks))
-rising-asked most editions routing None h r = subst IsNonDecreasing (sym (append-nil editions)) r
-rising-asked most editions routing (Some q) h r = rising-push most editions h r
-
-editions-push : (journal : List Entry) (entry : Entry) → editions_in (journal ++ entry ∷ []) ≡ editions_in journal ++ named entry.asked
-editions-push journal entry = flat_map-append (λ (e : Entry). named e.asked) journal (entry ∷ []) ∙ ap (λ l. editions_in journal ++ l) (append-nil (named entry.asked))
-
-abbrev newest : Head → List ControlEntry → Option Question → Option Asked
-newest head control asks = asked_at (length (changes_of head control)) (routing_after (routing_of head) (changes_of head control)) asks
-
-entry-routed : (question : Event → Option Question) (head : Head) (control : List ControlEntry) (stamp : Stamp) (e : Event) (entry : Entry) → IsCounted head control → AllByRecursion (λ c. c.stamp.phase ≤ stamp.phase) control
-    → entry.stamp ≡ stamp → entry.event ≡ e → entry.asked ≡ newest head control (question e) → IsRouted question head control entry
-entry-routed question head control stamp e entry counted within stamped of_event answered =
-    subst (IsRouting head control entry.stamp.phase (question entry.event)) (sym answered)
-    (subst (λ f. IsRouting head control entry.stamp.phase (question f) (newest head control (question e))) (sym of_event)
-    (subst (λ (s : Stamp). IsRouting head control s.phase (question e) (newest head control (question e))) (sym stamped) (routing-new head stamp.phase control (question e) counted within)))
-
-stands-entry : (question : Event → Option Question) (head : Head) (control : List ControlEntry) (stamp : Stamp) (e : Event) (old new : List Entry) → IsCounted head control → AllByRecursion (λ c. c.stamp.phase ≤ stamp.phase) control
-    → Extends (question e) (length (changes_of head control)) (routing_after (routing_of head) (changes_of head control)) stamp e old new
-    → IsRightSoFar question head stamp.phase control old → IsRightSoFar question head stamp.phase control new
-stands-entry question head control stamp e old new counted within h s =
-    let most : ℕ = length (changes_of head control) in
-    subst (IsRightSoFar question head stamp.phase control) (sym h.journal) (record {
-      within = all-push (λ c. c.stamp.phase ≤ stamp.phase) old h.entry s.within (omega (arith, ap (λ (x : Stamp). x.phase) h.stamped));
-      routed = all-push (IsRouted question head control) old h.entry s.routed (entry-routed question head control stamp e h.entry counted within h.stamped h.of_event h.answered);
-      rising = subst IsNonDecreasing (sym (editions-push old h.entry ∙ ap (λ a. editions_in old ++ named a) h.answered))
-          (rising-asked most (editions_in old) (routing_after (routing_of head) (changes_of head control)) (question e) (known-editions question head control old counted s.routed) s.rising);
-    })
-
--- what stands of a journal after an event, where it takes it
-pub stands-extends : (t : Bool) (question : Event → Option Question) (head : Head) (control : List ControlEntry) (stamp : Stamp) (e : Event) (old new : List Entry) → IsCounted head control → AllByRecursion (λ c. c.stamp.phase ≤ stamp.phase) control
-    → ExtendsIf t (question e) (length (changes_of head control)) (routing_after (routing_of head) (changes_of head control)) stamp e old new
-    → IsRightSoFar question head stamp.phase control old → IsRightSoFar question head stamp.phase control new
-stands-extends true question head control stamp e old new counted within h s = stands-entry question head control stamp e old new counted within h s
-stands-extends false question head control stamp e old new counted within h s = subst (IsRightSoFar question head stamp.phase control) (sym h) s

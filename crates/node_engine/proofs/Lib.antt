@@ -3,7 +3,10 @@ pub mod OwnLemmas
 pub mod EditionLemmas
 pub mod CountLemmas
 pub mod LaneLemmas
-pub mod EventLemmas
+pub mod RisingLemmas
+pub mod SeatLemmas
+pub mod PhaseLemmas
+pub mod BarrierLemmas
 pub mod RunLemmas
 pub mod LoopLemmas
 pub mod RightLemmas

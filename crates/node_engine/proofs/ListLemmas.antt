@@ -1,6 +1,6 @@
 -- Facts on each member of a list, and on each two members of two lists.
 use Rattle.std.proofs.Common.{◌≡◌, ℕ, ◌+◌, Bool, true, false, cond, List, [], ◌∷◌, ◌++◌, length, map, suc, refl, ap, ◌∙◌, subst, add-zero, zero-add, arith}
-use Rattle.std.specs.Prelude.{count_by}
+use Rattle.std.specs.Prelude.{count_by, filter}
 use Rattle.std.proofs.lemmas.List.Sums.{sum_by-append}
 use Rattle.std.specs.List.{AllByRecursion}
 use Rattle.node_engine.specs.Lanes.{LanesFrom}
@@ -33,6 +33,10 @@ pub all-cond : {A : Type 0} (P : A → Type 0) (t : Bool) (x : A) (rest : List A
 all-cond P true x rest p h = (p, h)
 all-cond P false x rest p h = h
 
+pub all-filter : {A : Type 0} (P : A → Type 0) (test : A → Bool) (xs : List A) → AllByRecursion P xs → AllByRecursion P (filter test xs)
+all-filter P test [] h = tt
+all-filter P test (x ∷ xs) h = all-cond P (test x) x (filter test xs) h.0 (all-filter P test xs h.1)
+
 pub all-map : {A B : Type 0} (P : B → Type 0) (f : A → B) (xs : List A) → AllByRecursion (λ x. P (f x)) xs → AllByRecursion P (map f xs)
 all-map P f [] h = tt
 all-map P f (x ∷ xs) h = (h.0, all-map P f xs h.1)
@@ -40,6 +44,11 @@ all-map P f (x ∷ xs) h = (h.0, all-map P f xs h.1)
 pub all-mapped : {A B : Type 0} (P : B → Type 0) (f : A → B) (xs : List A) → AllByRecursion P (map f xs) → AllByRecursion (λ x. P (f x)) xs
 all-mapped P f [] h = tt
 all-mapped P f (x ∷ xs) h = (h.0, all-mapped P f xs h.1)
+
+-- a list seen in two ways
+pub map-twice : {A B C D : Type 0} (f : B → D) (g : A → B) (h : C → D) (k : A → C) (xs : List A) → ((x : A) → f (g x) ≡ h (k x)) → map f (map g xs) ≡ map h (map k xs)
+map-twice f g h k [] same = refl
+map-twice f g h k (x ∷ xs) same = let first = same x in let rest = map-twice f g h k xs same in λ i. first i ∷ rest i
 
 -- the first of a list is counted alone
 pub count-first : {A : Type 0} (p : A → Bool) (x : A) (xs : List A) → count_by p (x ∷ xs) ≡ cond (p x) 1 0 + count_by p xs

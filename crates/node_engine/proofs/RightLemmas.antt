@@ -26,14 +26,10 @@ use Rattle.node_engine.specs.Placed.{in_control, taken, placed, IsOfLane}
 use Rattle.node_engine.specs.Lanes.{LaneKind, LanesFrom, IsServed, conn_kind, data_kind}
 use Rattle.node_engine.specs.Right.{HasServed, AreLegal, IsRight}
 use Rattle.node_engine.specs.Running.{PairsFrom, CanTake, IsFirst, IsConnLaneOf, IsDataLaneOf, IsOf, IsRightSoFar, IsCounted, AreRightSoFar, Took, Went, book_of, conn_journals, data_journals, HasLegal}
-use Rattle.node_engine.proofs.ListLemmas.{weaker, any-lanes, lanes-all, lanes-map, all-cond, all-lanes, pairs-lanes, all-map, all-mapped}
+use Rattle.node_engine.proofs.ListLemmas.{weaker, all-filter, any-lanes, lanes-all, lanes-map, all-lanes, pairs-lanes, all-map, all-mapped}
 use Rattle.node_engine.proofs.OwnLemmas.{phases-within, more-events, no-events, of-phase}
 
 -- ---- what is placed in a lane stands as it stood
-
-all-filter : {A : Type 0} (P : A → Type 0) (test : A → Bool) (xs : List A) → AllByRecursion P xs → AllByRecursion P (filter test xs)
-all-filter P test [] h = tt
-all-filter P test (x ∷ xs) h = all-cond P (test x) x (filter test xs) h.0 (all-filter P test xs h.1)
 
 links-placed : (in_lane : LanePlace → Bool) (head : Head) (phase link : ℕ) (lists : List Stamped) → AreOfLinks phase link lists → AreOfLinks phase link (map (taken in_lane head) lists)
 links-placed in_lane head phase link [] h = tt

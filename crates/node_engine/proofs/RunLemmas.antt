@@ -22,12 +22,10 @@ use Rattle.node_engine.specs.Own.{pairs_of, control_pairs_of}
 use Rattle.node_engine.specs.Placed.{in_control, taken}
 use Rattle.node_engine.specs.Lanes.{LaneKind, conn_kind, data_kind}
 use Rattle.node_engine.specs.Running.{PairsFrom, CanTake, HasRoom, IsOf, Took, Went, conn_journals, data_journals}
+use Rattle.node_engine.proofs.SeatLemmas.{taken-append}
 use Rattle.node_engine.proofs.ListLemmas.{weaker, all-mapped, all-first, all-rest, pairs-refl, pairs-join, pairs-all}
 
-taken-append : (in_lane : LanePlace → Bool) (head : Head) (xs ys : Stamped) → taken in_lane head (xs ++ ys) ≡ taken in_lane head xs ++ taken in_lane head ys
-taken-append in_lane head xs ys = filter-append (λ e. in_lane (place_of head e.1)) xs ys
-
-taken-length : (in_lane : LanePlace → Bool) (head : Head) (events : Stamped) → length (taken in_lane head events) ≤ length events
+pub taken-length : (in_lane : LanePlace → Bool) (head : Head) (events : Stamped) → length (taken in_lane head events) ≤ length events
 taken-length in_lane head events = length_filter (λ e. in_lane (place_of head e.1)) events
 
 -- what went on with two lists went on with both
@@ -112,10 +110,10 @@ can-rest head xs ys a b h g = record {
 pub take-more : {A : Type 0} (xs : List A) (i : ℕ) (x : A) → i < length xs → x ≡ get_or xs i x → take (i + 1) xs ≡ take i xs ++ x ∷ []
 take-more xs i x lt e = ap (λ n. take n xs) (add-one i) ∙ take-suc xs i x lt ∙ ap (λ y. take i xs ++ y ∷ []) (sym e)
 
-flat-more : {A : Type 0} (f : A → Stamped) (xs : List A) (i : ℕ) (x : A) → i < length xs → x ≡ get_or xs i x → flat_map f (take i xs) ++ f x ≡ flat_map f (take (i + 1) xs)
+pub flat-more : {A : Type 0} (f : A → Stamped) (xs : List A) (i : ℕ) (x : A) → i < length xs → x ≡ get_or xs i x → flat_map f (take i xs) ++ f x ≡ flat_map f (take (i + 1) xs)
 flat-more f xs i x lt e = sym (ap (flat_map f) (take-more xs i x lt e) ∙ flat_map-append f (take i xs) (x ∷ []) ∙ ap (λ l. flat_map f (take i xs) ++ l) (append-nil (f x)))
 
-flat-split : {A : Type 0} (f : A → Stamped) (xs : List A) (i : ℕ) (x : A) → i < length xs → x ≡ get_or xs i x → flat_map f xs ≡ flat_map f (take i xs) ++ (f x ++ flat_map f (drop (i + 1) xs))
+pub flat-split : {A : Type 0} (f : A → Stamped) (xs : List A) (i : ℕ) (x : A) → i < length xs → x ≡ get_or xs i x → flat_map f xs ≡ flat_map f (take i xs) ++ (f x ++ flat_map f (drop (i + 1) xs))
 flat-split f xs i x lt e =
     sym (ap (flat_map f) (take-append-drop (i + 1) xs)) ∙ flat_map-append f (take (i + 1) xs) (drop (i + 1) xs) ∙ ap (λ l. l ++ flat_map f (drop (i + 1) xs)) (sym (flat-more f xs i x lt e))
     ∙ append_assoc (flat_map f (take i xs)) (f x) (flat_map f (drop (i + 1) xs))
@@ -130,20 +128,6 @@ can-more head f xs i x a b lt e h g =
     can-first head (f x) (flat_map f (drop (i + 1) xs)) b
     (can-rest head (flat_map f (take i xs)) (f x ++ flat_map f (drop (i + 1) xs)) a b (subst (λ l. CanTake head l a) (flat-split f xs i x lt e) h) g)
 
--- ---- one event
-
--- the events of a link at a place are taken behind those before it
-pub went-push : (head : Head) (xs : Stamped) (i : ℕ) (x : Stamp × ControlEvent) (a b c : Node) → i < length xs → x ≡ get_or xs i x
-    → Went head (take i xs) a b → Went head (x ∷ []) b c → Went head (take (i + 1) xs) a c
-went-push head xs i x a b c lt e g h = subst (λ l. Went head l a c) (sym (take-more xs i x lt e)) (went-append head (take i xs) (x ∷ []) a b c g h)
-
-pub can-push : (head : Head) (xs : Stamped) (i : ℕ) (x : Stamp × ControlEvent) (a b : Node) → i < length xs → x ≡ get_or xs i x
-    → CanTake head xs a → Went head (take i xs) a b → CanTake head (x ∷ []) b
-can-push head xs i x a b lt e h g =
-    let split : xs ≡ take i xs ++ ((x ∷ []) ++ drop (i + 1) xs) =
-    sym (take-append-drop (i + 1) xs) ∙ ap (λ l. l ++ drop (i + 1) xs) (take-more xs i x lt e) ∙ append_assoc (take i xs) (x ∷ []) (drop (i + 1) xs) in
-    can-first head (x ∷ []) (drop (i + 1) xs) b (can-rest head (take i xs) ((x ∷ []) ++ drop (i + 1) xs) a b (subst (λ l. CanTake head l a) split h) g)
-
 -- ---- the phases of a capture
 
 phase-at : (links first i : ℕ) (lists : List Stamped) (phases : List (List Stamped)) → i < length phases → lists ≡ get_or phases i lists → AreOfPhases links first phases → AreOfLinks (first + i) 0 lists
@@ -156,10 +140,3 @@ pub next-phase : (links i : ℕ) (lists : List Stamped) (phases : List (List Sta
 next-phase links i lists phases lt e h =
     let count : length (take i phases) ≡ i = omega (arith, length-take i phases, lt) in
     subst (λ n. AreOfLinks n 0 lists) (omega (arith, count)) (phase-at links 1 i lists phases lt e h)
-
--- ---- what the connection lanes need
-
-pub few-conns : (head : Head) (e : Stamp × ControlEvent) (node : Node) → CanTake head (e ∷ []) node → AllByRecursion (λ l. length l.journal < 4294967296) node.conns.items
-few-conns head e node h =
-    weaker (λ (l : ConnLaneState). length l.journal + 1 < 4294967296) (λ (l : ConnLaneState). length l.journal < 4294967296) node.conns.items (λ l b. omega (arith, b))
-    (all-mapped (λ (j : List Entry). length j + 1 < 4294967296) (λ (l : ConnLaneState). l.journal) node.conns.items h.room.conns)

@@ -5,3 +5,5 @@ pub mod Editions
 pub mod Lanes
 pub mod Right
 pub mod Running
+pub mod Seats
+pub mod Phases

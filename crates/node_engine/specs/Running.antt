@@ -22,10 +22,8 @@ use Rattle.journal_text.specs.declared.book.Book.{Book}
 use Rattle.scmg.specs.Control.{IsControlJournal, routing_after}
 use Rattle.scmg.specs.Lane.{ControlState}
 use Rattle.scmg.specs.Lane.{changes_of as changes_by}
-use Rattle.node_engine.specs.declared.changes.PhaseChanges.{PhaseChanges}
 use Rattle.node_engine.specs.declared.node.Node.{Node}
 use Rattle.capture_form.specs.Events.{Stamped}
-use Rattle.node_engine.specs.declared.taking.Turn.{Turn}
 use Rattle.node_engine.specs.Own.{pairs_of, control_pairs_of}
 use Rattle.node_engine.specs.Heads.{routing_of, lane_head_of, control_head_of}
 use Rattle.node_engine.specs.Placed.{in_control, in_conn, in_data, taken}
@@ -60,47 +58,6 @@ pub record Extends (asks : Option Question) (edition : ℕ) (routing : RoutingDa
   pub of_event : entry.event ≡ e
   pub answered : entry.asked ≡ asked_at edition routing asks
 
--- it has where the event is placed in its lane, and else it stays
-abbrev pub ExtendsIf : Bool → Option Question → ℕ → RoutingData → Stamp → Event → List Entry → List Entry → Type 0
-ExtendsIf true asks edition routing stamp e old new = Extends asks edition routing stamp e old new
-ExtendsIf false asks edition routing stamp e old new = new ≡ old
-
--- an event that the lanes of a kind take: its place and its stamp, and the routing data of the moment
-pub record Taking : Type 0 where
-  pub edition : ℕ
-  pub routing : RoutingData
-  pub place : LanePlace
-  pub stamp : Stamp
-  pub event : Event
-
-abbrev pub taking_of : Turn → Taking
-taking_of t = record { edition = t.plant.now.edition; routing = t.plant.now.routing; place = t.place; stamp = t.stamp; event = t.event.now }
-
--- with the routing data of the control lane
-abbrev pub taking_by : ControlState → LanePlace → Stamp → Event → Taking
-taking_by lane place stamp e =
-    record { edition = length (changes_by lane); routing = routing_after lane.start (changes_by lane); place = place; stamp = stamp; event = e }
-
--- what the connection lane and the data lane of a number do with an event
-pub record ConnTakes (t : Taking) (number : ℕ) (old new : ConnLaneState) : Type 0 where
-  pub journal : ExtendsIf (in_conn number t.place) (conn_question old.head t.event) t.edition t.routing t.stamp t.event old.journal new.journal
-  pub head_kept : new.head ≡ old.head
-  pub number_kept : new.number ≡ old.number
-
-pub record DataTakes (t : Taking) (number : ℕ) (old new : LaneState) : Type 0 where
-  pub journal : ExtendsIf (in_data number t.place) (question_of_unit t.event) t.edition t.routing t.stamp t.event old.journal new.journal
-  pub head_kept : new.head ≡ old.head
-  pub number_kept : new.number ≡ old.number
-
--- the connection lanes and the data lanes take an event, with the routing data of the control lane; none takes a change
-abbrev pub ConnsTake : ControlState → LanePlace → Stamp → ControlEvent → List ConnLaneState → List ConnLaneState → Type 0
-ConnsTake lane place stamp (Plain e) olds news = PairsFrom (ConnTakes (taking_by lane place stamp e)) 0 olds news
-ConnsTake lane place stamp (Changing change) olds news = news ≡ olds
-
-abbrev pub UnitsTake : ControlState → LanePlace → Stamp → ControlEvent → List LaneState → List LaneState → Type 0
-UnitsTake lane place stamp (Plain e) olds news = PairsFrom (DataTakes (taking_by lane place stamp e)) 0 olds news
-UnitsTake lane place stamp (Changing change) olds news = news ≡ olds
-
 -- the control journal has one entry more: that of an event
 pub record ControlExtends (stamp : Stamp) (e : ControlEvent) (old new : List ControlEntry) : Type 0 where
   pub entry : ControlEntry
@@ -111,18 +68,6 @@ pub record ControlExtends (stamp : Stamp) (e : ControlEvent) (old new : List Con
 abbrev pub ControlExtendsIf : Bool → Stamp → ControlEvent → List ControlEntry → List ControlEntry → Type 0
 ControlExtendsIf true stamp e old new = ControlExtends stamp e old new
 ControlExtendsIf false stamp e old new = new ≡ old
-
--- what the control lane does with an event
-pub record ControlTakes (place : LanePlace) (stamp : Stamp) (e : ControlEvent) (old new : ControlState) : Type 0 where
-  pub journal : ControlExtendsIf (in_control place) stamp e old.journal new.journal
-  pub published : List Change
-  pub grown : changes_by new ≡ changes_by old ++ published
-  pub head_kept : new.head ≡ old.head
-  pub start_kept : new.start ≡ old.start
-
--- the changes since a phase was opened are the newest of a control lane
-abbrev pub IsOpen : PhaseChanges → ControlState → Type 0
-IsOpen changes lane = changes.first + length changes.changes ≡ length (changes_by lane)
 
 -- ---- the lanes of a node
 

@@ -1,13 +1,15 @@
 //! The engine: the lanes of a node, and how they take a capture.
 #![tactic(auto)]
 
-mod changes;
 mod node;
 mod phase;
+mod phase_lanes;
+mod publisher;
 mod run;
+mod seat;
 mod taking;
 
-pub use changes::PhaseChanges;
 pub use node::{ConnLaneList, DataLaneList, Node};
 pub use phase::run_phase;
+pub use publisher::PhasePublisher;
 pub use run::run_capture;

@@ -88,15 +88,25 @@ fn plant_of(alloc: Global, head: &Head) -> Result<Plant, Memory>
     Ok(plant)
 }
 
+/// The control lane of a head that was told this, before its first event.
+fn told_lane(alloc: Global, head: &Head, told: &ControlHead) -> Result<ControlLane, Memory>
+    requires rows { IsTrue (are_addable [] head.now.row) }
+    requires told { told.now ≡ control_head_of head.now }
+    ensures { IfOk result (λ lane. lane ≡
+        record { head = control_head_of head.now; start = routing_of head.now; journal = [] }) }
+{
+    let plant = plant_of(alloc, head)?;
+    ControlLane::new(alloc, told, plant)
+}
+
 /// The control lane of a head, before its first event.
 fn control_lane(alloc: Global, head: &Head) -> Result<ControlLane, Memory>
     requires { IsTrue (are_addable [] head.now.row) }
     ensures { IfOk result (λ lane. lane ≡
         record { head = control_head_of head.now; start = routing_of head.now; journal = [] }) }
 {
-    let plant = plant_of(alloc, head)?;
     let told = control_head_of(alloc, head)?;
-    ControlLane::new(alloc, &told, plant)
+    told_lane(alloc, head, &told)
 }
 
 /// The connection lanes of a head, before their first events.
@@ -132,19 +142,44 @@ fn data_lanes(alloc: Global, head: &Head) -> Result<DataLaneList, Memory>
     Ok(lanes)
 }
 
+/// The control lane alone.
+fn control_alone(alloc: Global, head: &Head) -> Result<Node, Memory>
+    requires { IsTrue (are_addable [] head.now.row) }
+    ensures { IfOk result (λ node. node.control ≡
+        record { head = control_head_of head.now; start = routing_of head.now; journal = [] }) }
+{
+    let control = control_lane(alloc, head)?;
+    Ok(Node {
+        control,
+        conns: Vec::new(alloc),
+        units: Vec::new(alloc),
+    })
+}
+
 impl Node {
     /// The lanes before the first event.
     pub fn start(alloc: Global, head: &Head) -> Result<Node, Memory>
         requires { IsHead head.now }
         ensures { IfOk result (λ node. IsFirst head.now node) }
     {
-        let control = control_lane(alloc, head)?;
-        let conns = conn_lanes(alloc, head)?;
-        let units = data_lanes(alloc, head)?;
-        Ok(Node {
-            control,
-            conns,
-            units,
-        })
+        let mut node = control_alone(alloc, head)?;
+        node.fill(alloc, head)?;
+        Ok(node)
+    }
+
+    /// The connection lanes and the data lanes join the control lane.
+    fn fill(&mut self, alloc: Global, head: &Head) -> Result<(), Memory>
+        requires { IsHead head.now }
+        ensures control { self.new.control ≡ self.old.control }
+        ensures conn_count { OnOk result (length self.new.conns.items ≡ head.now.conn_lanes) }
+        ensures conns { OnOk result (LanesFrom (IsConnLaneOf head.now) 0 self.new.conns.items) }
+        ensures conns_empty { OnOk result (AllByRecursion (λ l. l.journal ≡ []) self.new.conns.items) }
+        ensures data_count { OnOk result (length self.new.units.items ≡ head.now.data_lanes) }
+        ensures units { OnOk result (LanesFrom (IsDataLaneOf head.now) 0 self.new.units.items) }
+        ensures units_empty { OnOk result (AllByRecursion (λ l. l.journal ≡ []) self.new.units.items) }
+    {
+        self.conns = conn_lanes(alloc, head)?;
+        self.units = data_lanes(alloc, head)?;
+        Ok(())
     }
 }

@@ -1,0 +1,11 @@
+use Rattle.std.proofs.Common.{◌≡◌, true, map}
+use Rattle.std.specs.List.{AllByRecursion}
+use Rattle.gtt_editions.specs.Published.{Begins}
+use Rattle.node_engine.proofs.phase_lanes.all_unseated.Given as goal
+
+-- the lanes so far
+abbrev pub invariant-loop-seat : goal.invariant-loop-seat
+invariant-loop-seat g l = record {
+  lanes : l.lanes.items ≡ map (λ s. s.lane) l.yielded;
+  seen : AllByRecursion (λ s. Begins l.ended.seen s.place.seen) l.yielded;
+}
