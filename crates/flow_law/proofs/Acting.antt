@@ -15,11 +15,11 @@ use Rattle.section_model.specs.Parameters.{Parameters}
 use Rattle.section_model.specs.Ends.{End, wire, owner, SectionHead, Line, Section, Windows, Timers, gives, gives_then, cleared, only_cause}
 use Rattle.section_model.specs.Line.{confirms, hears_error, hears_test, agreed}
 use Rattle.section_model.specs.Windowed.{Windowed, is_valid, acknowledged, resets, is_next, is_used_up, wrong_number, accepts_unit, takes_data, takes_acknowledgement, takes_expedited as windows_take_expedited, sends_expedited, takes_answer}
-use Rattle.section_model.specs.Acting.{timed, by_windows, by_line}
+use Rattle.section_model.specs.Acting.{timed, by_windows, line_in, by_line}
 use Rattle.section_model.proofs.Counting.{count-between}
-use Rattle.flow_law.specs.InStep.{Stage, asking, connected, over, Meets, stage_at, section_stage, AreInStep, ResetIsAwaited, InCredit, InWindow, PassesOn}
+use Rattle.flow_law.specs.InStep.{Stage, asking, connected, over, Meets, stage_at, section_stage, AreInStep, ResetIsAwaited, SendsAllWith, InCredit, InWindow, PassesOn}
 use Rattle.flow_law.proofs.Ends.{kept_back, awaited_back}
-use Rattle.flow_law.proofs.Taking.{at, Settles, TakesInStep, alone, handed_on, NotRenewing, Agree, MayEnd, cleared_in, nothing_passed, takes_end, takes_refusal, takes_acceptance}
+use Rattle.flow_law.proofs.Taking.{at, Settles, TakesInStep, alone, handed_on, NotRenewing, Agree, MayEnd, cleared_in, nothing_passed, nothing_left, takes_end, takes_refusal, takes_acceptance}
 use Rattle.flow_law.proofs.Flowing.{either, open_can_end, open_other, takes_expedited, takes_reset, takes_unit_of, takes_left, expedited_left, within_given}
 
 -- an act of a section, of its windows, and of its line
@@ -64,7 +64,7 @@ pub resets_as : (s : SectionState) (ticks : Ticks) (cause : ℕ) (x : Section) (
 resets_as s ticks cause x that outs o k =
     let b = other_first (at Up x) that k in
     acts_then ticks (at Up x) (record (at s x) { windows = cleared x.head.credit }) that outs (hand.Reset cause)
-    (takes_reset ticks cause that _ (k.0, o, b.1, b.2, tt, λ three. (not_renewing x that (k.4 (rw k.1 three)).0, refl, refl, cleared_flows x.head.credit k.2.0)))
+    (takes_reset ticks cause that _ (k.0, o, b.1, b.2, tt, λ three. (not_renewing x that (k.4 (rw k.1 three)).0, refl, refl, cleared_flows x.head.credit k.2.0), λ two. (nothing_left that, (b.5 two).1)))
 
 window_resets : (ticks : Ticks) (cause : ℕ) (x : Section) (that : End) → AreInStep (wire (at Up x)) that
     → ActsWindowed ticks (at Up x) that (resets cause (record { head = (at Up x).head; windows = x.windows }))
@@ -85,6 +85,11 @@ came_in_credit credit w u d k =
     let a = k.0 in let b = k.1 in let c = k.2 in
     (a, rw (length_push w.got u) (omega (arith, b)), rw (length_push w.got u) (grind (arith, e, a, b, c)))
 
+-- one more that came, and left
+pub one_more_left : (e : End) (u : DataUnit) (passed : ℕ) (got : List DataUnit) → SendsAllWith e passed got → SendsAllWith e (passed + 1) (got ++ u ∷ [])
+one_more_left (wire x) u passed got e = rw (length_push got u) (omega (arith, e))
+one_more_left (owner v) u passed got e = tt
+
 unit_accepted : (ticks : Ticks) (m : Parameters) (x : Section) (that : End) → AreInStep (wire (at Up x)) that
     → is_used_up (record { head = (at Up x).head; windows = x.windows }) ≡ false → is_valid m.pr x.windows ≡ true
     → ActsWindowed ticks (at Up x) that (accepts_unit m (record { head = (at Up x).head; windows = x.windows }))
@@ -101,6 +106,7 @@ unit_accepted ticks m x that k not_used valid =
       b.2,
       λ three. let f = b.4 three in
           (awaited_back (wire (record x' { timers = t })) that (k.4 (rw k.1 three)).0, (came_in_credit x.head.credit x.windows u not_used f.2.0, acked_in_window m.pr x.windows valid f.2.1, f.2.2), f.1, f.2.0.1, refl),
+      λ two. let f = b.5 two in (f.1, one_more_left that u x.windows.passed x.windows.got f.0),
     ))
 
 pub data_taken : (ticks : Ticks) (m : Parameters) (x : Section) (that : End) → AreInStep (wire (at Up x)) that
@@ -126,6 +132,7 @@ acknowledgement_taken ticks m x that k =
       k.3,
       λ three. let f = k.4 three in
           let w = acked_in_window m.pr x.windows valid f.1.1 in (f.0, (f.1.0, (w.0, w.1, omega arith), f.1.2), f.2),
+      k.5,
     ))
     (λ _. window_resets ticks 0x03 x that k)
 
@@ -167,7 +174,7 @@ ends_as s ticks cause body importance kept x that outs o p k =
     let b = other_first x that k in
     acts_then ticks x (record (at s x) { kept = kept }) that outs (hand.End cause body importance)
     (takes_end 1 ticks cause body importance that _ (open_may_end that (open_other (section_stage x.head.state) (stage_at that) p k.0)) o
-    (b.1, b.2, b.3, λ three. let f = b.4 three in (f.1, f.2)))
+    (b.1, b.2, b.3, λ three. let f = b.4 three in (f.1, f.2), b.5))
 
 -- A section that is over stays so.
 
@@ -183,7 +190,7 @@ over_meets _ t r o p m = absurd o
 
 pub over_as : (s : SectionState) (x : Section) (that : End) → Meets over (section_stage x.head.state) → Meets over (section_stage s) → AreInStep (wire x) that
     → AreInStep (wire (at s x)) that
-over_as s x that o p k = (over_meets (section_stage x.head.state) (section_stage s) (stage_at that) o p k.0, k.1, k.2, k.3, λ three. let f = k.4 three in (over_awaited s x that p, f.1, f.2))
+over_as s x that o p k = (over_meets (section_stage x.head.state) (section_stage s) (stage_at that) o p k.0, k.1, k.2, k.3, λ three. let f = k.4 three in (over_awaited s x that p, f.1, f.2), k.5)
 
 -- The setting up.
 
@@ -194,7 +201,7 @@ refuses_as ticks cause called body importance x x' that outs m o k =
     (λ t. takes_refusal 1 ticks cause called body importance that (wire (record x' { timers = t })) m o k)
 
 pub agreement : (x : Section) (that : End) → AreInStep (wire x) that → Agree that (wire x)
-agreement x that k = let b = other_first x that k in (b.1, b.2, b.3, λ three. let f = b.4 three in (f.1, f.2))
+agreement x that k = let b = other_first x that k in (b.1, b.2, b.3, λ three. let f = b.4 three in (f.1, f.2), b.5)
 
 pub refusal_heard : (ticks : Ticks) (cause : ℕ) (called body : Option (List ℕ)) (importance : Option ℕ) (x : Section) (that : End) → AreInStep (wire (at Asking x)) that
     → Acts ticks (at Asking x) that (at Gone x, gives_then [] (hand.Refuse cause called body importance ∷ []))
@@ -205,7 +212,7 @@ agreed_fits : (x : SectionHead) (m : Parameters) → x.credit ≤ 127 → agreed
 agreed_fits x m fits = either (λ (n : ℕ). n ≤ 127) (m.class == 3) _ _ (λ _. omega (arith, fits)) (λ _. zero-le)
 
 pub confirmation_heard : (ticks : Ticks) (point : ℕ) (m : Parameters) (x : Section) (that : End) → AreInStep (wire (at Asking x)) that
-    → ActsLine ticks (at Asking x) that (confirms point m (record { head = (at Asking x).head; kept = x.kept }))
+    → ActsLine ticks (at Asking x) that (confirms point m (line_in (at Asking x)))
 unfolding ActsLine
 confirmation_heard ticks point m x that k =
     let a = agreed (at Asking x).head m in
@@ -221,7 +228,7 @@ confirmation_heard ticks point m x that k =
 -- What ends a connection.
 
 pub failure_heard : (s : SectionState) (ticks : Ticks) (m : Parameters) (x : Section) (that : End) → Meets connected (section_stage s) → AreInStep (wire (at s x)) that
-    → ActsLine ticks (at s x) that (hears_error m (record { head = (at s x).head; kept = x.kept }))
+    → ActsLine ticks (at s x) that (hears_error m (line_in (at s x)))
 unfolding ActsLine
 failure_heard Up ticks m x that o k =
     either (ActsLine ticks (at Up x) that) (m.cause == 3) _ _ (λ _. ends_as Ending ticks 0x0F None None (only_cause 0x0F) (at Up x) that _ tt tt k) (λ _. ends_as Gone ticks 0x0F None None x.kept (at Up x) that [] tt tt k)
@@ -230,7 +237,7 @@ failure_heard Resetting ticks m x that o k =
 failure_heard _ ticks m x that o k = absurd o
 
 pub test_heard : (s : SectionState) (ticks : Ticks) (m : Parameters) (x : Section) (that : End) → Meets connected (section_stage s) → AreInStep (wire (at s x)) that
-    → ActsLine ticks (at s x) that (hears_test m (record { head = (at s x).head; kept = x.kept }))
+    → ActsLine ticks (at s x) that (hears_test m (line_in (at s x)))
 unfolding ActsLine
 test_heard Up ticks m x that o k =
     either (ActsLine ticks (at Up x) that) (m.slr == x.head.other && m.class == x.head.class) _ _ (λ _. acts_alone ticks (at Up x) (at Up x) that [] k) (λ _. ends_as Ending ticks 0x05 None None (only_cause 0x05) (at Up x) that _ tt tt k)

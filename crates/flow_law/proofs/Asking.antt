@@ -1,5 +1,5 @@
 -- A user's end acts upon a request.
-use Rattle.std.proofs.Common.{◌≡◌, ℕ, ◌≤◌, ◌==◌, List, [], ◌∷◌, ◌++◌, map, if◌then◌else◌, Option, Some, None, refl, subst, arith, zero-le}
+use Rattle.std.proofs.Common.{ℕ, ◌≤◌, ◌==◌, List, [], ◌∷◌, ◌++◌, map, if◌then◌else◌, Option, Some, None, refl, subst, arith, zero-le, length-append}
 use Rattle.relay_base.specs.declared.words.Request.{Request}
 use Rattle.relay_base.specs.declared.words.Request.TheVariants as request
 use Rattle.relay_base.specs.declared.words.Reason.{Reason}
@@ -38,12 +38,9 @@ sends_units ticks units u x k =
     subst (λ (r : Connection × List Output). IsInStep r.0) (no_hand_is_lost.enough 1 ticks (owner u, gives_then [] (map handed units)) (wire x))
     (units_taken ticks units (record { this = owner u; that = wire x }, []) k)
 
-units_given : (class : ℕ) (got units : List DataUnit) → class ≡ 3 → (if class == 3 then got ++ units else got) ≡ got ++ units
-units_given class got units three = rw three refl
-
 -- of a user that is gone as of one that is not
 gone_agreement : (s : UserState) (u : User) (x : Section) → AreInStep (owner (user_at s u)) (wire x) → Agree (wire x) (owner (user_at user.Gone u))
-gone_agreement s u x k = let b = other_first (user_at s u) x k in (b.1, b.2, (tt, tt), λ three. let f = b.4 three in (f.1, f.2))
+gone_agreement s u x k = let b = other_first (user_at s u) x k in (b.1, b.2, (tt, tt), λ three. let f = b.4 three in (f.1, f.2), b.5)
 
 disconnects : (ticks : Ticks) (cause : ℕ) (body : List ℕ) (s : UserState) (u : User) (x : Section) → CanEnd (section_stage x.head.state) → AreInStep (owner (user_at s u)) (wire x)
     → Settles ticks (wire x) (owner (user_at user.Gone u), gives_then [] (hand.End cause (given body) None ∷ []))
@@ -69,7 +66,7 @@ asks_as (request.Refuse mine cause body) user.Offered ticks u x k =
     (takes_refusal 1 ticks cause None (given body) None (wire x) (owner (user_at user.Gone u)) k.0 tt (gone_agreement user.Offered u x k))
 asks_as (request.Refuse mine cause body) s ticks u x k = alone ticks (owner (user_at s u)) (wire x) [] k
 asks_as (request.Send mine body) user.Ready ticks u x k =
-    let given_units : User = record (user_at user.Ready u) { got = (if u.class == 3 then u.got ++ units_of body else u.got) } in
+    let given_units : User = record (user_at user.Ready u) { got = u.got ++ units_of body } in
     let b = other_first (user_at user.Ready u) x k in
     sends_units ticks (units_of body) given_units x (
       k.0,
@@ -78,8 +75,9 @@ asks_as (request.Send mine body) user.Ready ticks u x k =
       b.2,
       tt,
       λ three. let f = b.4 three in
-          (f.0, tt, record { before = u.got; given = units_given u.class u.got (units_of body) (rw k.1 three); flows = f.1 }),
+          (f.0, tt, record { before = u.got; given = refl; flows = f.1 }),
       tt,
+      λ two. let f = b.5 two in (tt, rw (length-append u.got (units_of body)) (omega (arith, f.0))),
     )
 asks_as (request.Send mine body) s ticks u x k = alone ticks (owner (user_at s u)) (wire x) [] k
 asks_as (request.Expedite mine body) user.Ready ticks u x k =
@@ -90,7 +88,7 @@ asks_as (request.Reset mine) user.Ready ticks u x k =
     let renewing : User = record u { state = user.Renewing; text = []; got = []; passed = 0 } in
     let b = other_first (user_at user.Ready u) x k in
     handed_on ticks (owner renewing) (wire x) [] (hand.Reset 0)
-    (section_takes_reset 1 ticks 0 x.head.state x (owner renewing) (k.0, tt, b.1, b.2, tt, λ three. (tt, refl, refl, tt)))
+    (section_takes_reset 1 ticks 0 x.head.state x (owner renewing) (k.0, tt, b.1, b.2, tt, λ three. (tt, refl, refl, tt), λ two. (refl, tt)))
 asks_as (request.Reset mine) s ticks u x k = alone ticks (owner (user_at s u)) (wire x) [] k
 asks_as (request.Disc mine cause body) user.Calling ticks u x k =
     disconnects ticks cause body user.Calling u x (asked_can_end (section_stage x.head.state) k.0) k

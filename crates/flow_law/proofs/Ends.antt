@@ -27,4 +27,5 @@ kept_back c k = (
   (k.2.1, k.2.0),
   (k.3.1, k.3.0),
   λ three. let f = k.4 (rw k.1 three) in (awaited_back c.this c.that f.0, f.2, f.1),
+  λ two. let f = k.5 (rw k.1 two) in (f.1, f.0),
 )

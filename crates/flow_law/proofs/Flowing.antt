@@ -1,6 +1,6 @@
 -- One end takes data, or that they left, or a reset.
-use Rattle.std.proofs.Common.{◌≡◌, ℕ, suc, ◌+◌, ◌≤◌, ◌==◌, nat_lt, not, Bool, true, false, List, [], ◌∷◌, ◌++◌, length, drop, min, map, fold, if◌then◌else◌, Some, None, refl, arith, append_assoc, append-nil}
-use Rattle.std.proofs.lemmas.Bool.{eqb-true, eqb-false}
+use Rattle.std.proofs.Common.{◌≡◌, ℕ, suc, ◌+◌, ◌≤◌, ◌==◌, ◌&&◌, nat_lt, not, Bool, true, false, List, [], ◌∷◌, ◌++◌, length, drop, min, map, fold, if◌then◌else◌, Some, None, refl, sym, subst, ◌∙◌, arith, append_assoc, append-nil}
+use Rattle.std.proofs.lemmas.Bool.{eqb-true, eqb-false, false≢true}
 use Rattle.std.proofs.lemmas.List.{drop-append-le, length_push}
 use Rattle.section_model.specs.declared.hand.Hand.{Hand}
 use Rattle.section_model.specs.declared.hand.Unit.{Unit as DataUnit}
@@ -12,14 +12,15 @@ use Rattle.section_model.specs.declared.cell.SectionState.{SectionState}
 use Rattle.section_model.specs.declared.cell.SectionState.TheVariants.{Up, Resetting}
 use Rattle.section_model.specs.declared.cell.UserState.{UserState}
 use Rattle.section_model.specs.declared.cell.UserState.TheVariants as user
-use Rattle.section_model.specs.Ends.{End, wire, owner, Section, User, Connection, gives, gives_then}
+use Rattle.section_model.specs.declared.cell.Cell.TheVariants as cell
+use Rattle.section_model.specs.Ends.{End, wire, owner, Section, User, Windows, Connection, no_effect, gives, gives_then, is_up, is_connected}
 use Rattle.section_model.specs.Table.{section_row, user_row}
-use Rattle.section_model.specs.Line.{line_takes}
+use Rattle.section_model.specs.Line.{line_takes, passes_unit}
 use Rattle.section_model.specs.Windowed.{Windowed, windowed_takes, sends_expedited}
-use Rattle.section_model.specs.UserEnd.{user_takes, handed}
-use Rattle.section_model.specs.Acting.{timed, by_windows, section_takes, end_takes}
+use Rattle.section_model.specs.UserEnd.{user_takes, tells_expedited, handed}
+use Rattle.section_model.specs.Acting.{timed, by_windows, line_in, by_line, section_takes, end_takes}
 use Rattle.section_model.specs.Coupling.{exchange, other_takes}
-use Rattle.flow_law.specs.InStep.{Stage, connected, Meets, stage_at, section_stage, user_stage, IsInStep, AreInStep, GaveNothing, ResetIsAwaited, class_at, credit_at, IsFresh, FlowsWith, passed_at, got_at}
+use Rattle.flow_law.specs.InStep.{Stage, connected, Meets, stage_at, section_stage, user_stage, IsInStep, AreInStep, GaveNothing, ResetIsAwaited, class_at, credit_at, IsFresh, FlowsWith, SendsAll, SendsAllWith, passed_at, got_at}
 use Rattle.flow_law.proofs.Ends.{kept_back}
 use Rattle.flow_law.proofs.Taking.{at, user_at, TakesInStep, NotRenewing, Agree, section_takes_done, user_takes_done, CanEnd, takes_end, ready_awaited, resetting_awaited, cleared_in, nothing_passed}
 
@@ -46,6 +47,11 @@ LeftOn units taker giver =
     × IsFresh giver
     × Meets connected (stage_at taker)
     × (class_at taker ≡ 3 → ResetIsAwaited taker giver × FlowsWith taker (passed_at giver) (got_at giver) × FlowsWith giver (passed_at taker + units) (got_at taker) × (passed_at taker + units ≤ length (got_at taker)))
+    × (class_at taker ≡ 2 → SendsAll taker giver × SendsAllWith giver (passed_at taker + units) (got_at taker))
+
+-- no class is both
+pub three_is_not_two : (class : ℕ) → (class == 3) ≡ true → class ≡ 2 → ⊥
+three_is_not_two class e two = let three : class ≡ 3 = eqb-true class 3 e in omega (arith, three, two)
 
 pub left_passed : (giver : End) (a b : ℕ) (got : List DataUnit) → a ≡ b → FlowsWith giver b got → FlowsWith giver a got
 left_passed giver a b got e f = rw e f
@@ -56,30 +62,52 @@ open_fresh user.Renewing got passed m = tt
 open_fresh user.Gone got passed m = tt
 open_fresh _ got passed m = absurd m
 
+-- a section that is up was set up before
+not_set_up : (s : SectionState) → (is_up s && not (is_connected s)) ≡ true → ⊥
+not_set_up Up e = false≢true e
+not_set_up _ e = false≢true e
+
+-- in class 2 a section counts what left, and nothing else
+pub line_counts : (units : ℕ) (is_expedited : Bool) (y : Section)
+    → by_line (line_takes cell.Left (hand.Left units is_expedited)) y ≡ (record y { windows = record y.windows { passed = y.windows.passed + units } }, no_effect)
+unfolding line_takes
+line_counts units is_expedited y =
+    let counted : Section × Acted = (record y { windows = record y.windows { passed = y.windows.passed + units } }, no_effect) in
+    either (λ (w : Windows). (record y { windows = w }, no_effect) ≡ counted) (is_up y.head.state && not (is_connected y.head.state)) _ _
+    (λ up. absurd (not_set_up y.head.state up)) (λ _. refl)
+
 pub takes_left : (n : ℕ) (ticks : Ticks) (units : ℕ) (is_expedited : Bool) (taker giver : End) → LeftOn units taker giver → TakesInStep n ticks (hand.Left units is_expedited) taker giver
-unfolding TakesInStep exchange section_takes windowed_takes user_takes
-takes_left n ticks units true (wire y) giver k = (
-  k.0,
-  k.1,
-  k.2,
-  (tt, k.3),
-  λ three. let f = k.5 three in
-      let e : min (y.windows.passed + units) (length y.windows.got) ≡ y.windows.passed + units = omega (arith, f.3) in
-      let told : y.windows.told ≤ min (y.windows.passed + units) (length y.windows.got) = omega (arith, e, f.1.0.0) in
-      (f.0, ((told, omega arith, f.1.0.2), f.1.1, f.1.2), left_passed giver _ _ y.windows.got e f.2),
-)
-takes_left n ticks units false (wire y) giver k = (
-  k.0,
-  k.1,
-  k.2,
-  (tt, k.3),
-  λ three. let f = k.5 three in
-      let e : min (y.windows.passed + units) (length y.windows.got) ≡ y.windows.passed + units = omega (arith, f.3) in
-      let told : y.windows.told ≤ min (y.windows.passed + units) (length y.windows.got) = omega (arith, e, f.1.0.0) in
-      (f.0, ((told, omega arith, f.1.0.2), f.1.1, f.1.2), left_passed giver _ _ y.windows.got e f.2),
-)
+unfolding TakesInStep Ends exchange section_takes windowed_takes line_takes user_takes
+takes_left n ticks units true (wire y) giver k =
+    either (Ends n ticks y giver) (y.head.class == 3) _ _
+    (λ is_three. (
+      k.0,
+      k.1,
+      k.2,
+      (tt, k.3),
+      λ three. let f = k.5 three in
+          let e : min (y.windows.passed + units) (length y.windows.got) ≡ y.windows.passed + units = omega (arith, f.3) in
+          let told : y.windows.told ≤ min (y.windows.passed + units) (length y.windows.got) = omega (arith, e, f.1.0.0) in
+          (f.0, ((told, omega arith, f.1.0.2), f.1.1, f.1.2), left_passed giver _ _ y.windows.got e f.2),
+      λ two. absurd (three_is_not_two y.head.class is_three two),
+    ))
+    (λ other. subst (Ends n ticks y giver) (sym (line_counts units true y)) (k.0, k.1, k.2, (tt, k.3), λ three. absurd (eqb-false _ _ other three), k.6))
+takes_left n ticks units false (wire y) giver k =
+    either (Ends n ticks y giver) (y.head.class == 3) _ _
+    (λ is_three. (
+      k.0,
+      k.1,
+      k.2,
+      (tt, k.3),
+      λ three. let f = k.5 three in
+          let e : min (y.windows.passed + units) (length y.windows.got) ≡ y.windows.passed + units = omega (arith, f.3) in
+          let told : y.windows.told ≤ min (y.windows.passed + units) (length y.windows.got) = omega (arith, e, f.1.0.0) in
+          (f.0, ((told, omega arith, f.1.0.2), f.1.1, f.1.2), left_passed giver _ _ y.windows.got e f.2),
+      λ two. absurd (three_is_not_two y.head.class is_three two),
+    ))
+    (λ other. subst (Ends n ticks y giver) (sym (line_counts units false y)) (k.0, k.1, k.2, (tt, k.3), λ three. absurd (eqb-false _ _ other three), k.6))
 takes_left n ticks units is_expedited (owner u) giver k =
-    (k.0, k.1, k.2, (open_fresh u.state u.got (u.passed + units) k.4, k.3), λ three. let f = k.5 three in (f.0, f.1, f.2))
+    (k.0, k.1, k.2, (open_fresh u.state u.got (u.passed + units) k.4, k.3), λ three. let f = k.5 three in (f.0, f.1, f.2), k.6)
 
 -- Expedited data.
 
@@ -100,6 +128,7 @@ expedited_left giver e o k within =
       open_other (stage_at e) (stage_at giver) o k.0,
       λ three. let f = b.4 three in
           (f.0, f.1, left_passed e (passed_at giver + 0) (passed_at giver) (got_at giver) (no_more (passed_at giver)) f.2, rw (no_more (passed_at giver)) (within three)),
+      λ two. let f = b.5 two in (f.0, rw (no_more (passed_at giver)) f.1),
     )
 
 -- an act that is answered by one effect
@@ -137,22 +166,19 @@ UserEnds n ticks that done = IsInStep (exchange (suc n) ticks (owner done.0, don
 within_come : (u : User) (x : Section) → AreInStep (owner u) (wire x) → x.head.class ≡ 3 → x.windows.passed ≤ length x.windows.got
 within_come u x k three = (k.4 (rw k.1 three)).2.0.1
 
-answers_by_class : (n : ℕ) (ticks : Ticks) (u : User) (outs : List Output) (h : Hand) (giver : End) (b : Bool)
-    → (b ≡ true → TakesInStep n ticks h giver (owner u)) → (b ≡ false → AreInStep (owner u) giver) → UserEnds (suc n) ticks giver (u, gives_then outs (if b then h ∷ [] else []))
+user_answers : (n : ℕ) (ticks : Ticks) (u : User) (outs : List Output) (h : Hand) (giver : End)
+    → TakesInStep n ticks h giver (owner u) → UserEnds (suc n) ticks giver (u, gives_then outs (h ∷ []))
 unfolding UserEnds TakesInStep exchange
-answers_by_class n ticks u outs h giver true f g = kept_back (exchange (suc n) ticks (end_takes ticks h giver) (owner u)).0 (f refl)
-answers_by_class n ticks u outs h giver false f g = g refl
+user_answers n ticks u outs h giver k = kept_back (exchange (suc n) ticks (end_takes ticks h giver) (owner u)).0 k
 
 user_takes_expedited : (ticks : Ticks) (body : List ℕ) (s : UserState) (u : User) (x : Section) → AreInStep (owner (user_at s u)) (wire x) → TakesInStep 1 ticks (hand.Expedited body) (owner (user_at s u)) (wire x)
 unfolding TakesInStep UserEnds exchange user_takes user_row
 user_takes_expedited ticks body user.Ready u x k =
-    answers_by_class 0 ticks (user_at user.Ready u) _ (hand.Left 0 true) (wire x) (u.class == 3)
-    (λ three. takes_left 0 ticks 0 true (wire x) (owner (user_at user.Ready u)) (expedited_left (wire x) (owner (user_at user.Ready u)) tt k (within_come (user_at user.Ready u) x k)))
-    (λ other. k)
+    user_answers 0 ticks (user_at user.Ready u) (tells_expedited (hand.Expedited body) (user_at user.Ready u)).1.outs (hand.Left 0 true) (wire x)
+    (takes_left 0 ticks 0 true (wire x) (owner (user_at user.Ready u)) (expedited_left (wire x) (owner (user_at user.Ready u)) tt k (within_come (user_at user.Ready u) x k)))
 user_takes_expedited ticks body user.Renewing u x k =
-    answers_by_class 0 ticks (user_at user.Renewing u) _ (hand.Left 0 true) (wire x) (u.class == 3)
-    (λ three. takes_left 0 ticks 0 true (wire x) (owner (user_at user.Renewing u)) (expedited_left (wire x) (owner (user_at user.Renewing u)) tt k (within_come (user_at user.Renewing u) x k)))
-    (λ other. k)
+    user_answers 0 ticks (user_at user.Renewing u) (tells_expedited (hand.Expedited body) (user_at user.Renewing u)).1.outs (hand.Left 0 true) (wire x)
+    (takes_left 0 ticks 0 true (wire x) (owner (user_at user.Renewing u)) (expedited_left (wire x) (owner (user_at user.Renewing u)) tt k (within_come (user_at user.Renewing u) x k)))
 user_takes_expedited ticks body _ u x k = k
 
 -- A reset.
@@ -166,6 +192,7 @@ Resets taker giver =
     × ((credit_at taker ≤ 127) × (credit_at giver ≤ 127))
     × IsFresh giver
     × (class_at taker ≡ 3 → NotRenewing taker × (passed_at giver ≡ 0) × (got_at giver ≡ []) × FlowsWith giver 0 [])
+    × (class_at taker ≡ 2 → SendsAll taker giver × SendsAll giver taker)
 
 pub section_takes_reset : (n : ℕ) (ticks : Ticks) (cause : ℕ) (s : SectionState) (y : Section) (giver : End) → Resets (wire (at s y)) giver → TakesInStep n ticks (hand.Reset cause) (wire (at s y)) giver
 unfolding TakesInStep Ends exchange section_takes windowed_takes line_takes section_row
@@ -178,8 +205,9 @@ section_takes_reset n ticks cause Up y giver k =
       (tt, k.4),
       λ is_three. let f = k.5 is_three in let c = cleared_in y.head.credit k.3.0 in
           (resetting_awaited y giver, (c.0, c.1, nothing_passed y.head.credit (passed_at giver) (got_at giver) f.1 f.2), f.3),
+      λ two. absurd (three_is_not_two y.head.class three two),
     ))
-    (λ other. (k.1, k.2, k.3, (tt, k.4), λ three. absurd (eqb-false _ _ other three)))
+    (λ other. (k.1, k.2, k.3, (tt, k.4), λ three. absurd (eqb-false _ _ other three), k.6))
 section_takes_reset n ticks cause Resetting y giver k =
     either (Ends n ticks (at Resetting y) giver) (y.head.class == 3) _ _
     (λ three. (
@@ -189,14 +217,15 @@ section_takes_reset n ticks cause Resetting y giver k =
       (tt, k.4),
       λ is_three. let f = k.5 is_three in let c = cleared_in y.head.credit k.3.0 in
           (resetting_awaited y giver, (c.0, c.1, nothing_passed y.head.credit (passed_at giver) (got_at giver) f.1 f.2), f.3),
+      λ two. absurd (three_is_not_two y.head.class three two),
     ))
-    (λ other. (k.1, k.2, k.3, (tt, k.4), λ three. absurd (eqb-false _ _ other three)))
+    (λ other. (k.1, k.2, k.3, (tt, k.4), λ three. absurd (eqb-false _ _ other three), k.6))
 section_takes_reset n ticks cause _ y giver k = absurd k.0
 
 user_takes_reset : (n : ℕ) (ticks : Ticks) (cause : ℕ) (s : UserState) (u : User) (x : Section) → Resets (owner (user_at s u)) (wire x) → TakesInStep n ticks (hand.Reset cause) (owner (user_at s u)) (wire x)
 unfolding TakesInStep exchange user_takes user_row
-user_takes_reset n ticks cause user.Ready u x k = (k.1, k.2, k.3, (tt, tt), λ three. let f = k.5 three in (ready_awaited u (wire x), tt, f.3))
-user_takes_reset n ticks cause user.Renewing u x k = (k.1, k.2, k.3, (tt, tt), λ three. absurd (k.5 three).0)
+user_takes_reset n ticks cause user.Ready u x k = (k.1, k.2, k.3, (tt, tt), λ three. let f = k.5 three in (ready_awaited u (wire x), tt, f.3), λ two. (tt, refl))
+user_takes_reset n ticks cause user.Renewing u x k = (k.1, k.2, k.3, (tt, tt), λ three. absurd (k.5 three).0, λ two. (tt, (k.6 two).1))
 user_takes_reset n ticks cause _ u x k = absurd k.0
 
 -- Units.
@@ -220,6 +249,7 @@ OnWay units taker giver =
     × IsFresh giver
     × (class_at taker ≡ 3 → ResetIsAwaited taker giver × FlowsWith giver (passed_at taker) (got_at taker) × UnitsOnWay units taker giver)
     × IsSection taker
+    × (class_at taker ≡ 2 → SendsAll giver taker × (passed_at giver + length units ≡ length (got_at giver)))
 
 one_more_waits : (waits before : List DataUnit) (u : DataUnit) (passed : ℕ) → passed ≤ length before → waits ≡ drop passed before → waits ++ u ∷ [] ≡ drop passed (before ++ u ∷ [])
 one_more_waits waits before u passed within e = rw (e, drop-append-le passed before (u ∷ [])) refl
@@ -242,6 +272,10 @@ fresh_at (owner u) o = open_fresh u.state u.got u.passed o
 all_given : (taker : End) (got before : List DataUnit) (passed : ℕ) → got ≡ before ++ [] → FlowsWith taker passed before → FlowsWith taker passed got
 all_given taker got before passed e f = rw (e, append-nil before) f
 
+all_sent : (e : End) (passed : ℕ) (got : List DataUnit) → passed + 0 ≡ length got → SendsAllWith e passed got
+all_sent (wire x) passed got e = sym (no_more passed) ∙ e
+all_sent (owner u) passed got e = tt
+
 pub none_on_way : (taker giver : End) → OnWay [] taker giver → AreInStep taker giver
 none_on_way taker giver k = (
   both_open (stage_at taker) (stage_at giver) k.0 k.1,
@@ -250,6 +284,7 @@ none_on_way taker giver k = (
   (fresh_at taker k.0, k.4),
   λ three. let f = k.5 three in
       (f.0, all_given taker (got_at giver) f.2.before (passed_at giver) f.2.given f.2.flows, f.1),
+  λ two. let f = k.7 two in (all_sent taker (passed_at giver) (got_at giver) f.1, f.0),
 )
 
 -- a unit more has come, and waits on the section
@@ -260,22 +295,44 @@ one_more_flows waits before u passed sent f = (f.0, one_more_came before u passe
 unfoldable pub EndsOnWay : List DataUnit → ℕ → Ticks → Section → End → Section × Acted → Type 0
 EndsOnWay units n ticks old giver done = let c = (exchange (suc n) ticks (timed ticks old done) giver).0 in OnWay units c.this c.that
 
+-- what the end that gave a unit becomes, once it is told that the unit left
+unfoldable pub Counts : List DataUnit → ℕ → Ticks → End → Section → Section × Acted → Type 0
+Counts units n ticks e x done = let c = (exchange (suc n) ticks (timed ticks x done) e).0 in OnWay units c.that c.this
+
+other_class : (a b : ℕ) → a ≡ b → (a == 3) ≡ false → (b == 3) ≡ true → ⊥
+other_class a b same other three = eqb-false _ _ other (same ∙ eqb-true b 3 three)
+
+one_fewer : (passed more came : ℕ) → passed + suc more ≡ came → (passed + 1) + more ≡ came
+one_fewer passed more came e = omega (arith, e)
+
+-- in class 2 a unit leaves at once
+leaves_at_once : (n : ℕ) (ticks : Ticks) (u : DataUnit) (units : List DataUnit) (old y : Section) (outs : List Output) (giver : End)
+    → (y.head.class == 3) ≡ false → OnWay (u ∷ units) (wire y) giver → EndsOnWay units (suc n) ticks old giver (y, gives_then outs (hand.Left 1 false ∷ []))
+unfolding EndsOnWay Counts exchange section_takes line_takes user_takes
+leaves_at_once n ticks u units old y outs (wire x) other k =
+    either (Counts units n ticks (timed ticks old (y, gives_then outs (hand.Left 1 false ∷ []))).0 x) (x.head.class == 3) _ _
+    (λ three. absurd (other_class y.head.class x.head.class k.2 other three))
+    (λ _. subst (Counts units n ticks (timed ticks old (y, gives_then outs (hand.Left 1 false ∷ []))).0 x) (sym (line_counts 1 false x))
+    (k.0, k.1, k.2, k.3, tt, λ three. absurd (eqb-false _ _ other three), tt, λ two. let f = k.7 two in (f.0, one_fewer x.windows.passed (length units) (length x.windows.got) f.1)))
+leaves_at_once n ticks u units old y outs (owner v) other k =
+    (k.0, k.1, k.2, k.3, fresh_at (owner (record v { passed = v.passed + 1 })) k.1, λ three. absurd (eqb-false _ _ other three), tt, λ two. let f = k.7 two in (f.0, one_fewer v.passed (length units) (length v.got) f.1))
+
 section_takes_unit : (n : ℕ) (ticks : Ticks) (u : DataUnit) (units : List DataUnit) (s : SectionState) (y : Section) (giver : End) → OnWay (u ∷ units) (wire (at s y)) giver
-    → (let c = (exchange (suc n) ticks (end_takes ticks (hand.Unit u.more u.body) (wire (at s y))) giver).0 in OnWay units c.this c.that)
+    → (let c = (exchange (suc (suc n)) ticks (end_takes ticks (hand.Unit u.more u.body) (wire (at s y))) giver).0 in OnWay units c.this c.that)
 unfolding EndsOnWay exchange section_takes windowed_takes line_takes section_row
 section_takes_unit n ticks u units Up y giver k =
-    either (EndsOnWay units n ticks (at Up y) giver) (y.head.class == 3) _ _
-    (λ is_three. (k.0, k.1, k.2, k.3, k.4, λ three. let f = k.5 three in let w = f.2 in (f.0, f.1, record { before = w.before ++ u ∷ []; given = one_more_given (got_at giver) w.before units u w.given; flows = (w.flows.0, w.flows.1, one_more_flows y.windows.waits w.before u (passed_at giver) y.windows.sent w.flows.2) }), tt))
-    (λ other. (k.0, k.1, k.2, k.3, k.4, λ three. absurd (eqb-false _ _ other three), tt))
+    either (EndsOnWay units (suc n) ticks (at Up y) giver) (y.head.class == 3) _ _
+    (λ is_three. (k.0, k.1, k.2, k.3, k.4, λ three. let f = k.5 three in let w = f.2 in (f.0, f.1, record { before = w.before ++ u ∷ []; given = one_more_given (got_at giver) w.before units u w.given; flows = (w.flows.0, w.flows.1, one_more_flows y.windows.waits w.before u (passed_at giver) y.windows.sent w.flows.2) }), tt, λ two. absurd (three_is_not_two y.head.class is_three two)))
+    (λ other. leaves_at_once n ticks u units (at Up y) (at Up y) (passes_unit (handed u) (line_in (at Up y))).1.outs giver other k)
 section_takes_unit n ticks u units Resetting y giver k =
-    either (EndsOnWay units n ticks (at Resetting y) giver) (y.head.class == 3) _ _
-    (λ is_three. (k.0, k.1, k.2, k.3, k.4, λ three. let f = k.5 three in let w = f.2 in (f.0, f.1, record { before = w.before ++ u ∷ []; given = one_more_given (got_at giver) w.before units u w.given; flows = (w.flows.0, w.flows.1, one_more_flows y.windows.waits w.before u (passed_at giver) y.windows.sent w.flows.2) }), tt))
-    (λ other. (k.0, k.1, k.2, k.3, k.4, λ three. absurd (eqb-false _ _ other three), tt))
+    either (EndsOnWay units (suc n) ticks (at Resetting y) giver) (y.head.class == 3) _ _
+    (λ is_three. (k.0, k.1, k.2, k.3, k.4, λ three. let f = k.5 three in let w = f.2 in (f.0, f.1, record { before = w.before ++ u ∷ []; given = one_more_given (got_at giver) w.before units u w.given; flows = (w.flows.0, w.flows.1, one_more_flows y.windows.waits w.before u (passed_at giver) y.windows.sent w.flows.2) }), tt, λ two. absurd (three_is_not_two y.head.class is_three two)))
+    (λ other. leaves_at_once n ticks u units (at Resetting y) (at Resetting y) (passes_unit (handed u) (line_in (at Resetting y))).1.outs giver other k)
 section_takes_unit n ticks u units _ y giver k = absurd k.0
 
 takes_unit : (ticks : Ticks) (u : DataUnit) (units : List DataUnit) (taker giver : End) → OnWay (u ∷ units) taker giver
     → (let c = (exchange 2 ticks (end_takes ticks (handed u) taker) giver).0 in OnWay units c.this c.that)
-takes_unit ticks u units (wire y) giver k = section_takes_unit 1 ticks u units y.head.state y giver k
+takes_unit ticks u units (wire y) giver k = section_takes_unit 0 ticks u units y.head.state y giver k
 takes_unit ticks u units (owner v) giver k = absurd k.6
 
 -- all units of a list, one after another
@@ -299,16 +356,15 @@ unfolding UserEnds TakesInStep exchange
 breaks_off ticks v outs x k o =
     let b : AreInStep (wire x) (owner v) = kept_back (record { this = owner v; that = wire x }) k in
     kept_back (exchange 1 ticks (end_takes ticks (hand.End 0x07 None None) (wire x)) (owner (user_at user.Gone v))).0
-    (takes_end 0 ticks 0x07 None None (wire x) (owner (user_at user.Gone v)) (open_can_end (section_stage x.head.state) o) tt (b.1, b.2, (tt, tt), λ three. ((b.4 three).1, tt)))
+    (takes_end 0 ticks 0x07 None None (wire x) (owner (user_at user.Gone v)) (open_can_end (section_stage x.head.state) o) tt (b.1, b.2, (tt, tt), λ three. ((b.4 three).1, tt), λ two. ((b.5 two).0, tt)))
 
 collected : (ticks : Ticks) (v v' : User) (outs : List Output) (x : Section) → Came (owner v) x
-    → AreInStep (owner v') (wire x) → (v'.class ≡ v.class) → UserEnds 1 ticks (wire x) (v', gives_then outs (if v.class == 3 then hand.Left 1 false ∷ [] else []))
+    → AreInStep (owner v') (wire x) → (v'.class ≡ v.class) → UserEnds 1 ticks (wire x) (v', gives_then outs (hand.Left 1 false ∷ []))
 collected ticks v v' outs x k k' same =
-    answers_by_class 0 ticks v' outs (hand.Left 1 false) (wire x) (v.class == 3)
-    (λ three. let b : AreInStep (wire x) (owner v') = kept_back (record { this = owner v'; that = wire x }) k' in
+    user_answers 0 ticks v' outs (hand.Left 1 false) (wire x)
+    (let b : AreInStep (wire x) (owner v') = kept_back (record { this = owner v'; that = wire x }) k' in
     takes_left 0 ticks 1 false (wire x) (owner v')
-    (b.0, b.1, b.2, b.3.1, k.1, λ is_three. let f = b.4 is_three in (f.0, f.1, tt, k.2 (eqb-true _ _ three))))
-    (λ other. k')
+    (b.0, b.1, b.2, b.3.1, k.1, λ three. let f = b.4 three in (f.0, f.1, tt, k.2 (sym same ∙ (k'.1 ∙ three))), λ two. ((b.5 two).0, tt)))
 
 user_alone : (n : ℕ) (ticks : Ticks) (v : User) (that : End) (outs : List Output) → AreInStep (owner v) that → UserEnds n ticks that (v, gives outs)
 unfolding UserEnds exchange
@@ -336,7 +392,7 @@ user_takes_unit ticks more body s v x k = user_alone 1 ticks (user_at s v) (wire
 pub takes_done : (ticks : Ticks) (taker : End) (x : Section) → Meets connected (stage_at taker) → Meets connected (section_stage x.head.state) → Agree taker (wire x)
     → TakesInStep 1 ticks hand.Done taker (wire x)
 takes_done ticks (wire y) x m o k =
-    section_takes_done 1 ticks y.head.state y x (both_open (section_stage y.head.state) (section_stage x.head.state) m o, k.0, k.1, k.2, λ three. let f = k.3 three in (tt, f.0, f.1))
+    section_takes_done 1 ticks y.head.state y x (both_open (section_stage y.head.state) (section_stage x.head.state) m o, k.0, k.1, k.2, λ three. let f = k.3 three in (tt, f.0, f.1), k.4)
 takes_done ticks (owner u) x m o k = user_takes_done 1 ticks u.state u x m o k
 
 pub takes_expedited : (ticks : Ticks) (body : List ℕ) (taker : End) (x : Section) → AreInStep taker (wire x) → TakesInStep 1 ticks (hand.Expedited body) taker (wire x)
@@ -356,6 +412,7 @@ UnitOf u before taker x =
     × ((credit_at taker ≤ 127) × (x.head.credit ≤ 127))
     × (class_at taker ≡ 3 → ResetIsAwaited taker (wire x) × FlowsWith (wire x) (passed_at taker) (got_at taker) × FlowsWith taker x.windows.passed before
     × (x.windows.passed ≤ length before) × (x.windows.got ≡ before ++ u ∷ []))
+    × (class_at taker ≡ 2 → SendsAll (wire x) taker × SendsAllWith taker (x.windows.passed + 1) x.windows.got)
 
 one_longer : (got before : List DataUnit) (u : DataUnit) (passed : ℕ) → got ≡ before ++ u ∷ [] → passed ≤ length before → passed + 1 ≤ length got
 one_longer got before u passed e within = rw (e, length_push before u) (omega (arith, within))
@@ -366,10 +423,10 @@ takes_unit_of ticks u before (wire y) x k =
     let c = (exchange 2 ticks (end_takes ticks (handed u) (wire y)) (wire x)).0 in
     none_on_way c.this c.that
     (takes_unit ticks u [] (wire y) (wire x)
-    (k.0, k.1, k.2, k.3, tt, λ three. let f = k.4 three in (f.0, f.1, record { before = before; given = f.4; flows = f.2 }), tt))
+    (k.0, k.1, k.2, k.3, tt, λ three. let f = k.4 three in (f.0, f.1, record { before = before; given = f.4; flows = f.2 }), tt, k.5))
 takes_unit_of ticks u before (owner v) x k =
     user_takes_unit ticks u.more u.body v.state v x (
-      (both_open (user_stage v.state) (section_stage x.head.state) k.0 k.1, k.2, k.3, (open_fresh v.state v.got v.passed k.0, tt), λ three. let f = k.4 three in (f.0, tt, f.1)),
+      (both_open (user_stage v.state) (section_stage x.head.state) k.0 k.1, k.2, k.3, (open_fresh v.state v.got v.passed k.0, tt), λ three. let f = k.4 three in (f.0, tt, f.1), λ two. (tt, (k.5 two).0)),
       k.1,
       λ three. let f = k.4 three in one_longer x.windows.got before u x.windows.passed f.4 f.3,
     )

@@ -22,7 +22,7 @@ follows ticks c (event ∷ events) k = by_test (hears c event) (follows ticks (n
     by_test false f g = g
 
 end_kept : (this that : End) → AreInStep this that → EndKept this that
-end_kept (wire x) that k = λ three. (k.4 three).1
+end_kept (wire x) that k = (λ three. (k.4 three).1, λ two. (k.5 two).0)
 end_kept (owner u) that k = tt
 
 pub flow_kept : (c : Connection) → IsInStep c → FlowKept c

@@ -1,5 +1,5 @@
 -- What came in at both ends goes on, or begins anew, over what an event does before units leave.
-use Rattle.std.proofs.Common.{ℕ, zero, suc, ◌==◌, List, [], ◌∷◌, ◌++◌, fold, Option, Some, None, refl, inl, inr}
+use Rattle.std.proofs.Common.{ℕ, zero, suc, ◌==◌, List, [], ◌∷◌, ◌++◌, fold, Option, Some, None, ◌≡◌, ◌⊎◌, ◌∙◌, sym, refl, inl, inr}
 use Rattle.relay_base.specs.declared.words.Event.{Event}
 use Rattle.relay_base.specs.declared.words.Event.TheVariants.{Message as Arrived, Asked as Requested, Tick}
 use Rattle.relay_base.specs.declared.words.Request.{Request}
@@ -18,15 +18,17 @@ use Rattle.section_model.specs.Timing.{firing_order, firing, rearmed}
 use Rattle.section_model.specs.Acting.{end_takes}
 use Rattle.section_model.specs.Coupling.{with_more, other_takes, exchange, settles, on_that}
 use Rattle.section_model.specs.Step.{checked, hears_checked, hears_message, is_from_elsewhere, in_touch, asking_cell, reason_against, asks_unless, asks, ticked, is_due_at, fires_at, fires, fires_next, fires_due, ticks_by, is_named, at_this, at_reference, heard_by, asked_by, event_step}
-use Rattle.flow_law.specs.InStep.{passed_at, got_at}
+use Rattle.flow_law.specs.InStep.{passed_at, got_at, sent_at}
 use Rattle.flow_law.proofs.Flowing.{either, IsSection}
-use Rattle.flow_law.proofs.Growing.{CountsOn, cell_before, GrowsAt, same_grows, then_grows, NoUnits, NoneLeft, StaysAs, Fine, TakesFine, section_hears_fine, section_fires_fine, end_takes_fine, user_asks_fine}
+use Rattle.flow_law.proofs.Growing.{CountsOn, cell_before, GrowsAt, same_grows, then_grows, NoUnits, NoneLeft, StaysAs, Fine, IsNumbered, TakesFine, section_hears_fine, section_fires_fine, end_takes_fine, user_asks_fine}
 
--- from one connection to another: both ends stay of their kind, and what came in at an end goes on where the other end is a section
+-- what came in at an end goes on, where the other end is a section of class 3 of which the counts weren't cleared
+abbrev pub GrowsBeside : End → End → End → Type 0
+GrowsBeside other e e' = IsNumbered other → (sent_at other ≡ 0) ⊎ GrowsAt e e'
+
+-- from one connection to another: both ends stay of their kind, and what came in at either goes on
 abbrev pub Goes : Connection → Connection → Type 0
-Goes c d =
-    StaysAs c.this d.this × StaysAs c.that d.that
-    × (IsSection c.that → GrowsAt c.this d.this) × (IsSection c.this → GrowsAt c.that d.that)
+Goes c d = StaysAs c.this d.this × StaysAs c.that d.that × GrowsBeside d.that c.this d.this × GrowsBeside d.this c.that d.that
 
 kind_stays : (e : End) → StaysAs e e
 kind_stays (wire x) = inr (refl, refl)
@@ -45,25 +47,42 @@ kind_then (owner u) (owner v) (owner w) a b = tt
 kind_then (owner u) (owner v) (wire z) a b = absurd b
 kind_then (owner u) (wire y) g a b = absurd a
 
-pub section_stays : (e f : End) → StaysAs e f → IsSection e → IsSection f
-section_stays (wire x) (wire y) k s = tt
-section_stays (wire x) (owner v) k s = absurd k
-section_stays (owner u) f k s = absurd s
+is_section : (e : End) → IsNumbered e → IsSection e
+is_section (wire x) n = tt
+is_section (owner u) n = absurd n
 
-section_back : (e f : End) → StaysAs e f → IsSection f → IsSection e
-section_back (wire x) f k s = tt
-section_back (owner u) (owner v) k s = absurd s
-section_back (owner u) (wire y) k s = absurd k
+-- a section of class 3 was one, and sent as much; or its counts are cleared
+numbered_back : (e f : End) → StaysAs e f → IsNumbered f → (sent_at f ≡ 0) ⊎ (IsNumbered e × (sent_at f ≡ sent_at e))
+numbered_back (wire x) (wire y) (inl none) n = inl none
+numbered_back (wire x) (wire y) (inr same) n = inr (sym same.0 ∙ n, same.1)
+numbered_back (wire x) (owner v) k n = absurd n
+numbered_back (owner u) (owner v) k n = absurd n
+numbered_back (owner u) (wire y) k n = absurd k
+
+then_beside : (other other' e f g : End) → StaysAs other other' → GrowsBeside other e f → GrowsBeside other' f g → GrowsBeside other' e g
+then_beside other other' e f g stays a b = λ n. by_kind n (numbered_back other other' stays n)
+  where
+    joined : (sent_at other' ≡ sent_at other) → (sent_at other ≡ 0) ⊎ GrowsAt e f → (sent_at other' ≡ 0) ⊎ GrowsAt f g → (sent_at other' ≡ 0) ⊎ GrowsAt e g
+    joined same (inl none) two = inl (same ∙ none)
+    joined same (inr one) (inl none) = inl none
+    joined same (inr one) (inr two) = inr (then_grows (passed_at e) (passed_at f) (passed_at g) (got_at e) (got_at f) (got_at g) one two)
+
+    by_kind : IsNumbered other' → (sent_at other' ≡ 0) ⊎ (IsNumbered other × (sent_at other' ≡ sent_at other)) → (sent_at other' ≡ 0) ⊎ GrowsAt e g
+    by_kind n (inl none) = inl none
+    by_kind n (inr was) = joined was.1 (a was.0) (b n)
+
+beside_same : (other e : End) → GrowsBeside other e e
+beside_same other e = λ _. inr (same_grows (passed_at e) (got_at e))
 
 pub goes_nowhere : (c : Connection) → Goes c c
-goes_nowhere c = (kind_stays c.this, kind_stays c.that, λ _. same_grows (passed_at c.this) (got_at c.this), λ _. same_grows (passed_at c.that) (got_at c.that))
+goes_nowhere c = (kind_stays c.this, kind_stays c.that, beside_same c.that c.this, beside_same c.this c.that)
 
 pub goes_then : (c d e : Connection) → Goes c d → Goes d e → Goes c e
 goes_then c d e a b = (
   kind_then c.this d.this e.this a.0 b.0,
   kind_then c.that d.that e.that a.1 b.1,
-  λ s. then_grows (passed_at c.this) (passed_at d.this) (passed_at e.this) (got_at c.this) (got_at d.this) (got_at e.this) (a.2 s) (b.2 (section_stays c.that d.that a.1 s)),
-  λ s. then_grows (passed_at c.that) (passed_at d.that) (passed_at e.that) (got_at c.that) (got_at d.that) (got_at e.that) (a.3 s) (b.3 (section_stays c.this d.this a.0 s)),
+  then_beside d.that e.that c.this d.this e.this b.1 a.2 b.2,
+  then_beside d.this e.this c.that d.that e.that b.0 a.3 b.3,
 )
 
 pub goes_back : (c d : Connection) → Goes c d → Goes (turned c) (turned d)
@@ -74,28 +93,56 @@ goes_back c d g = (g.1, g.0, g.3, g.2)
 abbrev both : End → End → Connection
 both this that = record { this = this; that = that }
 
-pub Exchanges : ℕ → Ticks → Type 0
-Exchanges n ticks = (acting : End × Acted) (that : End) → (IsSection acting.0 → NoneLeft (hands_of acting.1)) → Goes (both acting.0 that) (exchange n ticks acting that).0
+-- a section of class 3 of which the counts weren't cleared leaves no units
+abbrev LeavesNone : End → List Hand → Type 0
+LeavesNone e hands = IsNumbered e → (sent_at e ≡ 0) ⊎ NoneLeft hands
 
-offered_goes : (n : ℕ) (ticks : Ticks) → Exchanges n ticks → (r : Connection × List Output) (h : Hand) → (IsSection r.0.this → NoUnits h) → Goes r.0 (other_takes (exchange n ticks) ticks r h).0
+pub Exchanges : ℕ → Ticks → Type 0
+Exchanges n ticks = (acting : End × Acted) (that : End) → LeavesNone acting.0 (hands_of acting.1) → Goes (both acting.0 that) (exchange n ticks acting that).0
+
+offered_goes : (n : ℕ) (ticks : Ticks) → Exchanges n ticks → (r : Connection × List Output) (h : Hand) → (IsNumbered r.0.this → (sent_at r.0.this ≡ 0) ⊎ NoUnits h) → Goes r.0 (other_takes (exchange n ticks) ticks r h).0
 unfolding Exchanges TakesFine
 offered_goes n ticks goes r h none =
     let taken = end_takes ticks h r.0.that in
     let f = end_takes_fine ticks h r.0.that in
     let one : Goes (both r.0.that r.0.this) (both taken.0 r.0.this) =
-    (f.0, kind_stays r.0.this, λ s. f.1 (none s), λ _. same_grows (passed_at r.0.this) (got_at r.0.this)) in
+    (f.0, kind_stays r.0.this, λ n. grows f.1 (none n), beside_same taken.0 r.0.this) in
     let d = (exchange n ticks taken r.0.this).0 in
-    goes_back (both r.0.that r.0.this) d (goes_then (both r.0.that r.0.this) (both taken.0 r.0.this) d one (goes taken r.0.this f.2))
+    goes_back (both r.0.that r.0.this) d (goes_then (both r.0.that r.0.this) (both taken.0 r.0.this) d one (goes taken r.0.this (λ n. inr (f.2 n))))
+  where
+    grows : (NoUnits h → GrowsAt r.0.that (end_takes ticks h r.0.that).0) → (sent_at r.0.this ≡ 0) ⊎ NoUnits h → (sent_at r.0.this ≡ 0) ⊎ GrowsAt r.0.that (end_takes ticks h r.0.that).0
+    grows g (inl cleared) = inl cleared
+    grows g (inr none) = inr (g none)
 
-hands_go : (n : ℕ) (ticks : Ticks) → Exchanges n ticks → (hands : List Hand) (r : Connection × List Output) → (IsSection r.0.this → NoneLeft hands)
+-- of several effects, those behind the others
+later : (e f : End) (hands rest : List Hand) → StaysAs e f → (NoneLeft hands → NoneLeft rest) → LeavesNone e hands → LeavesNone f rest
+later e f hands rest stays behind none = λ n. by_kind (numbered_back e f stays n)
+  where
+    of : (sent_at f ≡ sent_at e) → (sent_at e ≡ 0) ⊎ NoneLeft hands → (sent_at f ≡ 0) ⊎ NoneLeft rest
+    of same (inl cleared) = inl (same ∙ cleared)
+    of same (inr all) = inr (behind all)
+
+    by_kind : (sent_at f ≡ 0) ⊎ (IsNumbered e × (sent_at f ≡ sent_at e)) → (sent_at f ≡ 0) ⊎ NoneLeft rest
+    by_kind (inl cleared) = inl cleared
+    by_kind (inr was) = of was.1 (none was.0)
+
+first_of : (e : End) (h : Hand) (hands : List Hand) → LeavesNone e (h ∷ hands) → IsNumbered e → (sent_at e ≡ 0) ⊎ NoUnits h
+unfolding NoneLeft
+first_of e h hands none n = of (none n)
+  where
+    of : (sent_at e ≡ 0) ⊎ (NoUnits h × NoneLeft hands) → (sent_at e ≡ 0) ⊎ NoUnits h
+    of (inl cleared) = inl cleared
+    of (inr all) = inr all.0
+
+hands_go : (n : ℕ) (ticks : Ticks) → Exchanges n ticks → (hands : List Hand) (r : Connection × List Output) → LeavesNone r.0.this hands
     → Goes r.0 (fold (other_takes (exchange n ticks) ticks) r hands).0
 unfolding NoneLeft
 hands_go n ticks goes [] r none = goes_nowhere r.0
 hands_go n ticks goes (h ∷ hands) r none =
     let r' = other_takes (exchange n ticks) ticks r h in
-    let one : Goes r.0 r'.0 = offered_goes n ticks goes r h (λ s. (none s).0) in
+    let one : Goes r.0 r'.0 = offered_goes n ticks goes r h (first_of r.0.this h hands none) in
     goes_then r.0 r'.0 (fold (other_takes (exchange n ticks) ticks) r' hands).0 one
-    (hands_go n ticks goes hands r' (λ s. (none (section_back r.0.this r'.0.this one.0 s)).1))
+    (hands_go n ticks goes hands r' (later r.0.this r'.0.this (h ∷ hands) hands one.0 (λ all. all.1) none))
 
 none_of : (one two : List Hand) → NoneLeft (one ++ two) → NoneLeft one × NoneLeft two
 unfolding NoneLeft
@@ -107,18 +154,20 @@ unfolding Exchanges exchange
 exchange_goes zero ticks acting that none = goes_nowhere (both acting.0 that)
 exchange_goes (suc n) ticks acting that none =
     let first = fold (other_takes (exchange n ticks) ticks) (both acting.0 that, []) acting.1.first in
-    let one : Goes (both acting.0 that) first.0 = hands_go n ticks (exchange_goes n ticks) acting.1.first (both acting.0 that, []) (λ s. (none_of acting.1.first acting.1.then (none s)).0) in
+    let one : Goes (both acting.0 that) first.0 =
+    hands_go n ticks (exchange_goes n ticks) acting.1.first (both acting.0 that, [])
+    (later acting.0 acting.0 (hands_of acting.1) acting.1.first (kind_stays acting.0) (λ all. (none_of acting.1.first acting.1.then all).0) none) in
     let all = fold (other_takes (exchange n ticks) ticks) (with_more acting.1.outs first) acting.1.then in
     goes_then (both acting.0 that) first.0 all.0 one
     (hands_go n ticks (exchange_goes n ticks) acting.1.then (with_more acting.1.outs first)
-    (λ s. (none_of acting.1.first acting.1.then (none (section_back acting.0 first.0.this one.0 s))).1))
+    (later acting.0 first.0.this (hands_of acting.1) acting.1.then one.0 (λ all. (none_of acting.1.first acting.1.then all).1) none))
 
 -- an act, and what the ends hand to each other then
 act_goes : (ticks : Ticks) (e that : End) (acting : End × Acted) → Fine e acting → Goes (both e that) (settles ticks acting that).0
 unfolding Fine Exchanges
 act_goes ticks e that acting f =
     goes_then (both e that) (both acting.0 that) (settles ticks acting that).0
-    (f.0, kind_stays that, λ _. f.1, λ _. same_grows (passed_at that) (got_at that)) (exchange_goes 2 ticks acting that f.2)
+    (f.0, kind_stays that, λ _. inr f.1, beside_same acting.0 that) (exchange_goes 2 ticks acting that (λ n. inr (f.2 (is_section acting.0 n))))
 
 -- A message.
 

@@ -1,5 +1,6 @@
 -- What came in at an end goes on, or begins anew, act by act.
 use Rattle.std.proofs.Common.{◌≡◌, ℕ, ◌+◌, ◌≤◌, ◌==◌, ◌&&◌, ◌||◌, nat_le, nat_lt, not, true, false, List, [], ◌∷◌, ◌++◌, length, min, if◌then◌else◌, Option, Some, None, refl, sym, arith, zero-le, append-nil, append_assoc, length-append, add-zero, inl, inr, ◌⊎◌}
+use Rattle.std.proofs.lemmas.Bool.{eqb-false}
 use Rattle.plant_core.specs.declared.terms.Ticks.{Ticks}
 use Rattle.relay_base.specs.declared.words.Request.{Request}
 use Rattle.relay_base.specs.declared.words.Request.TheVariants as request
@@ -16,10 +17,10 @@ use Rattle.section_model.specs.declared.hand.Unit.{Unit as DataUnit}
 use Rattle.section_model.specs.declared.hand.Acted.{Acted}
 use Rattle.section_model.specs.Parameters.{Parameters}
 use Rattle.section_model.specs.Ends.{End, wire, owner, Line, Section, User, Windows, is_up, is_connected}
-use Rattle.section_model.specs.Line.{line_hears, line_fires, line_takes, passes_accept, passes_refuse, passes_end, keeps_end, passes_unit}
+use Rattle.section_model.specs.Line.{line_hears, line_fires, line_takes, passes_accept, passes_refuse, passes_end, keeps_end, passes_unit, counts_passed}
 use Rattle.section_model.specs.Windowed.{Windowed, windowed_hears, windowed_fires, windowed_takes, resets, is_next, is_used_up, wrong_number, takes_data, sends_expedited, queues_unit, passes_expedited, passes_reset, counts_left, is_valid}
 use Rattle.section_model.specs.UserEnd.{user_takes, user_asks, units_of, tells_confirm as user_confirmed, tells_disconnect, collects, tells_expedited, tells_reset, user_counts_left as user_left, accepts, refuses, sends, expedites as user_expedites, disconnects}
-use Rattle.section_model.specs.Acting.{by_windows, by_line, in_windows, windows_after, section_hears, section_fires, section_takes, section_takes_by, user_takes_by, end_takes}
+use Rattle.section_model.specs.Acting.{by_windows, by_line, line_in, is_by_class, in_windows, windows_after, section_hears, section_fires, section_takes, section_takes_by, user_takes_by, end_takes}
 use Rattle.section_model.specs.Laws.{hands_of}
 use Rattle.flow_law.specs.InStep.{passed_at, got_at}
 use Rattle.flow_law.proofs.Flowing.{either, IsSection}
@@ -151,62 +152,75 @@ IsBefore cell.Confirm s = is_connected s ≡ false
 IsBefore cell.PassAccept s = is_connected s ≡ false
 IsBefore _ s = Unit {0}
 
--- a line hands over no left units; and its class stays, or it is set up
+-- a line's class stays, or it is set up
+abbrev ClassStays : Line → Line → Type 0
+ClassStays x y = (y.head.class ≡ x.head.class) ⊎ ((is_up y.head.state ≡ true) × (is_connected x.head.state ≡ false))
+
+-- of what it hears, and when a timer fires: what came in goes on, and it hands over no left units
 LineFine : Line → Line × Acted → Type 0
-LineFine x r = NoneLeft (hands_of r.1) × ((r.0.head.class ≡ x.head.class) ⊎ ((is_up r.0.head.state ≡ true) × (is_connected x.head.state ≡ false)))
+LineFine x r = GrowsBy x.passed x.got r.0.passed r.0.got × NoneLeft (hands_of r.1) × ClassStays x r.0
 
 line_hear : (c : Cell) (point : ℕ) (m : Parameters) (x : Line) → IsBefore c x.head.state → LineFine x (line_hears c point m x)
 unfolding line_hears LineFine NoneLeft NoUnits
 line_hear cell.Confirm point m x before =
-    either (LineFine x) ((m.class == 2 || m.class == 3) && nat_le m.class x.head.class) _ _ (λ _. ((tt, tt), inr (refl, before))) (λ _. ((tt, tt), inl refl))
-line_hear cell.Refused point m x before = ((tt, tt), inl refl)
-line_hear cell.Released point m x before = ((tt, tt), inl refl)
-line_hear cell.TakeData point m x before = ((tt, tt), inl refl)
-line_hear cell.ErrorReceived point m x before = either (LineFine x) (m.cause == 3) _ _ (λ _. ((tt, tt), inl refl)) (λ _. ((tt, tt), inl refl))
-line_hear cell.TestReceived point m x before = either (LineFine x) (m.slr == x.head.other && m.class == x.head.class) _ _ (λ _. (tt, inl refl)) (λ _. ((tt, tt), inl refl))
-line_hear _ point m x before = (tt, inl refl)
+    either (LineFine x) ((m.class == 2 || m.class == 3) && nat_le m.class x.head.class) _ _ (λ _. (same_grows x.passed x.got, (tt, tt), inr (refl, before))) (λ _. (same_grows x.passed x.got, (tt, tt), inl refl))
+line_hear cell.Refused point m x before = (same_grows x.passed x.got, (tt, tt), inl refl)
+line_hear cell.Released point m x before = (same_grows x.passed x.got, (tt, tt), inl refl)
+line_hear cell.TakeData point m x before = (more_grows x.passed x.got _, (tt, tt), inl refl)
+line_hear cell.ErrorReceived point m x before = either (LineFine x) (m.cause == 3) _ _ (λ _. (same_grows x.passed x.got, (tt, tt), inl refl)) (λ _. (same_grows x.passed x.got, (tt, tt), inl refl))
+line_hear cell.TestReceived point m x before = either (LineFine x) (m.slr == x.head.other && m.class == x.head.class) _ _ (λ _. (same_grows x.passed x.got, tt, inl refl)) (λ _. (same_grows x.passed x.got, (tt, tt), inl refl))
+line_hear _ point m x before = (same_grows x.passed x.got, tt, inl refl)
 
 line_fire : (c : Cell) (x : Line) → LineFine x (line_fires c x)
 unfolding line_fires LineFine NoneLeft NoUnits
-line_fire cell.NotAnswered x = ((tt, tt), inl refl)
-line_fire cell.ResetExpired x = ((tt, tt), inl refl)
-line_fire cell.PeerSilent x = ((tt, tt), inl refl)
-line_fire _ x = (tt, inl refl)
+line_fire cell.NotAnswered x = (same_grows x.passed x.got, (tt, tt), inl refl)
+line_fire cell.ResetExpired x = (same_grows x.passed x.got, (tt, tt), inl refl)
+line_fire cell.PeerSilent x = (same_grows x.passed x.got, (tt, tt), inl refl)
+line_fire _ x = (same_grows x.passed x.got, tt, inl refl)
 
-line_take : (c : Cell) (h : Hand) (x : Line) → IsBefore c x.head.state → LineFine x (line_takes c h x)
-unfolding line_takes LineFine NoneLeft
-line_take cell.PassAccept h x before = by_hand h
+-- an effect of the other end, if it left no units; in class 3 no unit leaves by the line
+LineTakes : Hand → Line → Line × Acted → Type 0
+LineTakes h x r = (NoUnits h → GrowsBy x.passed x.got r.0.passed r.0.got) × (r.0.head.class ≡ 3 → NoneLeft (hands_of r.1)) × ClassStays x r.0
+
+line_take : (c : Cell) (h : Hand) (x : Line) → IsBefore c x.head.state → (is_by_class c && x.head.class == 3) ≡ false → LineTakes h x (line_takes c h x)
+unfolding line_takes LineTakes NoneLeft NoUnits
+line_take cell.PassAccept h x before other = by_hand h
   where
-    by_hand : (h : Hand) → LineFine x (passes_accept h x)
-    by_hand (hand.Accept class credit called body importance) = (tt, inr (refl, before))
-    by_hand _ = (tt, inl refl)
-line_take cell.PassRefuse h x before = by_hand h
+    by_hand : (h : Hand) → LineTakes h x (passes_accept h x)
+    by_hand (hand.Accept class credit called body importance) = (λ _. same_grows x.passed x.got, λ _. tt, inr (refl, before))
+    by_hand _ = (λ _. same_grows x.passed x.got, λ _. tt, inl refl)
+line_take cell.PassRefuse h x before other = by_hand h
   where
-    by_hand : (h : Hand) → LineFine x (passes_refuse h x)
-    by_hand (hand.Refuse cause called body importance) = (tt, inl refl)
-    by_hand _ = (tt, inl refl)
-line_take cell.PassEnd h x before = by_hand h
+    by_hand : (h : Hand) → LineTakes h x (passes_refuse h x)
+    by_hand (hand.Refuse cause called body importance) = (λ _. same_grows x.passed x.got, λ _. tt, inl refl)
+    by_hand _ = (λ _. same_grows x.passed x.got, λ _. tt, inl refl)
+line_take cell.PassEnd h x before other = by_hand h
   where
-    by_hand : (h : Hand) → LineFine x (passes_end h x)
-    by_hand (hand.End cause body importance) = (tt, inl refl)
-    by_hand _ = (tt, inl refl)
-line_take cell.KeepEnd h x before = by_hand h
+    by_hand : (h : Hand) → LineTakes h x (passes_end h x)
+    by_hand (hand.End cause body importance) = (λ _. same_grows x.passed x.got, λ _. tt, inl refl)
+    by_hand _ = (λ _. same_grows x.passed x.got, λ _. tt, inl refl)
+line_take cell.KeepEnd h x before other = by_hand h
   where
-    by_hand : (h : Hand) → LineFine x (keeps_end h x)
-    by_hand (hand.End cause body importance) = (tt, inl refl)
-    by_hand _ = (tt, inl refl)
-line_take cell.PassUnit h x before = by_hand h
+    by_hand : (h : Hand) → LineTakes h x (keeps_end h x)
+    by_hand (hand.End cause body importance) = (λ _. same_grows x.passed x.got, λ _. tt, inl refl)
+    by_hand _ = (λ _. same_grows x.passed x.got, λ _. tt, inl refl)
+line_take cell.PassUnit h x before other = by_hand h
   where
-    by_hand : (h : Hand) → LineFine x (passes_unit h x)
-    by_hand (hand.Unit more body) = (tt, inl refl)
-    by_hand _ = (tt, inl refl)
-line_take _ h x before = (tt, inl refl)
+    by_hand : (h : Hand) → LineTakes h x (passes_unit h x)
+    by_hand (hand.Unit more body) = (λ _. same_grows x.passed x.got, λ three. absurd (eqb-false _ _ other three), inl refl)
+    by_hand _ = (λ _. same_grows x.passed x.got, λ _. tt, inl refl)
+line_take cell.Left h x before other = by_hand h
+  where
+    by_hand : (h : Hand) → LineTakes h x (counts_passed h x)
+    by_hand (hand.Left units expedited) = (λ none. no_more_grows x.passed x.got units none, λ _. tt, inl refl)
+    by_hand _ = (λ _. same_grows x.passed x.got, λ _. tt, inl refl)
+line_take _ h x before other = (λ _. same_grows x.passed x.got, λ _. tt, inl refl)
 
 -- the windows of a section after an act of its line
-line_grows : (x : Section) (line : Line) → GrowsBy x.windows.passed x.windows.got (windows_after x line).passed (windows_after x line).got
-line_grows x line =
+line_grows : (x : Section) (line : Line) → GrowsBy x.windows.passed x.windows.got line.passed line.got → GrowsBy x.windows.passed x.windows.got (windows_after x line).passed (windows_after x line).got
+line_grows x line g =
     either (λ (w : Windows). GrowsBy x.windows.passed x.windows.got w.passed w.got) (is_up line.head.state && not (is_connected x.head.state)) _ _
-    (λ _. cleared_grows x.windows.passed x.windows.got) (λ _. same_grows x.windows.passed x.windows.got)
+    (λ _. cleared_grows x.windows.passed x.windows.got) (λ _. g)
 
 line_counts : (x : Section) (line : Line) → (line.head.class ≡ x.head.class) ⊎ ((is_up line.head.state ≡ true) × (is_connected x.head.state ≡ false))
     → CountsOn x.head.class x.windows.sent line.head.class (windows_after x line).sent
@@ -235,8 +249,8 @@ unfolding Fine SectionFine section_hears WindowsGrow LineFine
 section_hears_fine ticks c point m x before =
     let f : SectionFine x (if in_windows c x then by_windows (windowed_hears c m) x else by_line (line_hears c point m) x) =
     either (SectionFine x) (in_windows c x) _ _ (λ _. windows_hear c m (record { head = x.head; windows = x.windows }))
-    (λ _. let l = line_hear c point m (record { head = x.head; kept = x.kept }) before in
-    let line = (line_hears c point m (record { head = x.head; kept = x.kept })).0 in (line_grows x line, l.0, line_counts x line l.1)) in
+    (λ _. let l = line_hear c point m (line_in x) before in
+    let line = (line_hears c point m (line_in x)).0 in (line_grows x line l.0, l.1, line_counts x line l.2)) in
     (f.2, f.0, λ _. f.1)
 
 pub section_fires_fine : (ticks : Ticks) (c : Cell) (x : Section) → Fine (wire x) (section_fires ticks c x)
@@ -244,26 +258,32 @@ unfolding Fine SectionFine section_fires LineFine windowed_fires NoneLeft
 section_fires_fine ticks c x =
     let f : SectionFine x (if in_windows c x then by_windows windowed_fires x else by_line (line_fires c) x) =
     either (SectionFine x) (in_windows c x) _ _ (λ _. (same_grows x.windows.passed x.windows.got, tt, inr (refl, refl)))
-    (λ _. let l = line_fire c (record { head = x.head; kept = x.kept }) in
-    let line = (line_fires c (record { head = x.head; kept = x.kept })).0 in (line_grows x line, l.0, line_counts x line l.1)) in
+    (λ _. let l = line_fire c (line_in x) in
+    let line = (line_fires c (line_in x)).0 in (line_grows x line l.0, l.1, line_counts x line l.2)) in
     (f.2, f.0, λ _. f.1)
 
--- an effect of the other end, if it left no units
+-- a section of class 3
+abbrev pub IsNumbered : End → Type 0
+IsNumbered (wire x) = x.head.class ≡ 3
+IsNumbered (owner u) = ⊥
+
+-- an effect of the other end, if it left no units: in class 3 a section leaves none then
 unfoldable pub TakesFine : Hand → End → End × Acted → Type 0
-TakesFine h e r = StaysAs e r.0 × (NoUnits h → GrowsAt e r.0) × (IsSection r.0 → NoneLeft (hands_of r.1))
+TakesFine h e r = StaysAs e r.0 × (NoUnits h → GrowsAt e r.0) × (IsNumbered r.0 → NoneLeft (hands_of r.1))
 
 SectionTakes : Hand → Section → Section × Acted → Type 0
 SectionTakes h x r =
-    (NoUnits h → GrowsBy x.windows.passed x.windows.got r.0.windows.passed r.0.windows.got) × NoneLeft (hands_of r.1) × CountsOn x.head.class x.windows.sent r.0.head.class r.0.windows.sent
+    (NoUnits h → GrowsBy x.windows.passed x.windows.got r.0.windows.passed r.0.windows.got)
+    × (r.0.head.class ≡ 3 → NoneLeft (hands_of r.1)) × CountsOn x.head.class x.windows.sent r.0.head.class r.0.windows.sent
 
 section_takes_fine : (ticks : Ticks) (c : Cell) (h : Hand) (x : Section) → IsBefore c x.head.state → TakesFine h (wire x) (section_takes ticks c h x)
-unfolding TakesFine SectionTakes section_takes WindowsTake LineFine
+unfolding TakesFine SectionTakes section_takes WindowsTake LineTakes
 section_takes_fine ticks c h x before =
     let f : SectionTakes h x (if in_windows c x then by_windows (windowed_takes c h) x else by_line (line_takes c h) x) =
-    either (SectionTakes h x) (in_windows c x) _ _ (λ _. windows_take c h (record { head = x.head; windows = x.windows }))
-    (λ _. let l = line_take c h (record { head = x.head; kept = x.kept }) before in
-    let line = (line_takes c h (record { head = x.head; kept = x.kept })).0 in (λ _. line_grows x line, l.0, line_counts x line l.1)) in
-    (f.2, f.0, λ _. f.1)
+    either (SectionTakes h x) (in_windows c x) _ _ (λ _. let w = windows_take c h (record { head = x.head; windows = x.windows }) in (w.0, λ _. w.1, w.2))
+    (λ other. let l = line_take c h (line_in x) before other in
+    let line = (line_takes c h (line_in x)).0 in (λ none. line_grows x line (l.0 none), l.1, line_counts x line l.2)) in
+    (f.2, f.0, f.1)
 
 -- the table of states and events has it so
 pub cell_before : (o : Occasion) (s : SectionState) → IsBefore (section_cell s o) s
@@ -397,7 +417,7 @@ user_asks_grow cell.UserSends r u = by_request r
   where
     by_request : (r : Request) → UserGrows u (sends r u)
     by_request (request.Send mine body) =
-        either (λ (got : List DataUnit). GrowsBy u.passed u.got u.passed got) (u.class == 3) _ _ (λ _. more_grows u.passed u.got (units_of body)) (λ _. same_grows u.passed u.got)
+        more_grows u.passed u.got (units_of body)
     by_request _ = same_grows u.passed u.got
 user_asks_grow cell.UserExpedites r u = by_request r
   where

@@ -1,5 +1,5 @@
 -- Units and expedited data leave, and what left is acknowledged.
-use Rattle.std.proofs.Common.{◌≡◌, ℕ, ◌+◌, ◌-◌, ◌≤◌, ◌==◌, ◌&&◌, ◌||◌, not, nat_lt, Bool, true, false, List, [], ◌∷◌, length, drop, min, if◌then◌else◌, None, is_some, refl, arith, drop-drop, length-drop}
+use Rattle.std.proofs.Common.{◌≡◌, ℕ, ◌+◌, ◌-◌, ◌≤◌, ◌==◌, ◌&&◌, ◌||◌, not, nat_lt, Bool, true, false, List, [], ◌∷◌, length, drop, min, if◌then◌else◌, None, is_some, refl, arith, drop-drop, length-drop, ◌∙◌}
 use Rattle.std.proofs.lemmas.Bool.{ltb-false, or_parts, and_parts, false≢true}
 use Rattle.section_model.specs.declared.hand.Hand.{Hand}
 use Rattle.section_model.specs.declared.hand.Hand.TheVariants as hand
@@ -15,7 +15,7 @@ use Rattle.section_model.specs.Windowed.{Windowed, leaves, acknowledges, may_lea
 use Rattle.flow_law.specs.InStep.{connected, Meets, stage_at, section_stage, IsInStep, AreInStep, FlowsWith, passed_at, got_at}
 use Rattle.flow_law.proofs.Ends.{awaited_back, kept_back}
 use Rattle.flow_law.proofs.Taking.{TakesInStep, Settles}
-use Rattle.flow_law.proofs.Flowing.{left_passed, either, takes_left, open_other}
+use Rattle.flow_law.proofs.Flowing.{three_is_not_two, left_passed, either, takes_left, open_other}
 use Rattle.flow_law.proofs.Acting.{Acts, ActsWindowed, acts_alone, acts_then_at, other_first}
 
 -- the windows after units left
@@ -70,9 +70,9 @@ acts_by_test false ticks x x' that outs h f g = acts_alone ticks x x' that outs 
 no_more : (b c : Bool) (count : ℕ) → (b || nat_lt 0 count) ≡ false → (passed : ℕ) → passed ≡ passed + count
 no_more b c count e passed = let f : count ≤ 0 = ltb-false 0 count (or_parts b (nat_lt 0 count) e).1 in omega (arith, f)
 
-pub leaves_kept : (ticks : Ticks) (x : Section) (that : End) → Meets connected (section_stage x.head.state) → AreInStep (wire x) that → ActsWindowed ticks x that (leaves (record { head = x.head; windows = x.windows }))
+pub leaves_kept : (ticks : Ticks) (x : Section) (that : End) → Meets connected (section_stage x.head.state) → (x.head.class == 3) ≡ true → AreInStep (wire x) that → ActsWindowed ticks x that (leaves (record { head = x.head; windows = x.windows }))
 unfolding ActsWindowed leaves
-leaves_kept ticks x that o k =
+leaves_kept ticks x that o is_three k =
     let w = x.windows in
     let count = may_leave w in
     let is_expedited = is_some w.waiting && not w.unanswered in
@@ -87,6 +87,7 @@ leaves_kept ticks x that o k =
       λ three. let f = b.4 three in
           let l = left_flows x (passed_at that) (got_at that) f.2 in
           (awaited_back (wire (record x { windows = after_leaving w; timers = t })) that (k.4 (rw k.1 three)).0, f.1, l.0, l.1),
+      λ two. absurd (three_is_not_two x.head.class is_three (k.1 ∙ two)),
     ))
     (λ none. (
       k.0,
@@ -99,6 +100,7 @@ leaves_kept ticks x that o k =
             (left_flows x (passed_at that) (got_at that) f.1).0,
         f.2,
       ),
+      k.5,
     ))
 
 acknowledges_kept : (ticks : Ticks) (x : Section) (that : End) → AreInStep (wire x) that → ActsWindowed ticks x that (acknowledges (record { head = x.head; windows = x.windows }))
@@ -106,7 +108,7 @@ unfolding ActsWindowed acknowledges
 acknowledges_kept ticks x that k =
     either (ActsWindowed ticks x that) (x.windows.passed == x.windows.told) _ _ (λ _. acts_alone ticks x x that [] k)
     (λ _. acts_alone ticks x (record x { windows = record x.windows { told = x.windows.passed } }) that _
-    (k.0, k.1, k.2, k.3, λ three. let f = k.4 three in (f.0, ((omega arith, f.1.0.1, omega (arith, f.1.0.2, f.1.0.0)), f.1.1, f.1.2), f.2)))
+    (k.0, k.1, k.2, k.3, λ three. let f = k.4 three in (f.0, ((omega arith, f.1.0.1, omega (arith, f.1.0.2, f.1.0.0)), f.1.1, f.1.2), f.2), k.5))
 
 -- The two parts of what follows each event, on either end.
 
@@ -114,13 +116,13 @@ up_open : (s : SectionState) → is_up s ≡ true → Meets connected (section_s
 up_open Up e = tt
 up_open _ e = absurd (false≢true e)
 
-pub on_windows_kept : (ticks : Ticks) (act : Windowed → Windowed × Acted) → ((x : Section) (that : End) → Meets connected (section_stage x.head.state) → AreInStep (wire x) that → ActsWindowed ticks x that (act (record { head = x.head; windows = x.windows })))
+pub on_windows_kept : (ticks : Ticks) (act : Windowed → Windowed × Acted) → ((x : Section) (that : End) → Meets connected (section_stage x.head.state) → (x.head.class == 3) ≡ true → AreInStep (wire x) that → ActsWindowed ticks x that (act (record { head = x.head; windows = x.windows })))
     → (this that : End) → AreInStep this that → IsInStep (on_windows ticks act this that).0
 unfolding ActsWindowed Acts Settles
 on_windows_kept ticks act keeps (owner u) that k = k
 on_windows_kept ticks act keeps (wire x) that k =
     either (λ (r : Connection × List Output). IsInStep r.0) (is_up x.head.state && x.head.class == 3) _ _
-    (λ e. keeps x that (up_open x.head.state (and_parts (is_up x.head.state) (x.head.class == 3) e).0) k) (λ _. k)
+    (λ e. let parts = and_parts (is_up x.head.state) (x.head.class == 3) e in keeps x that (up_open x.head.state parts.0) parts.1 k) (λ _. k)
 
 -- a part of a step on one end, and then on the other
 on_each_kept : (part : End → End → Connection × List Output) → ((this that : End) → AreInStep this that → IsInStep (part this that).0)
@@ -133,5 +135,5 @@ on_each_kept part keeps r k =
 pub after_event_kept : (ticks : Ticks) (r : Connection × List Output) → IsInStep r.0 → IsInStep (after_event ticks r).0
 unfolding after_event
 after_event_kept ticks r k =
-    on_each_kept (on_windows ticks acknowledges) (on_windows_kept ticks acknowledges (λ x that o. acknowledges_kept ticks x that)) (on_each (on_windows ticks leaves) r)
+    on_each_kept (on_windows ticks acknowledges) (on_windows_kept ticks acknowledges (λ x that o three. acknowledges_kept ticks x that)) (on_each (on_windows ticks leaves) r)
     (on_each_kept (on_windows ticks leaves) (on_windows_kept ticks leaves (leaves_kept ticks)) r k)

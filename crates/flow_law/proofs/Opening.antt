@@ -60,13 +60,13 @@ OpensInStep None = Unit {0}
 OpensInStep (Some c) = IsInStep c × (passed_at c.this ≡ 0) × (passed_at c.that ≡ 0)
 
 to_user : (terms : Terms) (w : Wanted) (ssn mine : ℕ) → w.credit ≤ 127 → AreInStep (asked_section terms mine w) (new_user user.Offered ssn mine w)
-to_user terms w ssn mine fits = (tt, refl, (fits, fits), (tt, (refl, refl)), λ three. (tt, cleared_flows w.credit fits, tt))
+to_user terms w ssn mine fits = (tt, refl, (fits, fits), (tt, (refl, refl)), λ three. (tt, cleared_flows w.credit fits, tt), λ two. (refl, tt))
 
 onward_to : (terms : Terms) (w : Wanted) (point mine next : ℕ) → w.credit ≤ 127 → AreInStep (asked_section terms mine w) (asking_section terms point next w)
-onward_to terms w point mine next fits = (tt, refl, (fits, fits), (tt, tt), λ three. (tt, cleared_flows w.credit fits, cleared_flows w.credit fits))
+onward_to terms w point mine next fits = (tt, refl, (fits, fits), (tt, tt), λ three. (tt, cleared_flows w.credit fits, cleared_flows w.credit fits), λ two. (refl, refl))
 
 from_user : (terms : Terms) (w : Wanted) (ssn point mine : ℕ) → w.credit ≤ 127 → AreInStep (new_user user.Calling ssn mine w) (asking_section terms point mine w)
-from_user terms w ssn point mine fits = (tt, refl, (fits, fits), ((refl, refl), tt), λ three. (tt, tt, cleared_flows w.credit fits))
+from_user terms w ssn point mine fits = (tt, refl, (fits, fits), ((refl, refl), tt), λ three. (tt, tt, cleared_flows w.credit fits), λ two. (tt, refl))
 
 by_cr_kept : (terms : Terms) (w : Wanted) (answer : Answer) (references : List ℕ) → w.credit ≤ 127 → OpensInStep (opened_by_cr terms w answer references).connection
 unfolding opened_by_cr OpensInStep

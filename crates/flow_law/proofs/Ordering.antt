@@ -1,5 +1,5 @@
 -- What was sent since the counts were last cleared is what left of the other end.
-use Rattle.std.proofs.Common.{◌≡◌, ℕ, suc, ◌+◌, ◌≤◌, ◌==◌, ◌&&◌, ◌||◌, not, nat_lt, Bool, true, false, List, [], ◌∷◌, ◌++◌, length, take, drop, if◌then◌else◌, is_some, refl, sym, ◌∙◌, arith, inl, inr, ◌⊎◌, add-zero, take-add, length-take-le}
+use Rattle.std.proofs.Common.{◌≡◌, ℕ, suc, ◌+◌, ◌≤◌, ◌==◌, ◌&&◌, ◌||◌, not, nat_lt, Bool, true, false, List, [], ◌∷◌, ◌++◌, length, take, drop, if◌then◌else◌, is_some, refl, sym, subst, ◌∙◌, arith, inl, inr, ◌⊎◌, add-zero, take-add, length-take-le}
 use Rattle.std.proofs.lemmas.Bool.{eqb-true}
 use Rattle.std.proofs.lemmas.List.{take-append-le}
 use Rattle.relay_base.specs.declared.words.Event.{Event}
@@ -10,6 +10,7 @@ use Rattle.section_model.specs.declared.hand.Hand.TheVariants as hand
 use Rattle.section_model.specs.declared.hand.Acted.{Acted}
 use Rattle.section_model.specs.Ends.{End, wire, owner, Section, Connection, turned, is_up, gives_then}
 use Rattle.section_model.specs.Windowed.{Windowed, windowed_takes, may_leave, leaves, acknowledges}
+use Rattle.section_model.specs.Line.{line_takes}
 use Rattle.section_model.specs.UserEnd.{user_takes}
 use Rattle.section_model.specs.Acting.{timed, by_windows, section_takes, end_takes}
 use Rattle.section_model.specs.Coupling.{exchange, settles}
@@ -21,9 +22,9 @@ use Rattle.flow_law.proofs.Opening.{opening_begins}
 use Rattle.flow_law.proofs.Step.{event_kept, step_keeps}
 use Rattle.flow_law.proofs.Leaving.{on_windows_kept, leaves_kept}
 use Rattle.flow_law.proofs.Ends.{kept_back}
-use Rattle.flow_law.proofs.Flowing.{either, IsSection}
+use Rattle.flow_law.proofs.Flowing.{either, line_counts, IsSection}
 use Rattle.flow_law.proofs.Growing.{Growth, begins_anew, goes_on, StaysAs, CountsOn, GrowsAt}
-use Rattle.flow_law.proofs.Going.{Goes, event_goes}
+use Rattle.flow_law.proofs.Going.{Goes, GrowsBeside, event_goes}
 
 -- What an event does before units leave.
 
@@ -44,7 +45,7 @@ went_on passed passed' got got' before within e (goes_on more p g) = inl (rw (p,
 abbrev pub HasSent : List DataUnit → End → End → Type 0
 HasSent units e other = IsSection e → class_at e ≡ 3 → units ≡ take (passed_at other) (got_at other)
 
-pub event_sends : (before : List DataUnit) (e other e' other' : End) → AreInStep e other → AreInStep e' other' → HasSent before e other → StaysAs e e' → (IsSection e → GrowsAt other other')
+pub event_sends : (before : List DataUnit) (e other e' other' : End) → AreInStep e other → AreInStep e' other' → HasSent before e other → StaysAs e e' → GrowsBeside e' other other'
     → HasSent (since_cleared e' before) e' other'
 event_sends before (wire x) other (wire y) other' k l sent stays grows = λ s three. by_counts three stays
   where
@@ -52,14 +53,17 @@ event_sends before (wire x) other (wire y) other' k l sent stays grows = λ s th
     by_growth three (inl e) = cleared_or y.windows.sent before (passed_at other') (got_at other') (l.4 three).1.2.0 e
     by_growth three (inr none) = none_sent y.windows.sent before (passed_at other') (got_at other') (l.4 three).1.2.0 ((l.4 three).1.2.0 ∙ none)
 
-    by_counts : y.head.class ≡ 3 → CountsOn x.head.class x.windows.sent y.head.class y.windows.sent → (if y.windows.sent == 0 then [] else before) ≡ take (passed_at other') (got_at other')
-    by_counts three (inl none) = none_sent y.windows.sent before (passed_at other') (got_at other') (l.4 three).1.2.0 none
-    by_counts three (inr same) =
+    by_grows : y.head.class ≡ 3 → (y.head.class ≡ x.head.class) × (y.windows.sent ≡ x.windows.sent) → (y.windows.sent ≡ 0) ⊎ GrowsAt other other'
+        → (if y.windows.sent == 0 then [] else before) ≡ take (passed_at other') (got_at other')
+    by_grows three same (inl none) = none_sent y.windows.sent before (passed_at other') (got_at other') (l.4 three).1.2.0 none
+    by_grows three same (inr grown) =
         let three' : x.head.class ≡ 3 = sym same.0 ∙ three in
         let f = (k.4 three').1 in
-        let e = sent tt three' in
-        let w = went_on (passed_at other) (passed_at other') (got_at other) (got_at other') before f.2.1 e (grows tt f.2.1).1 in
-        by_growth three w
+        by_growth three (went_on (passed_at other) (passed_at other') (got_at other) (got_at other') before f.2.1 (sent tt three') (grown f.2.1).1)
+
+    by_counts : y.head.class ≡ 3 → CountsOn x.head.class x.windows.sent y.head.class y.windows.sent → (if y.windows.sent == 0 then [] else before) ≡ take (passed_at other') (got_at other')
+    by_counts three (inl none) = none_sent y.windows.sent before (passed_at other') (got_at other') (l.4 three).1.2.0 none
+    by_counts three (inr same) = by_grows three same (grows three)
 event_sends before (wire x) other (owner v) other' k l sent stays grows = λ s. absurd s
 event_sends before (owner u) other (owner v) other' k l sent stays grows = λ s. absurd s
 event_sends before (owner u) other (wire y) other' k l sent stays grows = absurd stays
@@ -91,11 +95,20 @@ stays_by m n e f same a = record { section = a.section; class = a.class; got = a
 abbrev BothStay : ℕ → ℕ → Connection → Connection → Type 0
 BothStay m n c d = Stays m c.this d.this × Stays n c.that d.that
 
+unfoldable LeftStays : ℕ → ℕ → Ticks → End → Section → End → Section × Acted → Type 0
+LeftStays n count ticks old y giver done = let c = (exchange (suc n) ticks (timed ticks y done) giver).0 in Stays 0 (wire y) c.this × Stays count old c.that
+
 left_stays : (n count units : ℕ) (is_expedited : Bool) (ticks : Ticks) (old taker giver : End) → Stays count old giver
     → (let c = (exchange (suc n) ticks (end_takes ticks (hand.Left units is_expedited) taker) giver).0 in Stays 0 taker c.this × Stays count old c.that)
-unfolding exchange section_takes windowed_takes user_takes
-left_stays n count units true ticks old (wire y) giver s = (record { section = λ s. s; class = refl; got = refl; sent = sym (add-zero y.windows.sent) }, s)
-left_stays n count units false ticks old (wire y) giver s = (record { section = λ s. s; class = refl; got = refl; sent = sym (add-zero y.windows.sent) }, s)
+unfolding LeftStays exchange section_takes windowed_takes line_takes user_takes
+left_stays n count units true ticks old (wire y) giver s =
+    either (LeftStays n count ticks old y giver) (y.head.class == 3) _ _
+    (λ _. (record { section = λ s. s; class = refl; got = refl; sent = sym (add-zero y.windows.sent) }, s))
+    (λ _. subst (LeftStays n count ticks old y giver) (sym (line_counts units true y)) (record { section = λ s. s; class = refl; got = refl; sent = sym (add-zero y.windows.sent) }, s))
+left_stays n count units false ticks old (wire y) giver s =
+    either (LeftStays n count ticks old y giver) (y.head.class == 3) _ _
+    (λ _. (record { section = λ s. s; class = refl; got = refl; sent = sym (add-zero y.windows.sent) }, s))
+    (λ _. subst (LeftStays n count ticks old y giver) (sym (line_counts units false y)) (record { section = λ s. s; class = refl; got = refl; sent = sym (add-zero y.windows.sent) }, s))
 left_stays n count units is_expedited ticks old (owner u) giver s = (record { section = λ s. s; class = refl; got = refl; sent = sym (add-zero 0) }, s)
 
 handed_stay : (b : Bool) (count units : ℕ) (is_expedited : Bool) (ticks : Ticks) (outs : List Output) (x x' : Section) (that : End) → Stays count (wire x) (wire x')

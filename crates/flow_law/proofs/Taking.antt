@@ -16,7 +16,7 @@ use Rattle.section_model.specs.Line.{line_takes}
 use Rattle.section_model.specs.UserEnd.{user_takes}
 use Rattle.section_model.specs.Acting.{section_takes, end_takes}
 use Rattle.section_model.specs.Coupling.{exchange, settles}
-use Rattle.flow_law.specs.InStep.{Stage, asked, asking, connected, over, Meets, stage_at, section_stage, user_stage, IsInStep, AreInStep, IsAwaited, ResetIsAwaited, class_at, credit_at, IsFresh, Flows, FlowsWith, passed_at, got_at, InCredit, InWindow, PassesOn}
+use Rattle.flow_law.specs.InStep.{Stage, asked, asking, connected, over, Meets, stage_at, section_stage, user_stage, IsInStep, AreInStep, IsAwaited, ResetIsAwaited, class_at, credit_at, IsFresh, Flows, FlowsWith, SendsAll, SendsAllWith, passed_at, got_at, InCredit, InWindow, PassesOn}
 use Rattle.section_model.proofs.Handing.{no_hand_is_lost}
 use Rattle.flow_law.proofs.Ends.{kept_back}
 
@@ -53,6 +53,7 @@ Agree this that =
     × ((credit_at this ≤ 127) × (credit_at that ≤ 127))
     × (IsFresh this × IsFresh that)
     × (class_at this ≡ 3 → Flows this that × Flows that this)
+    × (class_at this ≡ 2 → SendsAll this that × SendsAll that this)
 
 -- The end.
 
@@ -105,57 +106,62 @@ section_takes_end : (n : ℕ) (ticks : Ticks) (cause : ℕ) (body : Option (List
     → MayEnd (wire (at s y)) → Meets over (stage_at giver) → Agree (wire y) giver → TakesInStep n ticks (hand.End cause body importance) (wire (at s y)) giver
 unfolding TakesInStep exchange section_takes line_takes section_row
 section_takes_end n ticks cause body importance Asked y giver may m k = absurd may
-section_takes_end n ticks cause body importance Asking y giver may m k = (m, k.0, k.1, k.2, λ three. (waning_awaited y giver, (k.3 three).0, (k.3 three).1))
-section_takes_end n ticks cause body importance Waning y giver may m k = (m, k.0, k.1, k.2, λ three. (waning_awaited y giver, (k.3 three).0, (k.3 three).1))
-section_takes_end n ticks cause body importance Up y giver may m k = (m, k.0, k.1, k.2, λ three. (ending_awaited y giver, (k.3 three).0, (k.3 three).1))
-section_takes_end n ticks cause body importance Resetting y giver may m k = (m, k.0, k.1, k.2, λ three. (ending_awaited y giver, (k.3 three).0, (k.3 three).1))
-section_takes_end n ticks cause body importance Ending y giver may m k = (m, k.0, k.1, k.2, λ three. (ending_awaited y giver, (k.3 three).0, (k.3 three).1))
-section_takes_end n ticks cause body importance Gone y giver may m k = (m, k.0, k.1, k.2, λ three. (gone_awaited y giver, (k.3 three).0, (k.3 three).1))
+section_takes_end n ticks cause body importance Asking y giver may m k = (m, k.0, k.1, k.2, λ three. (waning_awaited y giver, (k.3 three).0, (k.3 three).1), k.4)
+section_takes_end n ticks cause body importance Waning y giver may m k = (m, k.0, k.1, k.2, λ three. (waning_awaited y giver, (k.3 three).0, (k.3 three).1), k.4)
+section_takes_end n ticks cause body importance Up y giver may m k = (m, k.0, k.1, k.2, λ three. (ending_awaited y giver, (k.3 three).0, (k.3 three).1), k.4)
+section_takes_end n ticks cause body importance Resetting y giver may m k = (m, k.0, k.1, k.2, λ three. (ending_awaited y giver, (k.3 three).0, (k.3 three).1), k.4)
+section_takes_end n ticks cause body importance Ending y giver may m k = (m, k.0, k.1, k.2, λ three. (ending_awaited y giver, (k.3 three).0, (k.3 three).1), k.4)
+section_takes_end n ticks cause body importance Gone y giver may m k = (m, k.0, k.1, k.2, λ three. (gone_awaited y giver, (k.3 three).0, (k.3 three).1), k.4)
 
 user_takes_end : (n : ℕ) (ticks : Ticks) (cause : ℕ) (body : Option (List ℕ)) (importance : Option ℕ) (s : UserState) (u : User) (giver : End)
     → Meets over (stage_at giver) → (class_at (owner u) ≡ class_at giver)
-    → ((credit_at (owner u) ≤ 127) × (credit_at giver ≤ 127)) → IsFresh giver → (class_at (owner u) ≡ 3 → Flows giver (owner u))
+    → ((credit_at (owner u) ≤ 127) × (credit_at giver ≤ 127)) → IsFresh giver → (class_at (owner u) ≡ 3 → Flows giver (owner u)) → (class_at (owner u) ≡ 2 → SendsAll giver (owner u))
     → TakesInStep n ticks (hand.End cause body importance) (owner (user_at s u)) giver
 unfolding TakesInStep exchange user_takes user_row
-user_takes_end n ticks cause body importance user.Gone u giver m c fits fresh flows =
-    (m, c, fits, (tt, fresh), λ three. (gone_user_awaited u giver, tt, flows three))
-user_takes_end n ticks cause body importance _ u giver m c fits fresh flows =
-    (m, c, fits, (tt, fresh), λ three. (gone_user_awaited u giver, tt, flows three))
+user_takes_end n ticks cause body importance user.Gone u giver m c fits fresh flows all =
+    (m, c, fits, (tt, fresh), λ three. (gone_user_awaited u giver, tt, flows three), λ two. (tt, all two))
+user_takes_end n ticks cause body importance _ u giver m c fits fresh flows all =
+    (m, c, fits, (tt, fresh), λ three. (gone_user_awaited u giver, tt, flows three), λ two. (tt, all two))
 
 pub takes_end : (n : ℕ) (ticks : Ticks) (cause : ℕ) (body : Option (List ℕ)) (importance : Option ℕ) (taker giver : End)
     → MayEnd taker → Meets over (stage_at giver) → Agree taker giver → TakesInStep n ticks (hand.End cause body importance) taker giver
 takes_end n ticks cause body importance (wire y) giver may m k = section_takes_end n ticks cause body importance y.head.state y giver may m k
 takes_end n ticks cause body importance (owner u) giver may m k =
-    user_takes_end n ticks cause body importance u.state u giver m k.0 k.1 k.2.1 (λ three. (k.3 three).1)
+    user_takes_end n ticks cause body importance u.state u giver m k.0 k.1 k.2.1 (λ three. (k.3 three).1) (λ two. (k.4 two).1)
 
 -- The refusal.
 
 section_takes_refusal : (n : ℕ) (ticks : Ticks) (cause : ℕ) (called body : Option (List ℕ)) (importance : Option ℕ) (s : SectionState) (y : Section) (giver : End)
     → Meets asking (section_stage s) → Meets over (stage_at giver) → Agree (wire y) giver → TakesInStep n ticks (hand.Refuse cause called body importance) (wire (at s y)) giver
 unfolding TakesInStep exchange section_takes line_takes section_row
-section_takes_refusal n ticks cause called body importance Asked y giver may m k = (m, k.0, k.1, k.2, λ three. (gone_awaited y giver, (k.3 three).0, (k.3 three).1))
+section_takes_refusal n ticks cause called body importance Asked y giver may m k = (m, k.0, k.1, k.2, λ three. (gone_awaited y giver, (k.3 three).0, (k.3 three).1), k.4)
 section_takes_refusal n ticks cause called body importance _ y giver may m k = absurd may
 
 user_takes_refusal : (n : ℕ) (ticks : Ticks) (cause : ℕ) (called body : Option (List ℕ)) (importance : Option ℕ) (s : UserState) (u : User) (giver : End)
     → Meets over (stage_at giver) → (class_at (owner u) ≡ class_at giver)
-    → ((credit_at (owner u) ≤ 127) × (credit_at giver ≤ 127)) → IsFresh giver → (class_at (owner u) ≡ 3 → Flows giver (owner u))
+    → ((credit_at (owner u) ≤ 127) × (credit_at giver ≤ 127)) → IsFresh giver → (class_at (owner u) ≡ 3 → Flows giver (owner u)) → (class_at (owner u) ≡ 2 → SendsAll giver (owner u))
     → TakesInStep n ticks (hand.Refuse cause called body importance) (owner (user_at s u)) giver
 unfolding TakesInStep exchange user_takes user_row
-user_takes_refusal n ticks cause called body importance user.Gone u giver m c fits fresh flows =
-    (m, c, fits, (tt, fresh), λ three. (gone_user_awaited u giver, tt, flows three))
-user_takes_refusal n ticks cause called body importance _ u giver m c fits fresh flows =
-    (m, c, fits, (tt, fresh), λ three. (gone_user_awaited u giver, tt, flows three))
+user_takes_refusal n ticks cause called body importance user.Gone u giver m c fits fresh flows all =
+    (m, c, fits, (tt, fresh), λ three. (gone_user_awaited u giver, tt, flows three), λ two. (tt, all two))
+user_takes_refusal n ticks cause called body importance _ u giver m c fits fresh flows all =
+    (m, c, fits, (tt, fresh), λ three. (gone_user_awaited u giver, tt, flows three), λ two. (tt, all two))
 
 pub takes_refusal : (n : ℕ) (ticks : Ticks) (cause : ℕ) (called body : Option (List ℕ)) (importance : Option ℕ) (taker giver : End)
     → Meets asking (stage_at taker) → Meets over (stage_at giver) → Agree taker giver → TakesInStep n ticks (hand.Refuse cause called body importance) taker giver
 takes_refusal n ticks cause called body importance (wire y) giver may m k = section_takes_refusal n ticks cause called body importance y.head.state y giver may m k
 takes_refusal n ticks cause called body importance (owner u) giver may m k =
-    user_takes_refusal n ticks cause called body importance u.state u giver m k.0 k.1 k.2.1 (λ three. (k.3 three).1)
+    user_takes_refusal n ticks cause called body importance u.state u giver m k.0 k.1 k.2.1 (λ three. (k.3 three).1) (λ two. (k.4 two).1)
 
 -- The acceptance.
 
 pub nothing_passed : (credit passed : ℕ) (got : List DataUnit) → passed ≡ 0 → got ≡ [] → PassesOn (cleared credit) passed got
 nothing_passed credit passed got p g = rw (p, g) (refl, zero-le, refl)
+
+-- where nothing came in, all has left
+pub nothing_left : (e : End) → SendsAllWith e 0 []
+nothing_left (wire x) = refl
+nothing_left (owner u) = tt
 
 pub cleared_in : (credit : ℕ) → credit ≤ 127 → InCredit credit (cleared credit) × InWindow (cleared credit)
 cleared_in credit fits = ((zero-le, zero-le, zero-le), (zero-le, zero-le, fits))
@@ -179,7 +185,7 @@ section_takes_acceptance : (n : ℕ) (ticks : Ticks) (class credit : ℕ) (calle
 unfolding TakesInStep exchange section_takes line_takes section_row
 section_takes_acceptance n ticks class credit called body importance Asked y giver may k r =
     let c = cleared_in credit k.2 in
-    (k.0, k.1, (k.2, k.3), (tt, k.4), λ three. (up_awaited y giver r, (c.0, c.1, nothing_passed credit (passed_at giver) (got_at giver) k.5 k.6), k.7))
+    (k.0, k.1, (k.2, k.3), (tt, k.4), λ three. (up_awaited y giver r, (c.0, c.1, nothing_passed credit (passed_at giver) (got_at giver) k.5 k.6), k.7), λ two. (rw (k.5, k.6) refl, nothing_left giver))
 section_takes_acceptance n ticks class credit called body importance _ y giver may k r = absurd may
 
 pub with_nothing : (giver : End) (passed : ℕ) (got : List DataUnit) → passed ≡ 0 → got ≡ [] → FlowsWith giver 0 [] → FlowsWith giver passed got
@@ -190,7 +196,7 @@ user_takes_acceptance : (n : ℕ) (ticks : Ticks) (class credit : ℕ) (called b
     → TakesInStep n ticks (hand.Accept class credit called body importance) (owner (user_at s u)) giver
 unfolding TakesInStep exchange user_takes user_row
 user_takes_acceptance n ticks class credit called body importance user.Calling u giver may fresh k =
-    (k.0, k.1, (k.2, k.3), (tt, k.4), λ three. (ready_awaited u giver, tt, with_nothing giver u.passed u.got fresh.1 fresh.0 k.7))
+    (k.0, k.1, (k.2, k.3), (tt, k.4), λ three. (ready_awaited u giver, tt, with_nothing giver u.passed u.got fresh.1 fresh.0 k.7), λ two. (tt, rw (fresh.1, fresh.0) (nothing_left giver)))
 user_takes_acceptance n ticks class credit called body importance _ u giver may fresh k = absurd may
 
 pub takes_acceptance : (n : ℕ) (ticks : Ticks) (class credit : ℕ) (called body : Option (List ℕ)) (importance : Option ℕ) (taker giver : End)
@@ -211,6 +217,6 @@ section_takes_done n ticks _ y x k = k
 pub user_takes_done : (n : ℕ) (ticks : Ticks) (s : UserState) (u : User) (x : Section) → Meets connected (user_stage s) → Meets connected (section_stage x.head.state) → Agree (owner u) (wire x)
     → TakesInStep n ticks hand.Done (owner (user_at s u)) (wire x)
 unfolding TakesInStep exchange user_takes user_row
-user_takes_done n ticks user.Ready u x m o k = (o, k.0, k.1, (tt, tt), λ three. (ready_awaited u (wire x), tt, (k.3 three).1))
-user_takes_done n ticks user.Renewing u x m o k = (o, k.0, k.1, (tt, tt), λ three. (ready_awaited u (wire x), tt, (k.3 three).1))
+user_takes_done n ticks user.Ready u x m o k = (o, k.0, k.1, (tt, tt), λ three. (ready_awaited u (wire x), tt, (k.3 three).1), λ two. (tt, (k.4 two).1))
+user_takes_done n ticks user.Renewing u x m o k = (o, k.0, k.1, (tt, tt), λ three. (ready_awaited u (wire x), tt, (k.3 three).1), λ two. (tt, (k.4 two).1))
 user_takes_done n ticks _ u x m o k = absurd m

@@ -1,4 +1,4 @@
--- The law of the windows of class 3 (Q.714, 3.5.2): what holds at every moment of a connection, whatever it hears.
+-- The law of the windows of class 3 (Q.714, 3.5.2), and of what leaves in class 2: what holds at every moment of a connection, whatever it hears.
 --
 -- Let X and Y be its ends, where section Y is of class 3. The units that came in on X since the counts were last cleared are got(X), and
 -- passed(X) of them left on Y.
@@ -9,6 +9,8 @@
 --     while sent - acked is below the send credit: `within` of `SendingLaw`.
 -- (d) Whether ED is unanswered on Y is one truth value, so there is at most one such; and none leaves while it is true: `one_expedited`
 --     and `none_at_once` of `SendingLaw`. EA makes it false before what waits leaves, and lets nothing leave where it is false (`none_unasked`).
+-- In class 2 no window holds a unit back: where section Y is of class 2, all that came in on X left on Y, so passed(X) is the length of got(X)
+-- (`EndKept`).
 -- What a connection sends by this as DT2 and ED, octet for octet, is the law of `message_law`.
 use Rattle.std.specs.Prelude.{◌≡◌, ℕ, ◌+◌, ◌-◌, ◌≤◌, ◌<◌, ◌==◌, ◌&&◌, not, true, false, List, [], ◌∷◌, ◌++◌, length, if◌then◌else◌, Option, Some, unwrap_or, is_some}
 use Rattle.relay_base.specs.declared.words.Event.{Event}
@@ -34,9 +36,11 @@ use Rattle.section_model.specs.Lane.{heard, follow}
 use Rattle.flow_law.specs.InStep.{passed_at, got_at, InCredit, InWindow, PassesOn, IsInStep}
 use Rattle.flow_law.specs.SentUnits.{leaving}
 
--- (b) and (c) on a section of class 3, and of (a) what the two ends show.
+-- (b) and (c) on a section of class 3, and of (a) what the two ends show; and in class 2 that all units left that came.
 abbrev pub EndKept : End → End → Type 0
-EndKept (wire x) other = x.head.class ≡ 3 → InCredit x.head.credit x.windows × InWindow x.windows × PassesOn x.windows (passed_at other) (got_at other)
+EndKept (wire x) other =
+    (x.head.class ≡ 3 → InCredit x.head.credit x.windows × InWindow x.windows × PassesOn x.windows (passed_at other) (got_at other))
+    × (x.head.class ≡ 2 → passed_at other ≡ length (got_at other))
 EndKept (owner u) other = Unit {0}
 
 abbrev pub FlowKept : Connection → Type 0

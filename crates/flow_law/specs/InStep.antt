@@ -50,6 +50,14 @@ FlowsWith (owner u) passed got = Unit {0}
 abbrev pub Flows : End → End → Type 0
 Flows this that = FlowsWith this (passed_at that) (got_at that)
 
+-- In class 2 nothing waits: all that came in at the other end left here.
+abbrev pub SendsAllWith : End → ℕ → List DataUnit → Type 0
+SendsAllWith (wire x) passed got = passed ≡ length got
+SendsAllWith (owner u) passed got = Unit {0}
+
+abbrev pub SendsAll : End → End → Type 0
+SendsAll this that = SendsAllWith this (passed_at that) (got_at that)
+
 -- How far an end has come: it was asked for the connection, or asks for it; data may pass; or all is over. A user that is offered a
 -- connection stands where a section stands that asks for one, and a user that calls where one stands that was asked.
 pub data Stage : Type 0 where
@@ -107,7 +115,7 @@ IsFresh (wire x) = Unit {0}
 IsFresh (owner u) = GaveNothing u.state u.got u.passed
 
 -- The two ends: their stages meet, they are of one class, no credit is above 127, and a user gave nothing too early; in class 3 a user
--- awaits the end of its reset only where its section isn't up, and data flow both ways.
+-- awaits the end of its reset only where its section isn't up, and data flow both ways; in class 2 all that comes in leaves at once.
 abbrev pub AreInStep : End → End → Type 0
 AreInStep this that =
     Meets (stage_at this) (stage_at that)
@@ -115,6 +123,7 @@ AreInStep this that =
     × ((credit_at this ≤ GREATEST_CREDIT) × (credit_at that ≤ GREATEST_CREDIT))
     × (IsFresh this × IsFresh that)
     × (class_at this ≡ 3 → ResetIsAwaited this that × Flows this that × Flows that this)
+    × (class_at this ≡ 2 → SendsAll this that × SendsAll that this)
 
 abbrev pub IsInStep : Connection → Type 0
 IsInStep c = AreInStep c.this c.that

@@ -15,8 +15,8 @@ use Rattle.flow_law.specs.InStep.{IsInStep, AreInStep, passed_at, got_at, sent_a
 use Rattle.flow_law.specs.SentUnits.{leaving_count}
 use Rattle.flow_law.proofs.Ends.{kept_back}
 use Rattle.flow_law.proofs.Flowing.{either, IsSection}
-use Rattle.flow_law.proofs.Growing.{StaysAs, GrowsAt, CountsOn}
-use Rattle.flow_law.proofs.Going.{Goes, event_goes}
+use Rattle.flow_law.proofs.Growing.{StaysAs, CountsOn}
+use Rattle.flow_law.proofs.Going.{Goes, GrowsBeside, event_goes}
 use Rattle.flow_law.proofs.Opening.{opening_begins}
 use Rattle.flow_law.proofs.Step.{event_kept, step_keeps}
 use Rattle.flow_law.proofs.Ordering.{event_sends}
@@ -60,7 +60,7 @@ both_cleared true units outs d = tt
 both_cleared false units outs d = d
 
 -- over what an event does
-event_has : (outs : List Output) (e other e' other' : End) → AreInStep e other → AreInStep e' other' → HasData outs e other → StaysAs e e' → (IsSection e → GrowsAt other other')
+event_has : (outs : List Output) (e other e' other' : End) → AreInStep e other → AreInStep e' other' → HasData outs e other → StaysAs e e' → GrowsBeside e' other other'
     → HasData (kept_from e' outs) e' other'
 event_has outs (wire x) other (wire y) other' k l has stays grows = λ s three. by_counts three stays
   where

@@ -22,7 +22,7 @@ use Rattle.section_model.specs.Line.{line_hears, line_fires, line_takes}
 use Rattle.section_model.specs.Windowed.{Windowed, windowed_hears, windowed_fires, windowed_takes, is_next, is_used_up, is_valid, wrong_number, resets, takes_data, sends_expedited, leaves, acknowledges, may_leave}
 use Rattle.section_model.specs.UserEnd.{user_asks}
 use Rattle.section_model.specs.Timing.{firing_order, firing, rearmed}
-use Rattle.section_model.specs.Acting.{timed, windows_after, by_windows, in_windows, section_hears, section_fires, section_takes, section_takes_by, end_takes}
+use Rattle.section_model.specs.Acting.{timed, windows_after, by_windows, line_in, in_windows, section_hears, section_fires, section_takes, section_takes_by, end_takes}
 use Rattle.section_model.specs.Coupling.{with_more, other_takes, exchange, settles, on_that}
 use Rattle.section_model.specs.Step.{checked, hears_checked, in_touch, is_from_elsewhere, hears_message, asking_cell, reason_against, asks_unless, asks, ticked, is_due_at, fires_at, fires, fires_next, fires_due, ticks_by, is_named, at_this, at_reference, heard_by, asked_by, event_step, names, destination_of, hears, on_windows, after_event}
 use Rattle.flow_law.proofs.Flowing.{either}
@@ -117,18 +117,18 @@ section_hears_stays : (c : Cell) (o : Occasion) (A : Type 0) (ticks : Ticks) (po
 unfolding SectionStays section_hears WindowsStay
 section_hears_stays c o A ticks point m x is answers =
     either (SectionStays A x) (in_windows c x) _ _ (λ _. windows_hear c o A m (record { head = x.head; windows = x.windows }) is answers)
-    (λ _. (line_keeps A x (line_hears c point m (record { head = x.head; kept = x.kept })).0).0)
+    (λ _. (line_keeps A x (line_hears c point m (line_in x)).0).0)
 
 section_fires_keeps : (c : Cell) (A : Type 0) (ticks : Ticks) (x : Section) → EndKeeps A (wire x) (section_fires ticks c x).0
 unfolding SectionKeeps section_fires windowed_fires
 section_fires_keeps c A ticks x =
-    either (SectionKeeps A x) (in_windows c x) _ _ (λ _. (λ e. inl e, λ n. n)) (λ _. line_keeps A x (line_fires c (record { head = x.head; kept = x.kept })).0)
+    either (SectionKeeps A x) (in_windows c x) _ _ (λ _. (λ e. inl e, λ n. n)) (λ _. line_keeps A x (line_fires c (line_in x)).0)
 
 section_takes_keeps : (c : Cell) (h : Hand) (A : Type 0) (ticks : Ticks) (x : Section) → EndKeeps A (wire x) (section_takes ticks c h x).0
 unfolding SectionKeeps section_takes WindowsKeep
 section_takes_keeps c h A ticks x =
     either (SectionKeeps A x) (in_windows c x) _ _ (λ _. windows_take c h A (record { head = x.head; windows = x.windows }))
-    (λ _. line_keeps A x (line_takes c h (record { head = x.head; kept = x.kept })).0)
+    (λ _. line_keeps A x (line_takes c h (line_in x)).0)
 
 end_takes_keeps : (A : Type 0) (ticks : Ticks) (h : Hand) (e : End) → EndKeeps A e (end_takes ticks h e).0
 end_takes_keeps A ticks h (wire x) = section_takes_keeps (section_takes_by x.head.state h) h A ticks x

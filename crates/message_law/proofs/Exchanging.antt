@@ -1,15 +1,17 @@
 -- What the ends hand to each other, of which no DT2 and no ED comes.
-use Rattle.std.proofs.Common.{◌≡◌, ℕ, zero, suc, Bool, true, false, List, [], ◌∷◌, ◌++◌, fold, if◌then◌else◌, refl, append-nil}
+use Rattle.std.proofs.Common.{◌≡◌, ℕ, zero, suc, ◌==◌, Bool, true, false, List, [], ◌∷◌, ◌++◌, fold, if◌then◌else◌, refl, append-nil}
 use Rattle.relay_base.specs.declared.words.Output.{Output}
 use Rattle.plant_core.specs.declared.terms.Ticks.{Ticks}
 use Rattle.section_model.specs.declared.hand.Hand.{Hand}
 use Rattle.section_model.specs.declared.hand.Hand.TheVariants as hand
 use Rattle.section_model.specs.declared.hand.Acted.{Acted}
-use Rattle.section_model.specs.Ends.{End, wire, owner, Connection, gives_then}
+use Rattle.section_model.specs.Ends.{End, wire, owner, Section, Connection, gives_then}
+use Rattle.section_model.specs.Line.{line_takes}
 use Rattle.section_model.specs.Windowed.{windowed_takes}
 use Rattle.section_model.specs.UserEnd.{user_takes}
-use Rattle.section_model.specs.Acting.{section_takes, end_takes}
+use Rattle.section_model.specs.Acting.{timed, section_takes, end_takes}
 use Rattle.section_model.specs.Coupling.{with_more, other_takes, exchange}
+use Rattle.flow_law.proofs.Flowing.{either}
 use Rattle.message_law.specs.Messages.{data_among, expedited_among}
 use Rattle.message_law.proofs.Plain.{IsPlain, IsOther, AreOther, ActsPlain, data_joined, expedited_joined, plain_joined, none_plain, parted, end_takes_plain}
 
@@ -60,8 +62,10 @@ left_gives false n ticks e that outs units is_expedited = record { numbered = re
 -- and the end that handed it over stays as it is
 pub left_keeps : (n : ℕ) (ticks : Ticks) (e that : End) (outs : List Output) (units : ℕ) (is_expedited : Bool)
     → (exchange (suc n) ticks (e, gives_then outs (hand.Left units is_expedited ∷ [])) that).0.this ≡ e
-unfolding exchange section_takes windowed_takes user_takes
+unfolding exchange section_takes windowed_takes line_takes user_takes
 left_keeps zero ticks e that outs units is_expedited = refl
-left_keeps (suc n) ticks e (wire y) outs units true = refl
-left_keeps (suc n) ticks e (wire y) outs units false = refl
+left_keeps (suc n) ticks e (wire y) outs units true =
+    either (λ (done : Section × Acted). (exchange (suc n) ticks (timed ticks y done) e).0.that ≡ e) (y.head.class == 3) _ _ (λ _. refl) (λ _. refl)
+left_keeps (suc n) ticks e (wire y) outs units false =
+    either (λ (done : Section × Acted). (exchange (suc n) ticks (timed ticks y done) e).0.that ≡ e) (y.head.class == 3) _ _ (λ _. refl) (λ _. refl)
 left_keeps (suc n) ticks e (owner v) outs units is_expedited = refl

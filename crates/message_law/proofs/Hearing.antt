@@ -26,7 +26,7 @@ use Rattle.section_model.specs.Line.{line_hears}
 use Rattle.section_model.specs.Windowed.{Windowed, windowed_hears, is_next, is_used_up, is_valid, wrong_number, resets, takes_data, sends_expedited}
 use Rattle.section_model.specs.UserEnd.{user_asks, units_of}
 use Rattle.section_model.specs.Timing.{firing_order, firing, rearmed}
-use Rattle.section_model.specs.Acting.{timed, by_windows, by_line, in_windows, section_hears}
+use Rattle.section_model.specs.Acting.{timed, by_windows, by_line, line_in, in_windows, section_hears}
 use Rattle.section_model.specs.Coupling.{settles, on_that}
 use Rattle.section_model.specs.Step.{names_both, ends_both, names_another, is_of_other_class, checked, hears_checked, in_touch, is_from_elsewhere, hears_message, asking_cell, reason_against, asks_unless, asks, ticked, is_due_at, fires_at, fires, fires_next, fires_due, ticks_by, is_named, at_this, at_reference, heard_by, asked_by, event_step, names, destination_of, hears}
 use Rattle.flow_law.proofs.Flowing.{either}
@@ -167,7 +167,7 @@ unfolding section_hears HearsSends WindowsSend
 section_hears_sends c o A G ticks point m x t that is answers brings =
     either (HearsSends A G ticks x (record x { timers = t }) that) (in_windows c (record x { timers = t })) _ _
     (λ _. windows_hear c o A G ticks m x t that is answers brings)
-    (λ _. hears_plain A G ticks x (record x { timers = t }) that (by_line (line_hears c point m) (record x { timers = t })) (line_hears_plain c point m (record { head = x.head; kept = x.kept })))
+    (λ _. hears_plain A G ticks x (record x { timers = t }) that (by_line (line_hears c point m) (record x { timers = t })) (line_hears_plain c point m (line_in x)))
 
 -- what the checks answer
 abbrev IsPlainAnswer : Option Output → Type 0

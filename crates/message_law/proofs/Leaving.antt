@@ -1,5 +1,5 @@
 -- What leaves after the event, on either end.
-use Rattle.std.proofs.Common.{◌≡◌, ℕ, suc, ◌==◌, ◌&&◌, ◌||◌, nat_lt, not, if◌then◌else◌, Bool, true, false, List, [], ◌∷◌, ◌++◌, take, Option, Some, None, unwrap_or, is_some, refl, ◌∙◌, ap, append-nil, append_assoc}
+use Rattle.std.proofs.Common.{◌≡◌, ℕ, suc, ◌==◌, ◌&&◌, ◌||◌, nat_lt, not, if◌then◌else◌, Bool, true, false, List, [], ◌∷◌, ◌++◌, take, Option, Some, None, unwrap_or, is_some, refl, sym, subst, ◌∙◌, ap, append-nil, append_assoc}
 use Rattle.relay_base.specs.declared.words.Output.{Output}
 use Rattle.plant_core.specs.declared.terms.Ticks.{Ticks}
 use Rattle.q713_shape.specs.Writing.{octets_of}
@@ -8,14 +8,15 @@ use Rattle.q713_codec.specs.Writing.{spelling_of}
 use Rattle.section_model.specs.declared.hand.Hand.TheVariants as hand
 use Rattle.section_model.specs.declared.hand.Unit.{Unit as DataUnit}
 use Rattle.section_model.specs.Ends.{End, wire, owner, SectionHead, Section, Connection, turned, is_up}
-use Rattle.section_model.specs.Line.{sent_on}
+use Rattle.section_model.specs.declared.hand.Acted.{Acted}
+use Rattle.section_model.specs.Line.{sent_on, line_takes}
 use Rattle.section_model.specs.Windowed.{windowed_takes, numbered, may_leave, leaves, acknowledges}
 use Rattle.section_model.specs.UserEnd.{user_takes}
 use Rattle.section_model.specs.Acting.{timed, by_windows, section_takes}
 use Rattle.section_model.specs.Coupling.{exchange, settles}
 use Rattle.section_model.specs.Step.{on_windows, after_event}
 use Rattle.flow_law.specs.SentUnits.{leaving}
-use Rattle.flow_law.proofs.Flowing.{either}
+use Rattle.flow_law.proofs.Flowing.{either, line_counts}
 use Rattle.flow_law.proofs.Ordering.{this_left}
 use Rattle.message_law.specs.Messages.{data_among, expedited_among}
 use Rattle.message_law.specs.ExpeditedSent.{as_expedited, waiting_as, waiting_on}
@@ -137,11 +138,16 @@ alike : (e : End) → LeavesAlike e e
 alike (wire x) = (refl, refl)
 alike (owner u) = tt
 
+abbrev TakesAlike : Ticks → End → Section → Section × Acted → Type 0
+TakesAlike ticks e y done = LeavesAlike (wire y) (exchange 1 ticks (timed ticks y done) e).0.this
+
 left_alike : (b : Bool) (ticks : Ticks) (e that : End) (outs : List Output) (units : ℕ) (is_expedited : Bool)
     → LeavesAlike that (settles ticks (e, record { first = []; outs = outs; then = (if b then hand.Left units is_expedited ∷ [] else []) }) that).0.that
-unfolding exchange section_takes windowed_takes user_takes
-left_alike true ticks e (wire y) outs units true = (refl, refl)
-left_alike true ticks e (wire y) outs units false = (refl, refl)
+unfolding exchange section_takes windowed_takes line_takes user_takes
+left_alike true ticks e (wire y) outs units true =
+    either (TakesAlike ticks e y) (y.head.class == 3) _ _ (λ _. (refl, refl)) (λ _. subst (TakesAlike ticks e y) (sym (line_counts units true y)) (refl, refl))
+left_alike true ticks e (wire y) outs units false =
+    either (TakesAlike ticks e y) (y.head.class == 3) _ _ (λ _. (refl, refl)) (λ _. subst (TakesAlike ticks e y) (sym (line_counts units false y)) (refl, refl))
 left_alike true ticks e (owner v) outs units is_expedited = tt
 left_alike false ticks e that outs units is_expedited = alike that
 

@@ -16,7 +16,7 @@ use Rattle.section_model.specs.Ends.{End, wire, owner, Line, Section, User}
 use Rattle.section_model.specs.Line.{line_hears, line_fires, line_takes}
 use Rattle.section_model.specs.Windowed.{Windowed, windowed_fires, windowed_takes, resets, acknowledges}
 use Rattle.section_model.specs.UserEnd.{user_takes, handed, collects, tells_expedited}
-use Rattle.section_model.specs.Acting.{in_windows, section_fires, section_takes, section_takes_by, user_takes_by, end_takes}
+use Rattle.section_model.specs.Acting.{line_in, in_windows, section_fires, section_takes, section_takes_by, user_takes_by, end_takes}
 use Rattle.section_model.specs.Laws.{hands_of}
 use Rattle.flow_law.proofs.Flowing.{either}
 use Rattle.message_law.specs.Messages.{is_of_type, data_among, expedited_among}
@@ -92,8 +92,10 @@ line_takes_plain cell.PassEnd (hand.End cause body importance) x = ((refl, refl)
 line_takes_plain cell.PassEnd _ x = ((refl, refl), tt)
 line_takes_plain cell.KeepEnd (hand.End cause body importance) x = ((refl, refl), tt)
 line_takes_plain cell.KeepEnd _ x = ((refl, refl), tt)
-line_takes_plain cell.PassUnit (hand.Unit more body) x = ((refl, refl), tt)
+line_takes_plain cell.PassUnit (hand.Unit more body) x = ((refl, refl), (tt, tt))
 line_takes_plain cell.PassUnit _ x = ((refl, refl), tt)
+line_takes_plain cell.Left (hand.Left units expedited) x = ((refl, refl), tt)
+line_takes_plain cell.Left _ x = ((refl, refl), tt)
 line_takes_plain _ h x = ((refl, refl), tt)
 
 -- The windows.
@@ -135,13 +137,13 @@ pub section_fires_plain : (ticks : Ticks) (c : Cell) (x : Section) → ActsPlain
 unfolding section_fires SectionPlain
 section_fires_plain ticks c x =
     either SectionPlain (in_windows c x) _ _
-    (λ _. windowed_fires_plain (record { head = x.head; windows = x.windows })) (λ _. line_fires_plain c (record { head = x.head; kept = x.kept }))
+    (λ _. windowed_fires_plain (record { head = x.head; windows = x.windows })) (λ _. line_fires_plain c (line_in x))
 
 section_takes_plain : (ticks : Ticks) (c : Cell) (h : Hand) (x : Section) → IsOther h → ActsPlain (section_takes ticks c h x).1
 unfolding section_takes SectionPlain
 section_takes_plain ticks c h x o =
     either SectionPlain (in_windows c x) _ _
-    (λ _. windowed_takes_plain c h (record { head = x.head; windows = x.windows }) o) (λ _. line_takes_plain c h (record { head = x.head; kept = x.kept }))
+    (λ _. windowed_takes_plain c h (record { head = x.head; windows = x.windows }) o) (λ _. line_takes_plain c h (line_in x))
 
 -- A user's end.
 
@@ -157,12 +159,12 @@ collects_plain : (h : Hand) (x : User) → UserPlain (collects h x)
 unfolding UserPlain ActsPlain IsPlain AreOther data_among expedited_among
 collects_plain (hand.Unit more body) x =
     either UserPlain (nat_lt 8192 (length (x.text ++ body))) _ _ (λ _. ((refl, refl), (tt, tt)))
-    (λ _. either UserPlain more _ _ (λ _. ((refl, refl), left_other (x.class == 3) 1 false)) (λ _. ((refl, refl), left_other (x.class == 3) 1 false)))
+    (λ _. either UserPlain more _ _ (λ _. ((refl, refl), (tt, tt))) (λ _. ((refl, refl), (tt, tt))))
 collects_plain _ x = ((refl, refl), tt)
 
 expedited_told : (h : Hand) (x : User) → UserPlain (tells_expedited h x)
 unfolding UserPlain ActsPlain IsPlain AreOther data_among expedited_among
-expedited_told (hand.Expedited body) x = ((refl, refl), left_other (x.class == 3) 0 true)
+expedited_told (hand.Expedited body) x = ((refl, refl), (tt, tt))
 expedited_told _ x = ((refl, refl), tt)
 
 pub user_takes_plain : (c : Cell) (h : Hand) (x : User) → ActsPlain (user_takes c h x).1

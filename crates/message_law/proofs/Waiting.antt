@@ -23,7 +23,7 @@ use Rattle.section_model.specs.Line.{line_hears, line_fires, line_takes}
 use Rattle.section_model.specs.Windowed.{Windowed, windowed_hears, windowed_fires, windowed_takes, is_next, is_used_up, is_valid, wrong_number, resets, takes_data, sends_expedited, leaves, acknowledges, may_leave}
 use Rattle.section_model.specs.UserEnd.{user_asks, user_takes, units_of}
 use Rattle.section_model.specs.Timing.{firing_order, firing, rearmed}
-use Rattle.section_model.specs.Acting.{by_line, in_windows, section_hears, section_fires, section_takes, section_takes_by, user_takes_by, end_takes}
+use Rattle.section_model.specs.Acting.{by_line, line_in, in_windows, section_hears, section_fires, section_takes, section_takes_by, user_takes_by, end_takes}
 use Rattle.section_model.specs.Laws.{hands_of}
 use Rattle.section_model.specs.Coupling.{with_more, other_takes, exchange, settles, on_that}
 use Rattle.section_model.specs.Step.{checked, hears_checked, in_touch, is_from_elsewhere, hears_message, asking_cell, reason_against, asks_unless, asks, ticked, is_due_at, fires_at, fires, fires_next, fires_due, ticks_by, is_named, at_this, at_reference, heard_by, asked_by, event_step, names, destination_of, hears, on_windows, on_each, after_event, connection_step}
@@ -133,10 +133,10 @@ windows_take _ h A B x b = (same A x.windows.waiting, tt)
 SectionOver : (List ℕ → Type 0) → (List ℕ → Type 0) → Section → Section × Acted → Type 0
 SectionOver A B x r = IsHandedOver A x.windows.waiting r.0.windows.waiting × AreBrought B (hands_of r.1)
 
-line_over : (A B : List ℕ → Type 0) (x : Section) (act : Line → Line × Acted) → ActsPlain (act (record { head = x.head; kept = x.kept })).1 → SectionOver A B x (by_line act x)
+line_over : (A B : List ℕ → Type 0) (x : Section) (act : Line → Line × Acted) → ActsPlain (act (line_in x)).1 → SectionOver A B x (by_line act x)
 unfolding SectionOver ActsPlain
 line_over A B x act p =
-    let done = act (record { head = x.head; kept = x.kept }) in (
+    let done = act (line_in x) in (
       either (λ (w : Windows). IsHandedOver A x.windows.waiting w.waiting) (is_up done.0.head.state && not (is_connected x.head.state)) _ _
           (λ _. dropped A x.windows.waiting) (λ _. same A x.windows.waiting),
       others B (hands_of done.1) p.1,
@@ -150,19 +150,19 @@ section_hears_over : (c : Cell) (o : Occasion) (A B : List ℕ → Type 0) (tick
 unfolding ActsOver SectionOver section_hears WindowsOver
 section_hears_over c o A B ticks point m x is brings =
     either (SectionOver A B x) (in_windows c x) _ _ (λ _. windows_hear c o A B m (record { head = x.head; windows = x.windows }) is brings)
-    (λ _. line_over A B x (line_hears c point m) (line_hears_plain c point m (record { head = x.head; kept = x.kept })))
+    (λ _. line_over A B x (line_hears c point m) (line_hears_plain c point m (line_in x)))
 
 section_fires_over : (c : Cell) (A B : List ℕ → Type 0) (ticks : Ticks) (x : Section) → ActsOver A B (wire x) (section_fires ticks c x)
 unfolding ActsOver SectionOver ActsPlain section_fires windowed_fires AreBrought
 section_fires_over c A B ticks x =
     either (SectionOver A B x) (in_windows c x) _ _ (λ _. (same A x.windows.waiting, tt))
-    (λ _. line_over A B x (line_fires c) (line_fires_plain c (record { head = x.head; kept = x.kept })))
+    (λ _. line_over A B x (line_fires c) (line_fires_plain c (line_in x)))
 
 section_takes_over : (c : Cell) (h : Hand) (A B : List ℕ → Type 0) (ticks : Ticks) (x : Section) → IsBrought A h → ActsOver A B (wire x) (section_takes ticks c h x)
 unfolding ActsOver SectionOver section_takes WindowsOver
 section_takes_over c h A B ticks x b =
     either (SectionOver A B x) (in_windows c x) _ _ (λ _. windows_take c h A B (record { head = x.head; windows = x.windows }) b)
-    (λ _. line_over A B x (line_takes c h) (line_takes_plain c h (record { head = x.head; kept = x.kept })))
+    (λ _. line_over A B x (line_takes c h) (line_takes_plain c h (line_in x)))
 
 end_takes_over : (A B : List ℕ → Type 0) (ticks : Ticks) (h : Hand) (e : End) → IsBrought A h → ActsOver A B e (end_takes ticks h e)
 unfolding ActsOver ActsPlain

@@ -23,7 +23,7 @@ use Rattle.section_model.specs.Timing.{firing, rearmed}
 use Rattle.section_model.specs.Line.{line_hears, line_fires, line_takes}
 use Rattle.section_model.specs.Windowed.{Windowed, windowed_hears, windowed_fires, windowed_takes, resets, wrong_number, accepts_unit, takes_data, sends_expedited, leaves, acknowledges}
 use Rattle.section_model.specs.UserEnd.{user_asks, user_takes}
-use Rattle.section_model.specs.Acting.{timed, by_windows, in_windows, section_hears, section_fires, section_takes, section_takes_by, user_takes_by, end_takes}
+use Rattle.section_model.specs.Acting.{timed, by_windows, line_in, in_windows, section_hears, section_fires, section_takes, section_takes_by, user_takes_by, end_takes}
 use Rattle.section_model.specs.Step.{hears_checked, in_touch, asking_cell, end_is_gone}
 use Rattle.section_model.specs.Lane.{reference_of}
 use Rattle.reference_law.specs.ReferenceLaw.{Stays}
@@ -61,6 +61,8 @@ line_takes_reference cell.KeepEnd (hand.End cause body importance) x = refl
 line_takes_reference cell.KeepEnd _ x = refl
 line_takes_reference cell.PassUnit (hand.Unit more body) x = refl
 line_takes_reference cell.PassUnit _ x = refl
+line_takes_reference cell.Left (hand.Left units expedited) x = refl
+line_takes_reference cell.Left _ x = refl
 line_takes_reference _ h x = refl
 
 resets_reference : (cause : ℕ) (x : Windowed) → WindowsHave x.head.mine (resets cause x)
@@ -114,19 +116,19 @@ unfolding section_hears LineHas WindowsHave
 hears_reference ticks c point m x =
     either (SectionHas ticks x) (in_windows c x) _ _
     (ap Some (windowed_hears_reference c m (record { head = x.head; windows = x.windows })))
-    (ap Some (line_hears_reference c point m (record { head = x.head; kept = x.kept })))
+    (ap Some (line_hears_reference c point m (line_in x)))
 
 fires_reference : (ticks : Ticks) (c : Cell) (x : Section) → reference_of (section_fires ticks c x).0 ≡ Some x.head.mine
 unfolding section_fires windowed_fires LineHas
 fires_reference ticks c x =
-    either (SectionHas ticks x) (in_windows c x) _ _ refl (ap Some (line_fires_reference c (record { head = x.head; kept = x.kept })))
+    either (SectionHas ticks x) (in_windows c x) _ _ refl (ap Some (line_fires_reference c (line_in x)))
 
 takes_reference : (ticks : Ticks) (c : Cell) (h : Hand) (x : Section) → reference_of (section_takes ticks c h x).0 ≡ Some x.head.mine
 unfolding section_takes LineHas WindowsHave
 takes_reference ticks c h x =
     either (SectionHas ticks x) (in_windows c x) _ _
     (ap Some (windowed_takes_reference c h (record { head = x.head; windows = x.windows })))
-    (ap Some (line_takes_reference c h (record { head = x.head; kept = x.kept })))
+    (ap Some (line_takes_reference c h (line_in x)))
 
 -- A section that is gone.
 
@@ -149,8 +151,8 @@ fires_gone _ o ticks x e = absurd (false≢true e)
 takes_gone : (s : SectionState) (h : Hand) (ticks : Ticks) (x : Section)
     → is_gone s ≡ true → end_is_gone (section_takes ticks (section_takes_by s h) h (at s x)).0 ≡ true
 unfolding section_takes line_takes windowed_takes
-takes_gone Gone (hand.Left units true) ticks x e = refl
-takes_gone Gone (hand.Left units false) ticks x e = refl
+takes_gone Gone (hand.Left units true) ticks x e = either (λ (done : Section × Acted). end_is_gone (timed ticks (at Gone x) done).0 ≡ true) (x.head.class == 3) _ _ refl refl
+takes_gone Gone (hand.Left units false) ticks x e = either (λ (done : Section × Acted). end_is_gone (timed ticks (at Gone x) done).0 ≡ true) (x.head.class == 3) _ _ refl refl
 takes_gone Gone _ ticks x e = refl
 takes_gone _ h ticks x e = absurd (false≢true e)
 

@@ -17,7 +17,7 @@ use Rattle.section_model.specs.declared.wire.WireHead.{WireHead}
 use Rattle.section_model.specs.Ends.{Line as SectionLine, no_effect, gives_then, only_cause}
 use Rattle.section_model.specs.declared.cell.SectionState.TheVariants.{Up, Gone}
 use Rattle.section_model.specs.Lengths.{IsDataOf, HandWithin, ActedWithin, KeptWithin, ArrivalWithin, InputWithin}
-use Rattle.section_model.specs.Line.{line_hears, reached, agreed, released, rlsd, breaks, in_state, line_fires, line_takes, passes_accept, passes_refuse, passes_end, keeps_end, passes_unit}
+use Rattle.section_model.specs.Line.{line_hears, reached, agreed, released, rlsd, breaks, in_state, line_fires, line_takes, passes_accept, passes_refuse, passes_end, keeps_end, passes_unit, counts_passed}
 use Rattle.section_model.specs.Parameters.{Parameters, Arrival, arrival_in}
 use Rattle.section_model.proofs.ArriveWithin.{arrives_within}
 use Rattle.section_class2.specs.declared.line.Line.{Line}
@@ -125,6 +125,11 @@ takes-keeps cell.PassUnit h x k w = passes h
     passes : (h : Hand) → KeepsLengths (passes_unit h x)
     passes (hand.Unit more body) = k
     passes _ = k
+takes-keeps cell.Left h x k w = counts h
+  where
+    counts : (h : Hand) → KeepsLengths (counts_passed h x)
+    counts (hand.Left units expedited) = k
+    counts _ = k
 takes-keeps _ h x k w = k
 
 takes-hands : (c : Cell) (h : Hand) (x : SectionLine) → Hands (line_takes c h x)
@@ -152,8 +157,13 @@ takes-hands cell.KeepEnd h x = ends h
 takes-hands cell.PassUnit h x = passes h
   where
     passes : (h : Hand) → Hands (passes_unit h x)
-    passes (hand.Unit more body) = (tt, tt)
+    passes (hand.Unit more body) = (tt, (tt, tt))
     passes _ = (tt, tt)
+takes-hands cell.Left h x = counts h
+  where
+    counts : (h : Hand) → Hands (counts_passed h x)
+    counts (hand.Left units expedited) = (tt, tt)
+    counts _ = (tt, tt)
 takes-hands _ h x = (tt, tt)
 
 -- upon an input
@@ -191,3 +201,9 @@ pub hands-after : (done : Result Acted Memory) (c : Cell) (i : Input) (wire wire
     → IfOk done (λ acted. line_acts c i (line_of wire line) ≡ (line_of wire' line', acted)) → TakesDataOfDt1 c i → IfOk done ActedWithin
 hands-after (Ok acted) c i wire wire' line line' ok dt1 = subst Hands ok (acts-hands c i (line_of wire line) dt1)
 hands-after (Err memory) c i wire wire' line line' ok dt1 = tt
+
+-- lines that are equal but for what isn't counted
+pub same-line : (l m : Line) → l.kept ≡ m.kept → l.came.value ≡ m.came.value → l ≡ m
+same-line l m e f =
+    subst (λ k. l ≡ record { kept = k; came = m.came }) e
+    (subst (λ v. l ≡ record { kept = l.kept; came = record { marker = m.came.marker; value = v } }) f refl)

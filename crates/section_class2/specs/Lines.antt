@@ -15,9 +15,14 @@ use Rattle.section_model.specs.Parameters.{Arrival, arrival_in}
 use Rattle.section_model.specs.Line.{line_hears, line_fires, line_takes}
 use Rattle.section_class2.specs.declared.line.Line.{Line}
 
--- a section: its head, and what it keeps beside it
+-- a section: its head, what it keeps beside it, and what came in
 abbrev pub line_of : WireHead → Line → SectionLine
-line_of wire line = record { head = section_of wire; kept = line.kept }
+line_of wire line = record {
+  head = section_of wire;
+  kept = line.kept;
+  got = line.came.value.got;
+  passed = line.came.value.passed;
+}
 
 -- a message for a connection is DT1
 abbrev pub IsDt1 : Event → Type 0

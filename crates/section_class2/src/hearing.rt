@@ -2,7 +2,7 @@
 ghost use Rattle.std.specs.Prelude.{◌≡◌, [], ◌∷◌, IfOk, OnErr};
 ghost use Rattle.std.specs.Option.{option_map};
 ghost use Rattle.section_model.specs.Ends.{gives, gives_then};
-ghost use Rattle.section_model.specs.Line.{line_hears, agreed, confirms, confirms_late, hears_error, hears_test, rlc};
+ghost use Rattle.section_model.specs.Line.{line_hears, agreed, confirms, confirms_late, hears_error, hears_test, rlc, takes_unit};
 ghost use Rattle.section_model.specs.Lengths.{KeptWithin};
 ghost use Rattle.section_model.specs.Views.{seen_parameters, section_of};
 ghost use Rattle.section_model.specs.declared.cell.SectionState.TheVariants.{Gone};
@@ -11,6 +11,7 @@ ghost use Rattle.section_class2.specs.Lines.{line_of, line_hears_event};
 
 use crate::line::Line;
 use crate::sending::{rlc, rlsd};
+use mark::Mark;
 use relay_base::causes::{
     ERROR_CLASS_MISMATCH, REFUSAL_UNQUALIFIED, RELEASE_INCONSISTENT_DATA, RELEASE_UNQUALIFIED,
 };
@@ -92,19 +93,41 @@ fn collided(alloc: Global, wire: &mut WireHead) -> Result<Acted, Memory>
     Ok(acted)
 }
 
-/// A unit of data for the other end.
-fn unit(alloc: Global, message: &ParametersView<'_>) -> Result<Acted, Memory>
-    ensures { IfOk result (λ done.
-        done ≡ gives_then [] (hand.Unit message.now.more message.now.data_octets.now ∷ [])) }
-{
-    let unit = Hand::Unit {
-        more: message.more,
-        body: Octets::from_slice(alloc, message.data_octets)?,
-    };
-    Acted::handing(alloc, unit)
+/// A unit that comes in, and the section until then.
+#[derive(Clone, Copy)]
+struct Coming<'a> {
+    line: &'a Line,
+    is_followed: bool,
+    body: &'a [u8],
 }
 
 impl Line {
+    /// DT1: its unit came in, and is for the other end.
+    fn takes_unit(
+        &mut self,
+        alloc: Global,
+        wire: &WireHead,
+        message: &ParametersView<'_>,
+    ) -> Result<Acted, Memory>
+        ensures ok { IfOk result (λ done.
+            takes_unit (seen_parameters message.now) (line_of wire.now self.old) ≡
+            (line_of wire.now self.new, done)) }
+        ensures err { OnErr result (self.new ≡ self.old) }
+    {
+        let unit = Hand::Unit {
+            more: message.more,
+            body: Octets::from_slice(alloc, message.data_octets)?,
+        };
+        let acted = Acted::handing(alloc, unit)?;
+        let came = Mark::after(&Coming {
+            line: self,
+            is_followed: message.more,
+            body: message.data_octets,
+        });
+        self.came = came;
+        Ok(acted)
+    }
+
     /// CC: the section is set up with what it agrees on, or it is released where its class is none that was asked for.
     fn confirms(
         &mut self,
@@ -261,7 +284,7 @@ impl Line {
             }
             Cell::Released => released(alloc, wire, message),
             Cell::ReleaseCollision => collided(alloc, wire),
-            Cell::TakeData => unit(alloc, message),
+            Cell::TakeData => self.takes_unit(alloc, wire, message),
             Cell::ErrorReceived => self.hears_error(alloc, wire, message),
             Cell::TestReceived => self.hears_test(alloc, wire, message),
             Cell::Discard => Acted::giving(alloc, Output::Lost(Lost::State)),

@@ -7,17 +7,57 @@ ghost use Rattle.section_model.specs.Lengths.{ActedWithin, InputWithin, KeptWith
 ghost use Rattle.section_class2.specs.Lines.{line_of, TakesDataOfDt1, line_acts};
 
 use crate::sending::{copied, rlsd};
+use mark::Mark;
 use relay_base::Memory;
-use section_model::{Acted, Cell, Hand, Input, KeptRelease, SectionState, WireHead};
+use section_model::{Acted, Came, Cell, Hand, Input, KeptRelease, SectionState, WireHead};
 use std::alloc::Global;
 
-/// What a connection section keeps beside its head: what its release says when it is sent again.
+/// What a connection section keeps beside its head: what its release says when it is sent again, and the units that came in, which clauses
+/// alone count.
 #[derive(Drop)]
 pub struct Line {
     pub kept: KeptRelease,
+    pub came: Mark<Came>,
+}
+
+/// No unit came in.
+fn none_came() -> Mark<Came>
+    ensures { result.value ≡ record { got = []; passed = 0 } }
+{
+    Mark::after(&0u8)
+}
+
+/// An equal release.
+fn copied_release(kept: &KeptRelease) -> Result<KeptRelease, Memory>
+    ensures { IfOk result (λ copy. copy ≡ kept.now) }
+{
+    Ok(KeptRelease {
+        cause: kept.cause,
+        body: copied(&kept.body)?,
+        importance: kept.importance,
+    })
 }
 
 impl Line {
+    /// A line that keeps this, before any unit comes in.
+    pub fn new(kept: KeptRelease) -> Line
+        ensures kept { result.kept ≡ kept }
+        ensures came { result.came.value ≡ record { got = []; passed = 0 } }
+    {
+        Line {
+            kept,
+            came: none_came(),
+        }
+    }
+
+    /// The counts begin again.
+    pub fn clear(&mut self)
+        ensures kept { self.new.kept ≡ self.old.kept }
+        ensures came { self.new.came.value ≡ record { got = []; passed = 0 } }
+    {
+        self.came = none_came();
+    }
+
     /// What a section does upon an input by the cell that the table has for it. Other cells than those of a line, and those upon
     /// another kind of input, have no effect. After `Memory` the section is as before.
     ///
@@ -51,11 +91,8 @@ impl Line {
         ensures { IfOk result (λ line. line ≡ self.now) }
     {
         Ok(Line {
-            kept: KeptRelease {
-                cause: self.kept.cause,
-                body: copied(&self.kept.body)?,
-                importance: self.kept.importance,
-            },
+            kept: copied_release(&self.kept)?,
+            came: Mark::after(self),
         })
     }
 

@@ -1,12 +1,14 @@
 //! What a section does upon an effect of the other end.
 ghost use Rattle.std.specs.Prelude.{◌≡◌, IfOk, OnErr};
-ghost use Rattle.section_model.specs.Line.{line_takes, passes_accept, passes_refuse, passes_end, keeps_end, passes_unit};
+ghost use Rattle.section_model.specs.Line.{line_takes, passes_accept, passes_refuse, passes_end, keeps_end, passes_unit, counts_passed};
+ghost use Rattle.section_model.specs.Ends.{no_effect};
 ghost use Rattle.section_model.specs.Lengths.{HandWithin};
 ghost use Rattle.section_class2.specs.Inner.Heads.{ActsOnHead};
 ghost use Rattle.section_class2.specs.Lines.{line_of};
 
 use crate::line::Line;
 use crate::sending::{confirmation, copied, data, refusal, rlsd};
+use mark::Mark;
 use relay_base::Memory;
 use section_model::{Acted, Cell, Hand, KeptRelease, SectionState, WireHead};
 use std::alloc::Global;
@@ -56,13 +58,27 @@ fn passes_refuse(alloc: Global, wire: &mut WireHead, hand: &Hand) -> Result<Acte
     Ok(acted)
 }
 
-/// A unit of data: DT1.
+/// An effect of the other end, and the section until then.
+#[derive(Clone, Copy)]
+struct Leaving<'a> {
+    wire: &'a WireHead,
+    line: &'a Line,
+    hand: &'a Hand,
+}
+
+/// A unit of data: DT1, and that it left.
 fn passes_unit(alloc: Global, wire: &WireHead, hand: &Hand) -> Result<Acted, Memory>
     requires { HandWithin hand.now }
     ensures { IfOk result (λ done. ActsOnHead (passes_unit hand.now) wire.now wire.now done) }
 {
     match hand {
-        Hand::Unit { more, body } => Acted::giving(alloc, data(alloc, wire, *more, body)?),
+        Hand::Unit { more, body } => {
+            let left = Hand::Left {
+                units: 1,
+                expedited: false,
+            };
+            Acted::giving_then(alloc, data(alloc, wire, *more, body)?, left)
+        }
         _ => Ok(Acted::nothing(alloc)),
     }
 }
@@ -112,6 +128,19 @@ impl Line {
         Acted::nothing(alloc)
     }
 
+    /// So many of the units that came in left on the other end.
+    fn counts_passed(&mut self, wire: &WireHead, hand: &Hand)
+        ensures { counts_passed hand.now (line_of wire.now self.old) ≡
+            (line_of wire.now self.new, no_effect) }
+    {
+        let came = Mark::after(&Leaving {
+            wire,
+            line: self,
+            hand,
+        });
+        self.came = came;
+    }
+
     /// An effect of the other end, by the table's cell for it.
     #[tactic(auto, unfolding(section_model::specs::Line::line_takes))]
     pub(crate) fn take(
@@ -132,6 +161,10 @@ impl Line {
             Cell::PassEnd => self.passes_end(alloc, wire, hand),
             Cell::KeepEnd => Ok(self.keeps_end(alloc, wire, hand)),
             Cell::PassUnit => passes_unit(alloc, wire, hand),
+            Cell::Left => {
+                self.counts_passed(wire, hand);
+                Ok(Acted::nothing(alloc))
+            }
             _ => Ok(Acted::nothing(alloc)),
         }
     }

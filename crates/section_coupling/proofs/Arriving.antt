@@ -1,5 +1,5 @@
 -- What a section acts upon, and what follows each event.
-use Rattle.std.proofs.Common.{◌≡◌, ◌<◌, ◌+◌, [], ◌∷◌, ◌++◌, length, get_or, drop, fold, ℕ, true, false, List, ap, ◌∙◌, refl, sym, subst}
+use Rattle.std.proofs.Common.{◌≡◌, ◌<◌, ◌+◌, [], ◌∷◌, ◌++◌, length, get_or, drop, fold, ℕ, Bool, true, false, List, ap, ◌∙◌, refl, sym, subst}
 use Rattle.std.specs.Prelude.{IsTrue, Some, if◌then◌else◌}
 use Rattle.std.proofs.lemmas.Bool.{and_parts}
 use Rattle.relay_base.specs.declared.words.Event.{Event}
@@ -11,12 +11,23 @@ use Rattle.section_class3.specs.Windows.{windows_hear_arrival, windows_hear_even
 use Rattle.section_class2.specs.Lines.{line_hears_arrival, line_hears_event, line_acts}
 use Rattle.section_model.specs.declared.cell.SectionState.{SectionState}
 use Rattle.section_model.specs.declared.hand.Acted.{Acted}
-use Rattle.section_model.specs.Ends.{Section, End, Connection, wire}
+use Rattle.section_model.specs.Ends.{Section, End, Connection, wire, cleared}
+use Rattle.section_model.specs.Views.{section_of}
+use Rattle.section_model.specs.declared.hand.Came.{Came}
+use Rattle.section_model.specs.declared.wire.WireHead.{WireHead}
+use Rattle.mark.specs.declared.Mark.{Mark}
+use Rattle.section_class2.specs.declared.line.Line.{Line}
+use Rattle.section_class2.specs.Lines.{line_of}
+use Rattle.section_class3.specs.Windows.{WindowsState, windowed_of}
+use Rattle.section_coupling.specs.declared.wire.Wire.{Wire}
+use Rattle.section_coupling.specs.Views.{section_at}
+use Rattle.section_coupling.specs.Sound.{came_in}
+use Rattle.section_coupling.specs.Inner.Acts.{is_set_up, windows_begun, came_begun}
 use Rattle.section_model.specs.Timing.{timers_after}
 use Rattle.std.specs.List.{list_any}
 use Rattle.flow_law.proofs.Flowing.{either}
 use Rattle.section_model.specs.Parameters.{Arrival}
-use Rattle.section_model.specs.Acting.{timed, is_sent, by_line, by_windows, in_windows, section_hears}
+use Rattle.section_model.specs.Acting.{timed, is_sent, windows_after, by_line, by_windows, in_windows, section_hears}
 use Rattle.relay_base.specs.declared.words.Output.TheVariants.{Lost as Dropped}
 use Rattle.relay_base.specs.declared.words.Lost.TheVariants as lost
 use Rattle.section_model.specs.declared.cell.Timer.{Timer}
@@ -57,6 +68,33 @@ acts-windowed c i x e = rw e refl
 
 pub acts-lined : (c : Cell) (i : Input) (x : Section) → in_windows c x ≡ false → untimed_acts c i x ≡ by_line (line_acts c i) x
 acts-lined c i x e = rw e refl
+
+-- the code's line has acted, and where the section is set up the counts have begun
+pub line-acted : (now : ℕ) (c : Cell) (i : Input) (old : SectionState) (w : Wire) (h : WireHead) (l begun : Line) (v : WindowsState) (acted : Acted)
+    → old ≡ (section_of w.head).state → line_acts c i (line_of w.head w.line) ≡ (line_of h l, acted)
+    → begun.kept ≡ l.kept → begun.came.value ≡ came_begun old h l.came.value → v ≡ windows_begun old h w.windows
+    → by_line (line_acts c i) (section_at now w) ≡ (section_at now (record { head = h; line = begun; windows = v; timers = w.timers }), acted)
+line-acted now c i old w h l begun v acted same acts kept came windows =
+    let x : Section = section_at now w in
+    ap (λ done. (record x { head = done.0.head; kept = done.0.kept; windows = windows_after x done.0 }, done.1)) acts
+    ∙ (ap (λ u. (record x { head = section_of h; kept = l.kept; windows = u }, acted))
+    (by_test (is_set_up (section_of w.head).state h) (windows ∙ ap (λ s. windows_begun s h w.windows) same) (came ∙ ap (λ s. came_begun s h l.came.value) same))
+    ∙ ap (λ k. (record x { head = section_of h; kept = k; windows = record v.windows { got = begun.came.value.got; passed = begun.came.value.passed } }, acted)) (sym kept))
+  where
+    by_test : (b : Bool) → v ≡ (if b then record { agreed = h.credit; windows = cleared h.credit } else w.windows) → begun.came.value ≡ (if b then record { got = []; passed = 0 } else l.came.value)
+        → (if b then cleared h.credit else record (section_at now w).windows { got = l.came.value.got; passed = l.came.value.passed }) ≡ record v.windows { got = begun.came.value.got; passed = begun.came.value.passed }
+    by_test true e f = rw (e, f) refl
+    by_test false e f = rw (e, f) refl
+
+-- the code's windows have acted, in class 3
+pub windows-acted : (now : ℕ) (c : Cell) (i : Input) (w : Wire) (h : WireHead) (v : WindowsState) (came : Mark Came) (acted : Acted)
+    → w.line.came.value ≡ came_in w.windows.windows → windows_act c i (windowed_of w.head w.windows) ≡ (windowed_of h v, acted) → came.value ≡ came_in v.windows
+    → by_windows (windows_act c i) (section_at now w) ≡ (section_at now (record { head = h; line = record { kept = w.line.kept; came = came }; windows = v; timers = w.timers }), acted)
+windows-acted now c i w h v came acted before acts after =
+    let x : Section = section_at now w in
+    ap (λ (u : Came). let done = windows_act c i (record { head = section_of w.head; windows = record w.windows.windows { got = u.got; passed = u.passed } }) in (record x { head = done.0.head; windows = done.0.windows }, done.1)) before
+    ∙ (ap (λ done. (record x { head = done.0.head; windows = done.0.windows }, done.1)) acts
+    ∙ ap (λ (u : Came). (record x { head = section_of h; windows = record v.windows { got = u.got; passed = u.passed } }, acted)) (sym after))
 
 -- an act but for the timers leaves these
 pub untimed-timers : (c : Cell) (i : Input) (x : Section) → (untimed_acts c i x).0.timers ≡ x.timers

@@ -10,7 +10,8 @@ use Rattle.plant_core.specs.declared.terms.Terms.{Terms}
 use Rattle.plant_core.specs.declared.terms.Ticks.{Ticks}
 use Rattle.section_model.specs.declared.hand.Hand.TheVariants as hand
 use Rattle.section_model.specs.declared.hand.Acted.{Acted}
-use Rattle.section_model.specs.Ends.{End, wire, owner, Section, Windows, Connection, gives_then, is_up}
+use Rattle.section_model.specs.Ends.{End, wire, owner, Section, Windows, Connection, turned, gives_then, is_up}
+use Rattle.section_model.specs.Line.{line_takes}
 use Rattle.section_model.specs.Acting.{timed, by_windows, section_takes}
 use Rattle.section_model.specs.Windowed.{Windowed, windowed_takes, leaves, acknowledges, may_leave}
 use Rattle.section_model.specs.UserEnd.{user_takes}
@@ -19,7 +20,7 @@ use Rattle.section_model.specs.Step.{on_windows, on_each, event_step, after_even
 use Rattle.section_model.specs.Opening.{Wanted, Wish, by_cr, by_user, no_wish, wish_of, fits, Opened, opened_by_cr, opened_by_user, opened}
 use Rattle.flow_law.specs.InStep.{AreInStep, IsInStep}
 use Rattle.flow_law.proofs.Ends.{kept_back}
-use Rattle.flow_law.proofs.Flowing.{either}
+use Rattle.flow_law.proofs.Flowing.{either, line_counts}
 use Rattle.flow_law.proofs.Leaving.{after_leaving, leaves_kept, on_windows_kept}
 use Rattle.flow_law.proofs.Step.{event_kept}
 use Rattle.section_coupling.specs.declared.side.Side.{Side}
@@ -57,11 +58,16 @@ drained w within = (units_left w within, expedited_left w.waiting w.unanswered)
 abbrev Drains : Connection → End → Type 0
 Drains c that = EndDrained c.this × (EndDrained that → EndDrained c.that)
 
+abbrev Takes : Ticks → Section → Section → Section × Acted → Type 0
+Takes ticks x y done = let c = (exchange 1 ticks (timed ticks y done) (wire x)).0 in Drains (turned c) (wire y)
+
 told : (ticks : Ticks) (x : Section) (that : End) (outs : List Output) (units : ℕ) (is_expedited : Bool) → EndDrained (wire x)
     → Drains (exchange 2 ticks (wire x, gives_then outs (hand.Left units is_expedited ∷ [])) that).0 that
-unfolding exchange section_takes windowed_takes user_takes
-told ticks x (wire y) outs units true d = (d, λ e. e)
-told ticks x (wire y) outs units false d = (d, λ e. e)
+unfolding exchange section_takes windowed_takes line_takes user_takes
+told ticks x (wire y) outs units true d =
+    either (Takes ticks x y) (y.head.class == 3) _ _ (λ _. (d, λ e. e)) (λ _. subst (Takes ticks x y) (sym (line_counts units true y)) (d, λ e. e))
+told ticks x (wire y) outs units false d =
+    either (Takes ticks x y) (y.head.class == 3) _ _ (λ _. (d, λ e. e)) (λ _. subst (Takes ticks x y) (sym (line_counts units false y)) (d, λ e. e))
 told ticks x (owner u) outs units is_expedited d = (d, λ e. e)
 
 told_if : (b : Bool) (ticks : Ticks) (x : Section) (that : End) (outs : List Output) (units : ℕ) (is_expedited : Bool) → EndDrained (wire x)

@@ -33,10 +33,6 @@ either false r s f g = g
 still : (u : User) → IsCredit u.credit → GrantedUser (u, no_effect)
 still u h = record { credit = h; first = tt; then_ = tt }
 
-taken-granted : (b : Bool) (units : ℕ) (is_expedited : Bool) → AreGranted (if b then hand.Left units is_expedited ∷ [] else [])
-taken-granted true units is_expedited = (tt, tt)
-taken-granted false units is_expedited = tt
-
 confirmed-granted : (h : Hand) (u : User) → IsGranted h → IsCredit u.credit → GrantedUser (tells_confirm h u)
 confirmed-granted (hand.Accept class credit called body importance) u o h = record { credit = o; first = tt; then_ = tt }
 confirmed-granted _ u o h = still u h
@@ -49,8 +45,8 @@ disconnected-granted _ u h = still u h
 overruns : (u : User) (outs : List Output) → IsCredit u.credit → GrantedUser (record u { state = Gone }, record { first = hand.End 0x07 None None ∷ []; outs = outs; then = [] })
 overruns u outs h = record { credit = h; first = (tt, tt); then_ = tt }
 
-tells : (u : User) (text : List ℕ) (outs : List Output) (units : ℕ) (is_expedited : Bool) → IsCredit u.credit → GrantedUser (record u { text = text }, gives_then outs (taken u units is_expedited))
-tells u text outs units is_expedited h = record { credit = h; first = tt; then_ = taken-granted (u.class == 3) units is_expedited }
+tells : (u : User) (text : List ℕ) (outs : List Output) (units : ℕ) (is_expedited : Bool) → IsCredit u.credit → GrantedUser (record u { text = text }, gives_then outs (taken units is_expedited))
+tells u text outs units is_expedited h = record { credit = h; first = tt; then_ = (tt, tt) }
 
 collects-granted : (h : Hand) (u : User) → IsCredit u.credit → GrantedUser (collects h u)
 collects-granted (hand.Unit more body) u h =
@@ -58,7 +54,7 @@ collects-granted (hand.Unit more body) u h =
 collects-granted _ u h = still u h
 
 expedited-granted : (h : Hand) (u : User) → IsCredit u.credit → GrantedUser (tells_expedited h u)
-expedited-granted (hand.Expedited body) u h = record { credit = h; first = tt; then_ = taken-granted (u.class == 3) 0 true }
+expedited-granted (hand.Expedited body) u h = record { credit = h; first = tt; then_ = (tt, tt) }
 expedited-granted _ u h = still u h
 
 reset-granted : (h : Hand) (u : User) → IsCredit u.credit → GrantedUser (tells_reset h u)

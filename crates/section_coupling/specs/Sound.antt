@@ -6,6 +6,8 @@ use Rattle.section_model.specs.declared.hand.Acted.{Acted}
 use Rattle.section_model.specs.declared.input.Input.{Input}
 use Rattle.section_model.specs.declared.input.Input.TheVariants as input
 use Rattle.relay_base.specs.declared.limits.TheConstants.{GREATEST_CREDIT}
+use Rattle.section_model.specs.declared.hand.Came.{Came}
+use Rattle.section_model.specs.Ends.{Windows as SectionWindows}
 use Rattle.section_model.specs.Lengths.{HandsWithin, InputWithin, KeptWithin, WindowsWithin}
 use Rattle.section_coupling.specs.declared.wire.Wire.{Wire}
 use Rattle.section_coupling.specs.declared.owner.Owner.{Owner}
@@ -41,12 +43,17 @@ IsGrantedInput _ = Unit {0}
 abbrev pub SoundInput : Input → Type 0
 SoundInput i = IsGrantedInput i × InputWithin i
 
--- the windows of a section have the credit that it agreed on
+-- what came in, by the windows of a section
+abbrev pub came_in : SectionWindows → Came
+came_in w = record { got = w.got; passed = w.passed }
+
+-- the windows of a section have the credit that it agreed on, and in class 3 they count what came in too
 pub record SoundWire (w : Wire) : Type 0 where
   pub kept : KeptWithin w.line.kept
   pub windows : WindowsWithin w.windows.windows
   pub agreed : w.windows.agreed ≡ w.head.credit
   pub credit : IsCredit w.head.credit
+  pub came : w.head.class ≡ 3 → w.line.came.value ≡ came_in w.windows.windows
 
 abbrev pub SoundOwner : Owner → Type 0
 SoundOwner o = IsCredit o.side.credit

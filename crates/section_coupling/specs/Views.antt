@@ -28,8 +28,14 @@ timers_at now t = record {
   repeat = left_at now t.repeat;
 }
 
+-- a section; what came in stands in its line, in both classes
 abbrev pub section_at : ℕ → Wire → Section
-section_at now w = record { head = section_of w.head; kept = w.line.kept; windows = w.windows.windows; timers = timers_at now w.timers }
+section_at now w = record {
+  head = section_of w.head;
+  kept = w.line.kept;
+  windows = record w.windows.windows { got = w.line.came.value.got; passed = w.line.came.value.passed };
+  timers = timers_at now w.timers;
+}
 
 -- a user's end, with what the user gave
 abbrev pub user_at : Owner → User

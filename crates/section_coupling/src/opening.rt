@@ -69,9 +69,7 @@ fn new_wire(alloc: Global, terms: &Terms, now: Taken, head: WireHead) -> Side
     let state = head.state();
     Side::Wire(Wire {
         head,
-        line: Line {
-            kept: KeptRelease::with_cause(0),
-        },
+        line: Line::new(KeptRelease::with_cause(0)),
         windows: Windows::new(alloc, head.credit),
         timers: Timers::none().entered(&clock, state),
     })

@@ -8,23 +8,15 @@ ghost use Rattle.section_coupling.specs.Sound.{SoundOwner, IsGranted, SoundActed
 
 use mark::Mark;
 use relay_base::{Event, Memory, Ssn};
-use section_flow::UnitList;
-use section_model::{Acted, Cell, Hand, Input};
+use section_model::{Acted, Came, Cell, Hand, Input};
 use section_user::UserSide;
 use std::alloc::Global;
 
-/// What a user gave in class 3 since the counts were cleared: the units, and how many of them left. Only clauses count them.
-#[derive(Drop)]
-pub struct Given {
-    pub got: UnitList,
-    pub passed: u64,
-}
-
-/// A user's end.
+/// A user's end, and what its user gave, which clauses alone count.
 #[derive(Drop)]
 pub struct Owner {
     pub side: UserSide,
-    pub given: Mark<Given>,
+    pub given: Mark<Came>,
 }
 
 /// A user's end upon an event, by a cell.

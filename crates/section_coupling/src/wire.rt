@@ -1,19 +1,20 @@
 //! A connection section with its timers.
-ghost use Rattle.std.specs.Prelude.{◌≡◌, ◌≤◌, ℕ, IfOk};
+ghost use Rattle.std.specs.Prelude.{◌≡◌, ◌≤◌, ◌==◌, ◌&&◌, false, ℕ, IfOk};
 ghost use Rattle.std.specs.List.{list_any};
 ghost use Rattle.section_model.specs.Ends.{wire, is_connected};
 ghost use Rattle.section_class3.specs.Windows.{windows_act};
 ghost use Rattle.section_class2.specs.Lines.{line_acts};
 ghost use Rattle.section_model.specs.Views.{section_of};
-ghost use Rattle.section_model.specs.Acting.{is_sent, is_windowed, is_by_class, in_windows, by_line, by_windows, timed};
+ghost use Rattle.section_model.specs.Acting.{is_sent, is_by_class, in_windows, by_line, by_windows, timed};
 ghost use Rattle.section_model.specs.Timing.{timers_after};
 ghost use Rattle.section_model.specs.declared.input.Input.TheVariants as input;
 ghost use Rattle.section_coupling.specs.Views.{section_at, section_by, IsAct};
 ghost use Rattle.section_coupling.specs.Sound.{IsCredit, SoundWire, SoundInput, SoundActed};
-ghost use Rattle.section_coupling.specs.Inner.Acts.{untimed_acts, section_acts, windows_begun, SetsUpOnce, TakesData};
+ghost use Rattle.section_coupling.specs.Inner.Acts.{untimed_acts, section_acts, windows_begun, came_begun, SetsUpOnce, TakesData};
 
 use crate::clock::Clock;
 use crate::timers::Timers;
+use mark::Mark;
 use relay_base::{Memory, Output, Outs};
 use section_class2::Line;
 use section_class3::Windows;
@@ -46,25 +47,16 @@ fn has_sent(outs: &Outs) -> bool
     outs.as_slice().iter().any(|output| is_sent(output))
 }
 
-/// Whether a cell is one of class 3 alone.
-fn is_windowed(cell: Cell) -> bool
-    ensures { result ≡ is_windowed cell }
-{
-    match cell {
-        Cell::TakeNumberedData | Cell::TakeAcknowledgement => true,
-        Cell::TakeExpedited | Cell::TakeExpeditedAcknowledgement => true,
-        Cell::ResetByPeer | Cell::ResetComplete | Cell::Left => true,
-        _ => false,
-    }
-}
-
 /// Whether the class decides what a cell does.
 fn is_by_class(cell: Cell) -> bool
     ensures { result ≡ is_by_class cell }
 {
     match cell {
-        Cell::SendTest | Cell::PassUnit | Cell::PassExpedited => true,
-        Cell::PassReset | Cell::ClearCounts => true,
+        Cell::TakeData | Cell::TakeNumberedData | Cell::TakeAcknowledgement => true,
+        Cell::TakeExpedited | Cell::TakeExpeditedAcknowledgement => true,
+        Cell::ResetByPeer | Cell::ResetComplete | Cell::SendTest => true,
+        Cell::PassUnit | Cell::PassExpedited | Cell::PassReset => true,
+        Cell::ClearCounts | Cell::Left => true,
         _ => false,
     }
 }
@@ -76,17 +68,26 @@ fn is_connected(state: SectionState) -> bool
     matches!(state, SectionState::Up | SectionState::Resetting)
 }
 
-/// The windows after an act of the line: where the section is set up they begin, with the credit that was agreed on.
-fn windows_after(alloc: Global, old: SectionState, head: &WireHead, windows: Windows) -> Windows
+/// The line and the windows after an act of the line: where the section is set up the counts begin, with the credit that was agreed on.
+fn begun(
+    alloc: Global,
+    old: SectionState,
+    head: &WireHead,
+    line: Line,
+    windows: Windows,
+) -> (Line, Windows)
     requires { IsCredit head.now.credit }
-    ensures { result ≡ windows_begun old head.now windows }
+    ensures kept { result.0.kept ≡ line.kept }
+    ensures came { result.0.came.value ≡ came_begun old head.now line.came.value }
+    ensures windows { result.1 ≡ windows_begun old head.now windows }
 {
     let is_set_up = head.state() == SectionState::Up && !is_connected(old);
-    if is_set_up {
-        Windows::new(alloc, head.credit)
-    } else {
-        windows
+    if !is_set_up {
+        return (line, windows);
     }
+    let mut line = line;
+    line.clear();
+    (line, Windows::new(alloc, head.credit))
 }
 
 impl Wire {
@@ -106,7 +107,7 @@ impl Wire {
     fn in_windows(&self, cell: Cell) -> bool
         ensures { (now : ℕ) → result ≡ in_windows cell (section_at now self.now) }
     {
-        is_windowed(cell) || (is_by_class(cell) && self.head.class == 3)
+        is_by_class(cell) && self.head.class == 3
     }
 
     /// An act of the line; the timers stay.
@@ -116,6 +117,7 @@ impl Wire {
         requires input { SoundInput input.now }
         requires sets_up { SetsUpOnce cell (section_of self.head).state }
         requires data { TakesData cell input.now }
+        requires class { (is_by_class cell && self.head.class == 3) ≡ false }
         ensures acts { IfOk result (λ r. (now : ℕ) →
             by_line (line_acts cell input.now) (section_at now self) ≡ (section_at now r.0, r.1)) }
         ensures sound { IfOk result (λ r. SoundWire r.0 × SoundActed r.1) }
@@ -128,7 +130,7 @@ impl Wire {
         } = self;
         let old = head.state();
         let acted = line.act(alloc, &mut head, cell, input)?;
-        let windows = windows_after(alloc, old, &head, windows);
+        let (line, windows) = begun(alloc, old, &head, line, windows);
         let wire = Wire {
             head,
             line,
@@ -149,6 +151,7 @@ impl Wire {
         requires sound { SoundWire self }
         requires input { SoundInput input.now }
         requires data { TakesData cell input.now }
+        requires class { self.head.class ≡ 3 }
         ensures acts { let act = windows_act cell input.now in IfOk result (λ r. (now : ℕ) →
             by_windows act (section_at now self) ≡ (section_at now r.0, r.1)) }
         ensures sound { IfOk result (λ r. SoundWire r.0 × SoundActed r.1) }
@@ -160,6 +163,10 @@ impl Wire {
             timers,
         } = self;
         let acted = windows.act(alloc, &mut head, cell, input)?;
+        let line = Line {
+            kept: line.kept,
+            came: Mark::after(&windows),
+        };
         let wire = Wire {
             head,
             line,
@@ -231,6 +238,7 @@ impl Wire {
         cell: Cell,
     ) -> Result<(Wire, Acted), Memory>
         requires sound { SoundWire self }
+        requires class { self.head.class ≡ 3 }
         ensures acts { let x = section_by clock.now self in
             let turn = by_windows (windows_act cell input.Turn) x in
             IfOk result (IsAct clock.now (timed clock.now.ticks x turn)) }

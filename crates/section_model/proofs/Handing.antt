@@ -1,16 +1,16 @@
 -- What an end hands back.
-use Rattle.std.proofs.Common.{◌≡◌, ℕ, zero, suc, ◌==◌, ◌&&◌, not, nat_lt, length, Bool, true, false, List, [], ◌∷◌, ◌++◌, fold, if◌then◌else◌, Some, None, refl, subst, sym, ap, ◌∙◌}
+use Rattle.std.proofs.Common.{◌≡◌, ℕ, zero, suc, ◌&&◌, not, nat_lt, length, Bool, true, false, List, [], ◌∷◌, ◌++◌, fold, if◌then◌else◌, Some, None, refl, subst, sym, ap, ◌∙◌}
 use Rattle.section_model.specs.declared.cell.Cell.{Cell}
 use Rattle.section_model.specs.declared.cell.Cell.TheVariants as cell
 use Rattle.section_model.specs.declared.hand.Hand.{Hand}
 use Rattle.section_model.specs.declared.hand.Hand.TheVariants as hand
 use Rattle.section_model.specs.Ends.{Line, Section, User, Connection, turned, Output, End, wire, owner, Acted, Ticks, is_up, no_effect, gives_then}
-use Rattle.section_model.specs.Line.{line_takes, passes_accept, passes_refuse, passes_end, keeps_end, passes_unit}
+use Rattle.section_model.specs.Line.{line_takes, passes_accept, passes_refuse, passes_end, keeps_end, passes_unit, counts_passed}
 use Rattle.section_model.specs.Windowed.{Windowed, windowed_takes, queues_unit, passes_expedited, passes_reset, counts_left, sends_expedited}
 use Rattle.section_model.specs.UserEnd.{user_takes, tells_confirm, tells_disconnect, collects, tells_expedited, tells_reset, user_counts_left as left_user, output_to}
 use Rattle.section_model.specs.declared.cell.UserState.TheVariants.{Gone}
 use Rattle.relay_base.specs.declared.words.Tell.TheVariants as tell
-use Rattle.section_model.specs.Acting.{section_takes, section_takes_by, user_takes_by, in_windows, by_line, by_windows, end_takes}
+use Rattle.section_model.specs.Acting.{section_takes, section_takes_by, user_takes_by, in_windows, line_in, by_line, by_windows, end_takes}
 use Rattle.section_model.specs.Coupling.{with_more, other_takes, exchange, settles}
 use Rattle.section_model.specs.Laws.{IsAnswer, AreAnswers, hands_of, NoHandIsLost}
 
@@ -22,35 +22,75 @@ nothing_either : {X : Type 0} (b : Bool) (r s : X × Acted) → hands_of r.1 ≡
 nothing_either true r s f g = f
 nothing_either false r s f g = g
 
--- the line hands nothing back
-line_hands : (c : Cell) (h : Hand) (x : Line) → hands_of (line_takes c h x).1 ≡ []
+-- the line hands back that a unit left
+line_answers : (c : Cell) (h : Hand) (x : Line) → AreAnswers (hands_of (line_takes c h x).1)
 unfolding line_takes
-line_hands cell.PassAccept h x = accepts h
+line_answers cell.PassAccept h x = takes h
   where
-    accepts : (h : Hand) → hands_of (passes_accept h x).1 ≡ []
-    accepts (hand.Accept class credit called body importance) = refl
-    accepts _ = refl
-line_hands cell.PassRefuse h x = refuses h
+    takes : (h : Hand) → AreAnswers (hands_of (passes_accept h x).1)
+    takes (hand.Accept class credit called body importance) = tt
+    takes _ = tt
+line_answers cell.PassRefuse h x = takes h
   where
-    refuses : (h : Hand) → hands_of (passes_refuse h x).1 ≡ []
-    refuses (hand.Refuse cause called body importance) = refl
-    refuses _ = refl
-line_hands cell.PassEnd h x = ends h
+    takes : (h : Hand) → AreAnswers (hands_of (passes_refuse h x).1)
+    takes (hand.Refuse cause called body importance) = tt
+    takes _ = tt
+line_answers cell.PassEnd h x = takes h
   where
-    ends : (h : Hand) → hands_of (passes_end h x).1 ≡ []
-    ends (hand.End cause body importance) = refl
-    ends _ = refl
-line_hands cell.KeepEnd h x = ends h
+    takes : (h : Hand) → AreAnswers (hands_of (passes_end h x).1)
+    takes (hand.End cause body importance) = tt
+    takes _ = tt
+line_answers cell.KeepEnd h x = takes h
   where
-    ends : (h : Hand) → hands_of (keeps_end h x).1 ≡ []
-    ends (hand.End cause body importance) = refl
-    ends _ = refl
-line_hands cell.PassUnit h x = takes h
+    takes : (h : Hand) → AreAnswers (hands_of (keeps_end h x).1)
+    takes (hand.End cause body importance) = tt
+    takes _ = tt
+line_answers cell.PassUnit h x = takes h
   where
-    takes : (h : Hand) → hands_of (passes_unit h x).1 ≡ []
-    takes (hand.Unit more body) = refl
+    takes : (h : Hand) → AreAnswers (hands_of (passes_unit h x).1)
+    takes (hand.Unit more body) = (tt, tt)
+    takes _ = tt
+line_answers cell.Left h x = takes h
+  where
+    takes : (h : Hand) → AreAnswers (hands_of (counts_passed h x).1)
+    takes (hand.Left units expedited) = tt
+    takes _ = tt
+line_answers _ h x = tt
+
+-- on an answer it hands nothing back
+line_ends : (c : Cell) (h : Hand) (x : Line) → IsAnswer h → hands_of (line_takes c h x).1 ≡ []
+unfolding line_takes
+line_ends cell.PassAccept h x a = takes h
+  where
+    takes : (h : Hand) → hands_of (passes_accept h x).1 ≡ []
+    takes (hand.Accept class credit called body importance) = refl
     takes _ = refl
-line_hands _ h x = refl
+line_ends cell.PassRefuse h x a = takes h
+  where
+    takes : (h : Hand) → hands_of (passes_refuse h x).1 ≡ []
+    takes (hand.Refuse cause called body importance) = refl
+    takes _ = refl
+line_ends cell.PassEnd h x a = takes h
+  where
+    takes : (h : Hand) → hands_of (passes_end h x).1 ≡ []
+    takes (hand.End cause body importance) = refl
+    takes _ = refl
+line_ends cell.KeepEnd h x a = takes h
+  where
+    takes : (h : Hand) → hands_of (keeps_end h x).1 ≡ []
+    takes (hand.End cause body importance) = refl
+    takes _ = refl
+line_ends cell.PassUnit h x a = takes h a
+  where
+    takes : (h : Hand) → IsAnswer h → hands_of (passes_unit h x).1 ≡ []
+    takes (hand.Unit more body) a = absurd a
+    takes _ a = refl
+line_ends cell.Left h x a = takes h
+  where
+    takes : (h : Hand) → hands_of (counts_passed h x).1 ≡ []
+    takes (hand.Left units expedited) = refl
+    takes _ = refl
+line_ends _ h x a = refl
 
 -- the windows hand back that expedited data left
 windowed_answers : (c : Cell) (h : Hand) (x : Windowed) → AreAnswers (hands_of (windowed_takes c h x).1)
@@ -109,18 +149,14 @@ unfolding section_takes
 section_answers ticks c h x =
     answers_either (in_windows c x) (by_windows (windowed_takes c h) x) (by_line (line_takes c h) x)
     (windowed_answers c h (record { head = x.head; windows = x.windows }))
-    (subst AreAnswers (sym (line_hands c h (record { head = x.head; kept = x.kept }))) tt)
+    (line_answers c h (line_in x))
 
 section_ends : (ticks : Ticks) (c : Cell) (h : Hand) (x : Section) → IsAnswer h → hands_of (section_takes ticks c h x).1 ≡ []
 unfolding section_takes
 section_ends ticks c h x a =
     nothing_either (in_windows c x) (by_windows (windowed_takes c h) x) (by_line (line_takes c h) x)
     (windowed_ends c h (record { head = x.head; windows = x.windows }) a)
-    (line_hands c h (record { head = x.head; kept = x.kept }))
-
-taken_answers : (u : User) (units : ℕ) (e : Bool) (b : Bool) → AreAnswers (if b then hand.Left units e ∷ [] else [])
-taken_answers u units e true = (tt, tt)
-taken_answers u units e false = tt
+    (line_ends c h (line_in x) a)
 
 -- a user's end hands back that a unit or expedited data left, or the end
 user_answers : (c : Cell) (h : Hand) (x : User) → AreAnswers (hands_of (user_takes c h x).1)
@@ -139,21 +175,19 @@ user_answers cell.TellDisconnect h x = takes h
 user_answers cell.TellUnit h x = takes h
   where
     takes : (h : Hand) → AreAnswers (hands_of (collects h x).1)
-    takes (hand.Unit more body) = by_tests (nat_lt 8192 (length (x.text ++ body))) more (x.class == 3)
+    takes (hand.Unit more body) = by_tests (nat_lt 8192 (length (x.text ++ body))) more
       where
-        by_tests : (a b c : Bool) → (let r : User × Acted = (if a then (record x { state = Gone }, record { first = hand.End 0x07 None None ∷ []; outs = output_to x (tell.Disc x.mine 0x07 None) ∷ []; then = [] })
-            else (if b then (record x { text = x.text ++ body }, gives_then [] (if c then hand.Left 1 false ∷ [] else []))
-            else (record x { text = [] }, gives_then (output_to x (tell.Text x.mine (x.text ++ body)) ∷ []) (if c then hand.Left 1 false ∷ [] else [])))) in AreAnswers (hands_of r.1))
-        by_tests true b c = (tt, tt)
-        by_tests false true true = (tt, tt)
-        by_tests false true false = tt
-        by_tests false false true = (tt, tt)
-        by_tests false false false = tt
+        by_tests : (a b : Bool) → (let r : User × Acted = (if a then (record x { state = Gone }, record { first = hand.End 0x07 None None ∷ []; outs = output_to x (tell.Disc x.mine 0x07 None) ∷ []; then = [] })
+            else (if b then (record x { text = x.text ++ body }, gives_then [] (hand.Left 1 false ∷ []))
+            else (record x { text = [] }, gives_then (output_to x (tell.Text x.mine (x.text ++ body)) ∷ []) (hand.Left 1 false ∷ [])))) in AreAnswers (hands_of r.1))
+        by_tests true b = (tt, tt)
+        by_tests false true = (tt, tt)
+        by_tests false false = (tt, tt)
     takes _ = tt
 user_answers cell.TellExpedited h x = takes h
   where
     takes : (h : Hand) → AreAnswers (hands_of (tells_expedited h x).1)
-    takes (hand.Expedited body) = taken_answers x 0 true (x.class == 3)
+    takes (hand.Expedited body) = (tt, tt)
     takes _ = tt
 user_answers cell.TellReset h x = takes h
   where

@@ -1,5 +1,5 @@
 -- An act of one end (Q.714, Annex B): of a section, by its line or its windows and with its timers, or of a user.
-use Rattle.std.specs.Prelude.{ℕ, ◌==◌, ◌||◌, ◌&&◌, not, Bool, true, false, if◌then◌else◌}
+use Rattle.std.specs.Prelude.{ℕ, ◌==◌, ◌&&◌, not, Bool, true, false, if◌then◌else◌}
 use Rattle.std.specs.List.{list_any}
 use Rattle.relay_base.specs.declared.words.Output.TheVariants.{Sent}
 use Rattle.section_model.specs.declared.hand.Hand.TheVariants as hand
@@ -33,11 +33,15 @@ timed ticks old done =
 -- the counts begin where the section is set up
 abbrev pub windows_after : Section → Line → Windows
 windows_after x line =
-    if is_up line.head.state && not (is_connected x.head.state) then cleared line.head.credit else x.windows
+    if is_up line.head.state && not (is_connected x.head.state) then cleared line.head.credit
+    else record x.windows { got = line.got; passed = line.passed }
+
+abbrev pub line_in : Section → Line
+line_in x = record { head = x.head; kept = x.kept; got = x.windows.got; passed = x.windows.passed }
 
 abbrev pub by_line : (Line → Line × Acted) → Section → Section × Acted
 by_line act x =
-    let done = act (record { head = x.head; kept = x.kept }) in
+    let done = act (line_in x) in
     (record x { head = done.0.head; kept = done.0.kept; windows = windows_after x done.0 }, done.1)
 
 abbrev pub by_windows : (Windowed → Windowed × Acted) → Section → Section × Acted
@@ -45,28 +49,25 @@ by_windows act x =
     let done = act (record { head = x.head; windows = x.windows }) in
     (record x { head = done.0.head; windows = done.0.windows }, done.1)
 
--- the cells of class 3 alone
-abbrev pub is_windowed : Cell → Bool
-is_windowed cell.TakeNumberedData = true
-is_windowed cell.TakeAcknowledgement = true
-is_windowed cell.TakeExpedited = true
-is_windowed cell.TakeExpeditedAcknowledgement = true
-is_windowed cell.ResetByPeer = true
-is_windowed cell.ResetComplete = true
-is_windowed cell.Left = true
-is_windowed _ = false
-
--- the cells that the class decides
+-- the cells that the class decides: in class 3 the act is one of the windows, else one of the line
 abbrev pub is_by_class : Cell → Bool
+is_by_class cell.TakeData = true
+is_by_class cell.TakeNumberedData = true
+is_by_class cell.TakeAcknowledgement = true
+is_by_class cell.TakeExpedited = true
+is_by_class cell.TakeExpeditedAcknowledgement = true
+is_by_class cell.ResetByPeer = true
+is_by_class cell.ResetComplete = true
 is_by_class cell.SendTest = true
 is_by_class cell.PassUnit = true
 is_by_class cell.PassExpedited = true
 is_by_class cell.PassReset = true
 is_by_class cell.ClearCounts = true
+is_by_class cell.Left = true
 is_by_class _ = false
 
 abbrev pub in_windows : Cell → Section → Bool
-in_windows cell x = is_windowed cell || (is_by_class cell && x.head.class == 3)
+in_windows cell x = is_by_class cell && x.head.class == 3
 
 unfoldable pub section_hears : Ticks → Cell → ℕ → Parameters → Section → End × Acted
 section_hears ticks c point m x =

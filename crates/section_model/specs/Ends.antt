@@ -34,15 +34,17 @@ pub record Timers : Type 0 where
   pub int : Option ℕ
   pub repeat : Option ℕ
 
--- A section without the counts of class 3.
+-- A section without what class 3 alone has.
 pub record Line : Type 0 where
   pub head : SectionHead
   pub kept : KeptRelease
-
--- The counts of class 3, as whole numbers since they were last cleared, and what waits.
-pub record Windows : Type 0 where
   pub got : List DataUnit  -- the units that came in on this section
   pub passed : ℕ  -- how many of them left on the other end
+
+-- The counts, as whole numbers since they were last cleared, and what waits. In class 2 there are the first two alone.
+pub record Windows : Type 0 where
+  pub got : List DataUnit  -- in both classes, the units that came in on this section
+  pub passed : ℕ  -- in both classes, how many of them left on the other end
   pub told : ℕ  -- the last P(R) sent
   pub sent : ℕ  -- the units sent on this section
   pub acked : ℕ  -- the last P(R) received
@@ -65,7 +67,7 @@ pub record User : Type 0 where
   pub class : ℕ
   pub credit : ℕ
   pub text : List ℕ  -- what is put together of a text
-  pub got : List DataUnit  -- in class 3, the units that the user gave since the counts were cleared
+  pub got : List DataUnit  -- in both classes, the units that the user gave since the counts were cleared
   pub passed : ℕ  -- how many of them left
 
 pub data End : Type 0 where

@@ -1,5 +1,5 @@
 -- What a connection section does in both classes (Q.714, 3.1, 3.3 and 3.4), and the data of class 2 (3.5).
-use Rattle.std.specs.Prelude.{ℕ, ◌==◌, ◌||◌, ◌&&◌, nat_le, List, [], ◌∷◌, if◌then◌else◌, Option, Some, None, unwrap_or, min, max}
+use Rattle.std.specs.Prelude.{ℕ, ◌+◌, ◌==◌, ◌||◌, ◌&&◌, nat_le, false, List, [], ◌∷◌, ◌++◌, if◌then◌else◌, Option, Some, None, unwrap_or, min, max}
 use Rattle.relay_base.specs.declared.causes.TheConstants.{ERROR_CLASS_MISMATCH, REFUSAL_ESTABLISHMENT_EXPIRED, REFUSAL_UNQUALIFIED, RELEASE_INACTIVITY_EXPIRED, RELEASE_INCONSISTENT_DATA, RELEASE_RESET_EXPIRED, RELEASE_UNQUALIFIED}
 use Rattle.relay_base.specs.declared.words.Output.TheVariants.{Sent, Lost as Dropped}
 use Rattle.relay_base.specs.declared.words.Lost.TheVariants as lost
@@ -39,7 +39,7 @@ in_state state x = record x { head = record x.head { state = state } }
 
 -- The section is to be released (Q.714, 3.3): it sends RLSD, and keeps what it says.
 abbrev pub released : ℕ → Option (List ℕ) → Option ℕ → Line → Line
-released cause body importance x = record {
+released cause body importance x = record x {
   head = record x.head { state = Ending };
   kept = record { cause = cause; body = body; importance = importance };
 }
@@ -90,6 +90,10 @@ hears_error m x =
 abbrev pub hears_test : Parameters → Line → Line × Acted
 hears_test m x = if m.slr == x.head.other && m.class == x.head.class then (x, no_effect) else breaks RELEASE_INCONSISTENT_DATA x
 
+-- DT1 (Q.714, 3.5): its unit came in, and goes on at once.
+abbrev pub takes_unit : Parameters → Line → Line × Acted
+takes_unit m x = (record x { got = x.got ++ record { more = m.more; body = m.data_octets } ∷ [] }, gives_then [] (hand.Unit m.more m.data_octets ∷ []))
+
 -- A message from a point, which the checks let through, by the table's cell for it (Q.714, 3.1, 3.3, 3.4 and 3.5).
 unfoldable pub line_hears : Cell → ℕ → Parameters → Line → Line × Acted
 line_hears cell.Confirm point m x = confirms point m x
@@ -98,7 +102,7 @@ line_hears cell.Refused point m x = (in_state Gone x, gives_then [] (hand.Refuse
 line_hears cell.Free point m x = (in_state Gone x, no_effect)
 line_hears cell.Released point m x = (in_state Gone x, gives_then (rlc x.head ∷ []) (hand.End m.cause m.body m.importance ∷ []))
 line_hears cell.ReleaseCollision point m x = (in_state Gone x, gives (rlc x.head ∷ []))
-line_hears cell.TakeData point m x = (x, gives_then [] (hand.Unit m.more m.data_octets ∷ []))
+line_hears cell.TakeData point m x = takes_unit m x
 line_hears cell.ErrorReceived point m x = hears_error m x
 line_hears cell.TestReceived point m x = hears_test m x
 line_hears cell.Discard point m x = (x, gives (Dropped lost.State ∷ []))
@@ -134,12 +138,18 @@ passes_end _ x = (x, no_effect)
 -- the section is to be released as soon as its other end is known
 abbrev pub keeps_end : Hand → Line → Line × Acted
 keeps_end (hand.End cause body importance) x =
-    (record { head = record x.head { state = Waning }; kept = only_cause cause }, no_effect)
+    (record x { head = record x.head { state = Waning }; kept = only_cause cause }, no_effect)
 keeps_end _ x = (x, no_effect)
 
+-- a unit leaves as DT1, and the other end is told so
 abbrev pub passes_unit : Hand → Line → Line × Acted
-passes_unit (hand.Unit more body) x = (x, gives (sent_on x.head (Dt1 x.head.other (if more then 1 else 0) body) ∷ []))
+passes_unit (hand.Unit more body) x = (x, gives_then (sent_on x.head (Dt1 x.head.other (if more then 1 else 0) body) ∷ []) (hand.Left 1 false ∷ []))
 passes_unit _ x = (x, no_effect)
+
+-- so many of the units that came in here left on the other end
+abbrev pub counts_passed : Hand → Line → Line × Acted
+counts_passed (hand.Left units expedited) x = (record x { passed = x.passed + units }, no_effect)
+counts_passed _ x = (x, no_effect)
 
 -- An effect of the other end.
 unfoldable pub line_takes : Cell → Hand → Line → Line × Acted
@@ -148,4 +158,5 @@ line_takes cell.PassRefuse h x = passes_refuse h x
 line_takes cell.PassEnd h x = passes_end h x
 line_takes cell.KeepEnd h x = keeps_end h x
 line_takes cell.PassUnit h x = passes_unit h x
+line_takes cell.Left h x = counts_passed h x
 line_takes _ h x = (x, no_effect)

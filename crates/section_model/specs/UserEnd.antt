@@ -1,5 +1,5 @@
 -- What a user's end does (Q.711): its requests, the cutting of a text into units, and the putting together of one (Q.714, 3.5.3).
-use Rattle.std.specs.Prelude.{ℕ, ◌+◌, ◌-◌, ◌*◌, ◌/◌, ◌==◌, nat_lt, Bool, true, false, List, [], ◌∷◌, ◌++◌, length, take, drop, map, if◌then◌else◌, Option, Some, None}
+use Rattle.std.specs.Prelude.{ℕ, ◌+◌, ◌-◌, ◌*◌, ◌/◌, nat_lt, Bool, true, false, List, [], ◌∷◌, ◌++◌, length, take, drop, map, if◌then◌else◌, Option, Some, None}
 use Rattle.std.specs.List.{range_with_len}
 use Rattle.relay_base.specs.declared.causes.TheConstants.{RELEASE_ACCESS_CONGESTION, RESET_END_USER}
 use Rattle.relay_base.specs.declared.words.Output.TheVariants.{Told}
@@ -53,7 +53,7 @@ refuses _ x = (x, no_effect)
 
 abbrev pub sends : Request → User → User × Acted
 sends (request.Send mine body) x =
-    (record x { got = (if x.class == 3 then x.got ++ units_of body else x.got) }, gives_then [] (map handed (units_of body)))
+    (record x { got = x.got ++ units_of body }, gives_then [] (map handed (units_of body)))
 sends _ x = (x, no_effect)
 
 abbrev pub expedites : Request → User → User × Acted
@@ -87,9 +87,9 @@ tells_disconnect (hand.Refuse cause called body importance) x = (record x { stat
 tells_disconnect (hand.End cause body importance) x = (record x { state = Gone }, gives (output_to x (tell.Disc x.mine cause body) ∷ []))
 tells_disconnect _ x = (x, no_effect)
 
--- in class 3 what a user took has left
-abbrev pub taken : User → ℕ → Bool → List Hand
-taken x units is_expedited = if x.class == 3 then hand.Left units is_expedited ∷ [] else []
+-- what a user took has left
+abbrev pub taken : ℕ → Bool → List Hand
+taken units is_expedited = hand.Left units is_expedited ∷ []
 
 -- A unit joins the text: a text that is too long ends the connection, one of which more follows waits, and a whole one is told.
 abbrev pub overruns : User → User × Acted
@@ -99,10 +99,10 @@ overruns x = (
 )
 
 abbrev pub continues : List ℕ → User → User × Acted
-continues body x = (record x { text = x.text ++ body }, gives_then [] (taken x 1 false))
+continues body x = (record x { text = x.text ++ body }, gives_then [] (taken 1 false))
 
 abbrev pub completes : List ℕ → User → User × Acted
-completes body x = (record x { text = [] }, gives_then (output_to x (tell.Text x.mine (x.text ++ body)) ∷ []) (taken x 1 false))
+completes body x = (record x { text = [] }, gives_then (output_to x (tell.Text x.mine (x.text ++ body)) ∷ []) (taken 1 false))
 
 abbrev pub collects : Hand → User → User × Acted
 collects (hand.Unit more body) x =
@@ -110,7 +110,7 @@ collects (hand.Unit more body) x =
 collects _ x = (x, no_effect)
 
 abbrev pub tells_expedited : Hand → User → User × Acted
-tells_expedited (hand.Expedited body) x = (x, gives_then (output_to x (tell.Expedited x.mine body) ∷ []) (taken x 0 true))
+tells_expedited (hand.Expedited body) x = (x, gives_then (output_to x (tell.Expedited x.mine body) ∷ []) (taken 0 true))
 tells_expedited _ x = (x, no_effect)
 
 abbrev pub tells_reset : Hand → User → User × Acted

@@ -12,6 +12,14 @@ pub struct Unit {
     pub body: Octets,
 }
 
+/// The units that came in at an end since its counts were last cleared, in both classes, and how many of them left on the other end. Where the
+/// code doesn't hold them, clauses alone count them.
+#[derive(Drop)]
+pub struct Came {
+    pub got: PlainList<Unit>,
+    pub passed: u64,
+}
+
 /// An effect on the other end. Called addresses have 0 to 255 octets, the data of `Accept`, `Refuse` and `End` 1 to 128, those of a unit
 /// 1 to 255, expedited data 1 to 32.
 #[derive(Drop)]

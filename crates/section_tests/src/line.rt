@@ -22,9 +22,7 @@ fn section() -> Result<(WireHead, Line), Memory>
         class: 2,
         credit: 0,
     };
-    let line = Line {
-        kept: KeptRelease::with_cause(3),
-    };
+    let line = Line::new(KeptRelease::with_cause(3));
     Ok((wire, line))
 }
 

@@ -1,6 +1,6 @@
 -- The effects of a user's end have the lengths of Q.713.
 use Rattle.std.proofs.Common.{ℕ, suc, ◌+◌, ◌*◌, ◌<◌, ◌≤◌, List, [], ◌∷◌, ◌++◌, length, drop, map, Bool, true, false, refl, arith, sym, subst, get_or, length-take, length-drop}
-use Rattle.std.specs.Prelude.{◌==◌, ◌&&◌, nat_lt, IsTrue, if◌then◌else◌}
+use Rattle.std.specs.Prelude.{◌&&◌, nat_lt, IsTrue, if◌then◌else◌}
 use Rattle.std.specs.List.{range_with_len, All}
 use Rattle.std.proofs.lemmas.Bool.{leb-true, ltb-true}
 use Rattle.std.proofs.lemmas.List.Elements.{All-map, All-from_get_or}
@@ -18,7 +18,7 @@ use Rattle.section_model.specs.declared.input.Input.{Input}
 use Rattle.section_model.specs.declared.input.Input.TheVariants as input
 use Rattle.section_model.specs.Ends.{User}
 use Rattle.section_model.specs.Step.{is_in_range}
-use Rattle.section_model.specs.UserEnd.{given, handed, unit_count, units_of, user_asks, accepts, refuses, sends, expedites, disconnects, user_takes, tells_confirm, tells_disconnect, collects, tells_expedited, tells_reset, user_counts_left, taken, unit_at, overruns, continues, completes}
+use Rattle.section_model.specs.UserEnd.{given, handed, unit_count, units_of, user_asks, accepts, refuses, sends, expedites, disconnects, user_takes, tells_confirm, tells_disconnect, collects, tells_expedited, tells_reset, user_counts_left, unit_at, overruns, continues, completes}
 use Rattle.section_user.specs.declared.side.UserSide.{UserSide}
 use Rattle.section_user.specs.Side.{ActsAs, user_of, user_acts, user_hears_event}
 use Rattle.section_model.specs.Lengths.{IsData, HandWithin, HandsWithin, ActedWithin}
@@ -91,13 +91,6 @@ asks-within cell.UserDisconnects r x range = takes r range
     takes _ range = none
 asks-within _ r x range = none
 
-taken-within : (x : User) (units : ℕ) (expedited : Bool) → HandsWithin (taken x units expedited)
-taken-within x units expedited = by_test (x.class == 3)
-  where
-    by_test : (test : Bool) → HandsWithin (if test then hand.Left units expedited ∷ [] else [])
-    by_test true = (tt, tt)
-    by_test false = tt
-
 acted_either : (b : Bool) (r s : User × Acted) → ActedWithin r.1 → ActedWithin s.1 → ActedWithin (if b then r else s).1
 acted_either true r s f g = f
 acted_either false r s f g = g
@@ -121,12 +114,12 @@ takes-within cell.TellUnit h x = takes h
     takes : (h : Hand) → ActedWithin (collects h x).1
     takes (hand.Unit more body) =
         acted_either (nat_lt 8192 (length (x.text ++ body))) (overruns x) (if more then continues body x else completes body x) ((tt, tt), tt)
-        (acted_either more (continues body x) (completes body x) (tt, taken-within x 1 false) (tt, taken-within x 1 false))
+        (acted_either more (continues body x) (completes body x) (tt, (tt, tt)) (tt, (tt, tt)))
     takes _ = none
 takes-within cell.TellExpedited h x = takes h
   where
     takes : (h : Hand) → ActedWithin (tells_expedited h x).1
-    takes (hand.Expedited body) = (tt, taken-within x 0 true)
+    takes (hand.Expedited body) = (tt, (tt, tt))
     takes _ = none
 takes-within cell.TellReset h x = takes h
   where

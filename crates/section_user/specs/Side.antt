@@ -1,4 +1,4 @@
--- A user's end as the code keeps it: without the counts of class 3.
+-- A user's end as the code keeps it: without its counts.
 use Rattle.std.specs.Prelude.{◌≡◌, ℕ, List}
 use Rattle.relay_base.specs.declared.words.Event.{Event}
 use Rattle.relay_base.specs.declared.words.Event.TheVariants.{Message as Arrived, Asked as Requested, Tick}

@@ -3,7 +3,7 @@ ghost use Rattle.std.specs.Prelude.{◌≡◌, ◌++◌, length, nat_lt, IfOk, O
 ghost use Rattle.section_model.specs.UserEnd.{collects, overruns, continues, completes};
 ghost use Rattle.section_user.specs.Side.{ActsAs};
 
-use crate::side::UserSide;
+use crate::side::{UserSide, taken};
 use crate::units::copied;
 use relay_base::causes::RELEASE_ACCESS_CONGESTION;
 use relay_base::limits::LONGEST_TEXT;
@@ -44,7 +44,7 @@ impl UserSide {
         ensures ok { IfOk result (λ done. ActsAs (continues body.now) self.old self.new done) }
         ensures err { OnErr result (self.new ≡ self.old) }
     {
-        let then = self.taken(alloc, 1, false)?;
+        let then = taken(alloc, 1, false)?;
         self.text.extend(body.as_slice())?;
         Ok(Acted {
             first: HandList::new(alloc),
@@ -65,7 +65,7 @@ impl UserSide {
             body: text,
         };
         let mut done = Acted::giving(alloc, self.output_to(tell))?;
-        done.then = self.taken(alloc, 1, false)?;
+        done.then = taken(alloc, 1, false)?;
         self.text = Octets::new(alloc);
         Ok(done)
     }

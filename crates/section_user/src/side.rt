@@ -1,8 +1,8 @@
 //! A user's end.
-ghost use Rattle.std.specs.Prelude.{◌≡◌, ◌++◌, [], IfOk, OnErr};
+ghost use Rattle.std.specs.Prelude.{◌≡◌, IfOk, OnErr};
 ghost use Rattle.relay_base.specs.declared.words.Output.TheVariants.{Told};
 ghost use Rattle.section_model.specs.UserEnd.{taken};
-ghost use Rattle.section_user.specs.Side.{ActsAs, user_of, user_acts, user_hears_event};
+ghost use Rattle.section_user.specs.Side.{ActsAs, user_acts, user_hears_event};
 ghost use Rattle.section_model.specs.Lengths.{ActedWithin};
 ghost use Rattle.section_user.specs.Lengths.{IsInputInRange};
 
@@ -20,6 +20,15 @@ pub struct UserSide {
     pub class: u8,
     pub credit: u8,
     pub text: Octets,
+}
+
+/// That what the user took has left.
+pub(crate) fn taken(alloc: Global, units: u8, expedited: bool) -> Result<HandList, Memory>
+    ensures { IfOk result (λ hands. hands ≡ taken units expedited) }
+{
+    let mut hands = HandList::new(alloc);
+    hands.push(Hand::Left { units, expedited })?;
+    Ok(hands)
 }
 
 impl UserSide {
@@ -58,22 +67,6 @@ impl UserSide {
             ssn: self.ssn,
             tell,
         }
-    }
-
-    /// In class 3, that what the user took has left.
-    pub(crate) fn taken(
-        &self,
-        alloc: Global,
-        units: u8,
-        expedited: bool,
-    ) -> Result<HandList, Memory>
-        ensures { IfOk result (λ hands. hands ≡ taken (user_of self.now [] 0) units expedited) }
-    {
-        let mut hands = HandList::new(alloc);
-        if self.class == 3 {
-            hands.push(Hand::Left { units, expedited })?;
-        }
-        Ok(hands)
     }
 
     /// An equal end.

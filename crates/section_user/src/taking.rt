@@ -3,7 +3,7 @@ ghost use Rattle.std.specs.Prelude.{◌≡◌, IfOk, OnErr};
 ghost use Rattle.section_model.specs.UserEnd.{tells_confirm, tells_disconnect, tells_expedited, tells_reset, user_takes, tells_reset_done};
 ghost use Rattle.section_user.specs.Side.{ActsAs};
 
-use crate::side::UserSide;
+use crate::side::{UserSide, taken};
 use crate::units::{boxed_if_any, copied};
 use relay_base::{Memory, Octets, Tell};
 use section_model::{Acted, Cell, Hand, UserState};
@@ -72,7 +72,7 @@ impl UserSide {
             body: copied(alloc, body)?,
         };
         let mut done = Acted::giving(alloc, self.output_to(tell))?;
-        done.then = self.taken(alloc, 0, true)?;
+        done.then = taken(alloc, 0, true)?;
         Ok(done)
     }
 

@@ -1,5 +1,6 @@
 -- An act of a section: by its windows where the cell is one of class 3, else by its line.
-use Rattle.std.specs.Prelude.{◌≡◌, ◌&&◌, not, false, if◌then◌else◌}
+use Rattle.std.specs.Prelude.{◌≡◌, ◌&&◌, not, Bool, false, [], if◌then◌else◌}
+use Rattle.section_model.specs.declared.hand.Came.{Came}
 use Rattle.section_model.specs.declared.cell.Cell.{Cell}
 use Rattle.section_model.specs.Views.{section_of}
 use Rattle.section_model.specs.declared.cell.Cell.TheVariants as cell
@@ -20,10 +21,18 @@ untimed_acts c i x = if in_windows c x then by_windows (windows_act c i) x else 
 abbrev pub section_acts : Ticks → Cell → Input → Section → End × Acted
 section_acts ticks c i x = timed ticks x (untimed_acts c i x)
 
+-- a section is set up by an act that comes from this state
+abbrev pub is_set_up : SectionState → WireHead → Bool
+is_set_up old head = is_up (section_of head).state && not (is_connected old)
+
 -- the windows after an act of the line: where the section is set up they begin, with the credit that was agreed on
 abbrev pub windows_begun : SectionState → WireHead → WindowsState → WindowsState
 windows_begun old head windows =
-    if is_up (section_of head).state && not (is_connected old) then record { agreed = head.credit; windows = cleared head.credit } else windows
+    if is_set_up old head then record { agreed = head.credit; windows = cleared head.credit } else windows
+
+-- and what came in, by the line
+abbrev pub came_begun : SectionState → WireHead → Came → Came
+came_begun old head came = if is_set_up old head then record { got = []; passed = 0 } else came
 
 -- a section is set up where it isn't yet
 abbrev pub SetsUpOnce : Cell → SectionState → Type 0

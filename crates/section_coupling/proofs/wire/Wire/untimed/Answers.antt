@@ -1,4 +1,6 @@
-use Rattle.std.proofs.Common.{sym, ◌∙◌}
+use Rattle.std.proofs.Common.{◌==◌, sym, ◌∙◌}
+use Rattle.std.proofs.lemmas.Bool.{and_parts, eqb-true}
+use Rattle.section_model.specs.Acting.{is_by_class}
 use Rattle.section_coupling.specs.Views.{section_at}
 use Rattle.section_coupling.proofs.Composed.{if-ok}
 use Rattle.section_coupling.proofs.Arriving.{acts-windowed, acts-lined}
@@ -11,3 +13,10 @@ returns-then-in_windows-clause-acts c =
 pub returns-else-in_windows-clause-acts : goal.returns-else-in_windows-clause-acts
 returns-else-in_windows-clause-acts c =
     if-ok c.by_line.result (λ r e now. acts-lined c.args.cell c.args.input.now (section_at now c.args.self) (sym (c.in_windows.ensures now) ∙ c.if-in_windows.false) ∙ e now) c.by_line.ensures.acts
+
+pub by_windows-requires-clause-class : goal.by_windows-requires-clause-class
+by_windows-requires-clause-class c =
+    eqb-true c.args.self.head.class 3 (and_parts (is_by_class c.args.cell) (c.args.self.head.class == 3) (sym (c.in_windows.ensures 0) ∙ c.if-in_windows.true)).1
+
+pub by_line-requires-clause-class : goal.by_line-requires-clause-class
+by_line-requires-clause-class c = sym (c.in_windows.ensures 0) ∙ c.if-in_windows.false
