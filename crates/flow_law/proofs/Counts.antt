@@ -7,7 +7,7 @@ use Rattle.section_model.specs.declared.hand.Hand.{Hand}
 use Rattle.section_model.specs.declared.hand.Hand.TheVariants as hand
 use Rattle.section_model.specs.declared.hand.Acted.{Acted}
 use Rattle.section_model.specs.Parameters.{Parameters}
-use Rattle.section_model.specs.Windowed.{Windowed, windowed_hears, windowed_fires, windowed_takes, leaves, acknowledges, resets, is_next, is_used_up, wrong_number, accepts_unit, takes_data, takes_acknowledgement, takes_expedited, sends_expedited, takes_answer, queues_unit, passes_expedited, passes_reset, counts_left, is_valid, may_leave}
+use Rattle.section_model.specs.Windowed.{Windowed, windowed_hears, windowed_fires, windowed_takes, leaves, acknowledges, resets, is_next, is_used_up, wrong_number, accepts_unit, takes_data, takes_acknowledgement, takes_expedited, sends_expedited, takes_answer, queues_unit, passes_expedited, passes_reset, HasCome, counts_left, is_valid, may_leave}
 use Rattle.flow_law.specs.FlowLaw.{WindowsAreKept, ActsKeep}
 use Rattle.flow_law.proofs.Taking.{cleared_in}
 use Rattle.flow_law.proofs.Flowing.{either}
@@ -79,24 +79,23 @@ unfolding KeptBy
 passes_reset_kept (hand.Reset cause) x k = resets_kept cause x k
 passes_reset_kept _ x k = k
 
--- no more left than came, whatever the other end says
-no_more_left : (told passed units came : ℕ) → told ≤ passed → passed ≤ came → (told ≤ min (passed + units) came) × (min (passed + units) came ≤ came)
-no_more_left told passed units came a b = (omega (arith, a, b), omega arith)
+more_left : (told passed units came : ℕ) → told ≤ passed → passed ≤ came → units ≤ came - passed → (told ≤ passed + units) × (passed + units ≤ came)
+more_left told passed units came a b few = (omega (arith, a), omega (arith, b, few))
 
-left_kept : (h : Hand) (x : Windowed) → WindowsAreKept x → KeptBy (counts_left h x)
+left_kept : (h : Hand) (x : Windowed) → HasCome h x.windows → WindowsAreKept x → KeptBy (counts_left h x)
 unfolding KeptBy
-left_kept (hand.Left units false) x k = let n = no_more_left x.windows.told x.windows.passed units (length x.windows.got) k.1.0 k.1.1 in (k.0, (n.0, n.1, k.1.2), k.2)
-left_kept (hand.Left units true) x k = let n = no_more_left x.windows.told x.windows.passed units (length x.windows.got) k.1.0 k.1.1 in (k.0, (n.0, n.1, k.1.2), k.2)
-left_kept _ x k = k
+left_kept (hand.Left units false) x few k = let n = more_left x.windows.told x.windows.passed units (length x.windows.got) k.1.0 k.1.1 few in (k.0, (n.0, n.1, k.1.2), k.2)
+left_kept (hand.Left units true) x few k = let n = more_left x.windows.told x.windows.passed units (length x.windows.got) k.1.0 k.1.1 few in (k.0, (n.0, n.1, k.1.2), k.2)
+left_kept _ x few k = k
 
-takes_kept : (c : Cell) (h : Hand) (x : Windowed) → WindowsAreKept x → KeptBy (windowed_takes c h x)
+takes_kept : (c : Cell) (h : Hand) (x : Windowed) → HasCome h x.windows → WindowsAreKept x → KeptBy (windowed_takes c h x)
 unfolding windowed_takes KeptBy
-takes_kept cell.PassUnit h x k = passes_kept h x k
-takes_kept cell.PassExpedited h x k = passes_expedited_kept h x k
-takes_kept cell.PassReset h x k = passes_reset_kept h x k
-takes_kept cell.ClearCounts h x k = resets_kept 0 x k
-takes_kept cell.Left h x k = left_kept h x k
-takes_kept _ h x k = k
+takes_kept cell.PassUnit h x few k = passes_kept h x k
+takes_kept cell.PassExpedited h x few k = passes_expedited_kept h x k
+takes_kept cell.PassReset h x few k = passes_reset_kept h x k
+takes_kept cell.ClearCounts h x few k = resets_kept 0 x k
+takes_kept cell.Left h x few k = left_kept h x few k
+takes_kept _ h x few k = k
 
 leaves_kept : (x : Windowed) → WindowsAreKept x → KeptBy (leaves x)
 unfolding leaves KeptBy

@@ -85,10 +85,7 @@ takes_left n ticks units true (wire y) giver k =
       k.1,
       k.2,
       (tt, k.3),
-      λ three. let f = k.5 three in
-          let e : min (y.windows.passed + units) (length y.windows.got) ≡ y.windows.passed + units = omega (arith, f.3) in
-          let told : y.windows.told ≤ min (y.windows.passed + units) (length y.windows.got) = omega (arith, e, f.1.0.0) in
-          (f.0, ((told, omega arith, f.1.0.2), f.1.1, f.1.2), left_passed giver _ _ y.windows.got e f.2),
+      λ three. let f = k.5 three in (f.0, ((omega (arith, f.1.0.0), f.3, f.1.0.2), f.1.1, f.1.2), f.2),
       λ two. absurd (three_is_not_two y.head.class is_three two),
     ))
     (λ other. subst (Ends n ticks y giver) (sym (line_counts units true y)) (k.0, k.1, k.2, (tt, k.3), λ three. absurd (eqb-false _ _ other three), k.6))
@@ -99,10 +96,7 @@ takes_left n ticks units false (wire y) giver k =
       k.1,
       k.2,
       (tt, k.3),
-      λ three. let f = k.5 three in
-          let e : min (y.windows.passed + units) (length y.windows.got) ≡ y.windows.passed + units = omega (arith, f.3) in
-          let told : y.windows.told ≤ min (y.windows.passed + units) (length y.windows.got) = omega (arith, e, f.1.0.0) in
-          (f.0, ((told, omega arith, f.1.0.2), f.1.1, f.1.2), left_passed giver _ _ y.windows.got e f.2),
+      λ three. let f = k.5 three in (f.0, ((omega (arith, f.1.0.0), f.3, f.1.0.2), f.1.1, f.1.2), f.2),
       λ two. absurd (three_is_not_two y.head.class is_three two),
     ))
     (λ other. subst (Ends n ticks y giver) (sym (line_counts units false y)) (k.0, k.1, k.2, (tt, k.3), λ three. absurd (eqb-false _ _ other three), k.6))

@@ -100,7 +100,7 @@ LeavesNone e hands = IsNumbered e → (sent_at e ≡ 0) ⊎ NoneLeft hands
 pub Exchanges : ℕ → Ticks → Type 0
 Exchanges n ticks = (acting : End × Acted) (that : End) → LeavesNone acting.0 (hands_of acting.1) → Goes (both acting.0 that) (exchange n ticks acting that).0
 
-offered_goes : (n : ℕ) (ticks : Ticks) → Exchanges n ticks → (r : Connection × List Output) (h : Hand) → (IsNumbered r.0.this → (sent_at r.0.this ≡ 0) ⊎ NoUnits h) → Goes r.0 (other_takes (exchange n ticks) ticks r h).0
+pub offered_goes : (n : ℕ) (ticks : Ticks) → Exchanges n ticks → (r : Connection × List Output) (h : Hand) → (IsNumbered r.0.this → (sent_at r.0.this ≡ 0) ⊎ NoUnits h) → Goes r.0 (other_takes (exchange n ticks) ticks r h).0
 unfolding Exchanges TakesFine
 offered_goes n ticks goes r h none =
     let taken = end_takes ticks h r.0.that in

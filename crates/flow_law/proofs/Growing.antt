@@ -48,11 +48,6 @@ more_grows passed got more = λ within. (rw (length-append got more) (omega (ari
 no_more_grows : (passed : ℕ) (got : List DataUnit) (units : ℕ) → units ≡ 0 → GrowsBy passed got (passed + units) got
 no_more_grows passed got units none = rw (none, add-zero passed) (same_grows passed got)
 
-least_grows : (passed : ℕ) (got : List DataUnit) (units : ℕ) → units ≡ 0 → GrowsBy passed got (min (passed + units) (length got)) got
-least_grows passed got units none = λ within.
-    let e : min (passed + units) (length got) ≡ passed = omega (arith, none, within) in
-    rw e (same_grows passed got within)
-
 pub then_grows : (p q r : ℕ) (a b c : List DataUnit) → GrowsBy p a q b → GrowsBy q b r c → GrowsBy p a r c
 then_grows p q r a b c f g = λ within. let one = f within in let two = g one.0 in (two.0, joined one.1 two.1)
   where
@@ -131,8 +126,8 @@ passes_reset_grow _ x = (λ _. same_grows x.windows.passed x.windows.got, tt, in
 
 left_grows : (h : Hand) (x : Windowed) → WindowsTake h x (counts_left h x)
 unfolding WindowsTake NoneLeft NoUnits
-left_grows (hand.Left units true) x = (λ none. least_grows x.windows.passed x.windows.got units none, tt, inr (refl, refl))
-left_grows (hand.Left units false) x = (λ none. least_grows x.windows.passed x.windows.got units none, tt, inr (refl, refl))
+left_grows (hand.Left units true) x = (λ none. no_more_grows x.windows.passed x.windows.got units none, tt, inr (refl, refl))
+left_grows (hand.Left units false) x = (λ none. no_more_grows x.windows.passed x.windows.got units none, tt, inr (refl, refl))
 left_grows _ x = (λ _. same_grows x.windows.passed x.windows.got, tt, inr (refl, refl))
 
 windows_take : (c : Cell) (h : Hand) (x : Windowed) → WindowsTake h x (windowed_takes c h x)

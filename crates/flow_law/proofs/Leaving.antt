@@ -103,7 +103,7 @@ leaves_kept ticks x that o is_three k =
       k.5,
     ))
 
-acknowledges_kept : (ticks : Ticks) (x : Section) (that : End) → AreInStep (wire x) that → ActsWindowed ticks x that (acknowledges (record { head = x.head; windows = x.windows }))
+pub acknowledges_kept : (ticks : Ticks) (x : Section) (that : End) → AreInStep (wire x) that → ActsWindowed ticks x that (acknowledges (record { head = x.head; windows = x.windows }))
 unfolding ActsWindowed acknowledges
 acknowledges_kept ticks x that k =
     either (ActsWindowed ticks x that) (x.windows.passed == x.windows.told) _ _ (λ _. acts_alone ticks x x that [] k)

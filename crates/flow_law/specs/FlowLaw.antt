@@ -29,7 +29,7 @@ use Rattle.section_model.specs.declared.hand.Unit.{Unit as DataUnit}
 use Rattle.section_model.specs.Parameters.{Parameters}
 use Rattle.section_model.specs.Ends.{End, wire, owner, SectionHead, Section, Connection, no_effect, gives, is_up}
 use Rattle.section_model.specs.Line.{sent_on}
-use Rattle.section_model.specs.Windowed.{Windowed, windowed_hears, windowed_fires, windowed_takes, numbered, may_leave, leaves, acknowledges}
+use Rattle.section_model.specs.Windowed.{Windowed, windowed_hears, windowed_fires, windowed_takes, HasCome, numbered, may_leave, leaves, acknowledges}
 use Rattle.section_model.specs.Step.{connection_step}
 use Rattle.section_model.specs.Opening.{wish_of, opened}
 use Rattle.section_model.specs.Lane.{heard, follow}
@@ -65,15 +65,15 @@ OpeningKeeps =
 abbrev pub StepKeeps : Type 0
 StepKeeps = (ticks : Ticks) (c : Connection) (event : Event) → IsInStep c → IsInStep (connection_step ticks c event).0
 
--- What a section keeps alone at each act, whatever the other end does: a message, a timer, an effect of the other end, and the two parts
--- of what follows each event.
+-- What a section keeps alone at each act, whatever the other end does: a message, a timer, an effect of the other end, by which no more left
+-- than came, and the two parts of what follows each event.
 abbrev pub WindowsAreKept : Windowed → Type 0
 WindowsAreKept x = (x.head.credit ≤ GREATEST_CREDIT) × InCredit x.head.credit x.windows × InWindow x.windows
 
 pub record ActsKeep : Type 0 where
   pub hears : (c : Cell) (m : Parameters) (x : Windowed) → WindowsAreKept x → WindowsAreKept (windowed_hears c m x).0
   pub fires : (x : Windowed) → WindowsAreKept x → WindowsAreKept (windowed_fires x).0
-  pub takes : (c : Cell) (h : Hand) (x : Windowed) → WindowsAreKept x → WindowsAreKept (windowed_takes c h x).0
+  pub takes : (c : Cell) (h : Hand) (x : Windowed) → HasCome h x.windows → WindowsAreKept x → WindowsAreKept (windowed_takes c h x).0
   pub leaves : (x : Windowed) → WindowsAreKept x → WindowsAreKept (leaves x).0
   pub acknowledges : (x : Windowed) → WindowsAreKept x → WindowsAreKept (acknowledges x).0
 

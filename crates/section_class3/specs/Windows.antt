@@ -12,7 +12,7 @@ use Rattle.relay_base.specs.declared.words.Event.TheVariants.{Message as Arrived
 use Rattle.section_model.specs.declared.hand.Acted.{Acted}
 use Rattle.section_model.specs.Ends.{Windows as SectionWindows, no_effect}
 use Rattle.section_model.specs.Parameters.{Arrival, arrival_in}
-use Rattle.section_model.specs.Windowed.{Windowed, windowed_hears, windowed_fires, windowed_takes, leaves, acknowledges}
+use Rattle.section_model.specs.Windowed.{Windowed, HasCome, windowed_hears, windowed_fires, windowed_takes, leaves, acknowledges}
 use Rattle.section_flow.specs.declared.counts.Counts.{Counts}
 use Rattle.section_flow.specs.Flow.{FlowState, windows_of}
 
@@ -48,6 +48,11 @@ IsEd _ = Unit {0}
 abbrev pub TakesItsData : Cell → Input → Type 0
 TakesItsData c (input.Event event) = (c ≡ cell.TakeNumberedData → IsDt2 event.now) × (c ≡ cell.TakeExpedited → IsEd event.now)
 TakesItsData c _ = Unit {0}
+
+-- what an effect of the other end says to have left had come in
+abbrev pub InputHasCome : Input → SectionWindows → Type 0
+InputHasCome (input.Hand h) w = HasCome h.now w
+InputHasCome _ w = Unit {0}
 
 -- What a section does in class 3 alone upon an input, by the cell that the table has for it.
 

@@ -1,7 +1,7 @@
 //! What a section does upon an effect of the other end, in class 3.
 ghost use Rattle.std.specs.Prelude.{◌≡◌, Some, IfOk, OnErr};
 ghost use Rattle.section_model.specs.Lengths.{HandWithin, IsExpeditedData};
-ghost use Rattle.section_model.specs.Windowed.{windowed_takes, sends_expedited, queues_unit, passes_expedited, passes_reset, counts_left};
+ghost use Rattle.section_model.specs.Windowed.{windowed_takes, sends_expedited, queues_unit, passes_expedited, passes_reset, HasCome, counts_left};
 ghost use Rattle.section_class3.specs.Windows.{windowed_of};
 
 use crate::sending::{expedited, expedited_acknowledgement, reset_request};
@@ -97,6 +97,7 @@ impl Windows {
 
     /// Units that came in here left on the other end; EA, where expedited data did.
     fn count_left(&mut self, alloc: Global, wire: &WireHead, hand: &Hand) -> Result<Acted, Memory>
+        requires left { HasCome hand.now self.old.windows }
         ensures ok { IfOk result (λ done. counts_left hand.now (windowed_of wire.now self.old) ≡
             (windowed_of wire.now self.new, done)) }
         ensures err { OnErr result (self.new ≡ self.old) }
@@ -126,6 +127,7 @@ impl Windows {
     ) -> Result<Acted, Memory>
         requires agreed { self.old.agreed ≡ wire.old.credit }
         requires hand { HandWithin hand.now }
+        requires left { HasCome hand.now self.old.windows }
         ensures ok { IfOk result (λ done.
             windowed_takes cell hand.now (windowed_of wire.old self.old) ≡
             (windowed_of wire.new self.new, done)) }

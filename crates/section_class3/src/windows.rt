@@ -5,7 +5,7 @@ ghost use Rattle.section_model.specs.Lengths.{ActedWithin, InputWithin, WindowsW
 ghost use Rattle.section_model.specs.Windowed.{windowed_fires};
 ghost use Rattle.relay_base.specs.declared.limits.TheConstants.{GREATEST_CREDIT};
 ghost use Rattle.section_flow.specs.Held.{IsWithinWindows};
-ghost use Rattle.section_class3.specs.Windows.{windowed_of, counts_of, TakesItsData, windows_act};
+ghost use Rattle.section_class3.specs.Windows.{windowed_of, counts_of, InputHasCome, TakesItsData, windows_act};
 
 use crate::sending::test;
 use relay_base::{Memory, Octets};
@@ -53,7 +53,8 @@ impl Windows {
     /// those of windows, and those upon another kind of input, have no effect. After `Memory` the section is as before.
     ///
     /// The units and the expedited data that wait, and those of a hand that comes in, have the lengths of Q.713, and so have those
-    /// that it answers and keeps; where data are taken, the message is the one that carries them.
+    /// that it answers and keeps; where data are taken, the message is the one that carries them. A hand that tells how many units left
+    /// names no more than came in here and have not left.
     pub fn act(
         &mut self,
         alloc: Global,
@@ -64,6 +65,7 @@ impl Windows {
         requires agreed { self.old.agreed ≡ wire.old.credit }
         requires waits { WindowsWithin self.old.windows }
         requires input { InputWithin input.now }
+        requires left { InputHasCome input.now self.old.windows }
         ensures ok { IfOk result (λ done.
             windows_act cell input.now (windowed_of wire.old self.old) ≡
             (windowed_of wire.new self.new, done)) }

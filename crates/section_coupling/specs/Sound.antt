@@ -1,5 +1,5 @@
 -- What holds of a connection at all times: what is kept, waits and is handed over has the lengths of Q.713, and each credit has its range.
-use Rattle.std.specs.Prelude.{◌≡◌, ℕ, ◌≤◌, List, [], ◌∷◌}
+use Rattle.std.specs.Prelude.{◌≡◌, ℕ, ◌≤◌, false, List, [], ◌∷◌}
 use Rattle.section_model.specs.declared.hand.Hand.{Hand}
 use Rattle.section_model.specs.declared.hand.Hand.TheVariants as hand
 use Rattle.section_model.specs.declared.hand.Acted.{Acted}
@@ -7,7 +7,8 @@ use Rattle.section_model.specs.declared.input.Input.{Input}
 use Rattle.section_model.specs.declared.input.Input.TheVariants as input
 use Rattle.relay_base.specs.declared.limits.TheConstants.{GREATEST_CREDIT}
 use Rattle.section_model.specs.declared.hand.Came.{Came}
-use Rattle.section_model.specs.Ends.{Windows as SectionWindows}
+use Rattle.section_model.specs.Ends.{Windows as SectionWindows, End, wire, owner}
+use Rattle.section_model.specs.Windowed.{HasCome}
 use Rattle.section_model.specs.Lengths.{HandsWithin, InputWithin, KeptWithin, WindowsWithin}
 use Rattle.section_coupling.specs.declared.wire.Wire.{Wire}
 use Rattle.section_coupling.specs.declared.owner.Owner.{Owner}
@@ -31,6 +32,36 @@ AreGranted (h ∷ hands) = IsGranted h × AreGranted hands
 -- what is handed over
 abbrev pub SoundHands : List Hand → Type 0
 SoundHands hands = AreGranted hands × HandsWithin hands
+
+-- Of the units that an effect says to have left: they had come in at the end that takes it, and had not left before. In class 2 only clauses
+-- count them, and at a user's end.
+abbrev pub HasComeAt : Hand → End → Type 0
+HasComeAt h (wire x) = x.head.class ≡ 3 → HasCome h x.windows
+HasComeAt h (owner u) = Unit {0}
+
+-- a unit that an end hands over may be said to have left
+abbrev pub MayLeave : Hand → End → Type 0
+MayLeave (hand.Unit more body) e = HasComeAt (hand.Left 1 false) e
+MayLeave _ e = Unit {0}
+
+-- no unit is said to have left
+abbrev pub LeavesNone : Hand → Type 0
+LeavesNone (hand.Left units expedited) = units ≡ 0
+LeavesNone _ = Unit {0}
+
+abbrev pub LeaveNone : List Hand → Type 0
+LeaveNone [] = Unit {0}
+LeaveNone (h ∷ hands) = LeavesNone h × LeaveNone hands
+
+-- a section hands over one effect at a time
+abbrev pub IsAlone : End → List Hand → Type 0
+IsAlone (wire x) hands = hands ≡ []
+IsAlone (owner u) hands = Unit {0}
+
+-- what one end hands to the other: the units that leave by it had come in there, and those that go on by it here
+abbrev pub AreOfWhatCame : End → List Hand → End → Type 0
+AreOfWhatCame this [] that = Unit {0}
+AreOfWhatCame this (h ∷ hands) that = HasComeAt h that × MayLeave h this × IsAlone this hands × LeaveNone hands
 
 abbrev pub SoundActed : Acted → Type 0
 SoundActed acted = SoundHands acted.first × SoundHands acted.then

@@ -2,7 +2,8 @@
 ghost use Rattle.std.specs.Prelude.{IfOk, fold};
 ghost use Rattle.section_model.specs.Coupling.{exchange, other_takes, settles};
 ghost use Rattle.section_coupling.specs.Views.{connection_by, end_by, IsStep};
-ghost use Rattle.section_coupling.specs.Sound.{SoundActed, SoundPair, SoundSide, SoundHands};
+ghost use Rattle.section_coupling.specs.Sound.{SoundActed, SoundPair, SoundSide, SoundHands, AreOfWhatCame};
+ghost use Rattle.section_model.specs.Laws.{hands_of};
 
 use crate::clock::Clock;
 use crate::pair::Pair;
@@ -24,6 +25,8 @@ fn offer(
 ) -> Result<(Pair, Outs), Memory>
     requires pair { SoundPair pair }
     requires hands { SoundHands hands.now }
+    requires left { AreOfWhatCame (end_by clock.now pair.this) hands.now
+        (end_by clock.now pair.that) }
     ensures offered { let next = exchange turns clock.now.ticks in IfOk result (IsStep clock.now
         (fold (other_takes next clock.now.ticks) (connection_by clock.now pair, outs) hands.now)) }
     ensures sound { IfOk result (λ r. SoundPair r.0) }
@@ -54,6 +57,8 @@ fn exchange(
     requires this { SoundSide this }
     requires acted { SoundActed acted }
     requires that { SoundSide that }
+    requires left { AreOfWhatCame (end_by clock.now this) (hands_of acted)
+        (end_by clock.now that) }
     ensures exchanged { IfOk result (IsStep clock.now
         (exchange turns clock.now.ticks (end_by clock.now this, acted) (end_by clock.now that))) }
     ensures sound { IfOk result (λ r. SoundPair r.0) }
@@ -81,6 +86,8 @@ pub fn settle(
     requires this { SoundSide this }
     requires acted { SoundActed acted }
     requires that { SoundSide that }
+    requires left { AreOfWhatCame (end_by clock.now this) (hands_of acted)
+        (end_by clock.now that) }
     ensures settled { IfOk result (IsStep clock.now
         (settles clock.now.ticks (end_by clock.now this, acted) (end_by clock.now that))) }
     ensures sound { IfOk result (λ r. SoundPair r.0) }

@@ -6,6 +6,7 @@ ghost use Rattle.section_class3.specs.Windows.{windows_turn};
 ghost use Rattle.section_model.specs.Views.{section_of};
 ghost use Rattle.section_model.specs.Coupling.{and_then};
 ghost use Rattle.section_model.specs.Step.{on_windows, on_each, after_event};
+ghost use Rattle.flow_law.specs.InStep.{AreInStep, IsInStep};
 ghost use Rattle.section_coupling.specs.Views.{section_by, end_by, connection_by, IsStep};
 ghost use Rattle.section_coupling.specs.Sound.{SoundWire, SoundSide, SoundPair};
 
@@ -35,6 +36,7 @@ fn on_section(
 ) -> Result<(Pair, Outs), Memory>
     requires section { SoundWire wire }
     requires that { SoundSide that }
+    requires steps { AreInStep (end (section_by clock.now wire)) (end_by clock.now that) }
     ensures follows { let this = end (section_by clock.now wire) in
         let part = on_windows clock.now.ticks (windows_turn cell) in
         IfOk result (IsStep clock.now (part this (end_by clock.now that))) }
@@ -51,10 +53,12 @@ fn on_section(
 /// A part of it on this end.
 fn on_this(alloc: Global, clock: &Clock, cell: Cell, pair: Pair) -> Result<(Pair, Outs), Memory>
     requires pair { SoundPair pair }
+    requires steps { IsInStep (connection_by clock.now pair) }
     ensures follows { let part = on_windows clock.now.ticks (windows_turn cell) in
         IfOk result (IsStep clock.now
         (part (end_by clock.now pair.this) (end_by clock.now pair.that))) }
     ensures sound { IfOk result (λ r. SoundPair r.0) }
+    ensures steps { IfOk result (λ r. IsInStep (connection_by clock.now r.0)) }
 {
     let Pair { this, that } = pair;
     match this {
@@ -72,10 +76,12 @@ fn then_on_this(
     outs: Outs,
 ) -> Result<(Pair, Outs), Memory>
     requires pair { SoundPair pair }
+    requires steps { IsInStep (connection_by clock.now pair) }
     ensures follows { let part = on_windows clock.now.ticks (windows_turn cell) in
         IfOk result (IsStep clock.now
         (and_then (λ c. part c.this c.that) (connection_by clock.now pair, outs))) }
     ensures sound { IfOk result (λ r. SoundPair r.0) }
+    ensures steps { IfOk result (λ r. IsInStep (connection_by clock.now r.0)) }
 {
     let mut outs = outs;
     let (pair, more) = on_this(alloc, clock, cell, pair)?;
@@ -92,9 +98,11 @@ fn on_each(
     outs: Outs,
 ) -> Result<(Pair, Outs), Memory>
     requires pair { SoundPair pair }
+    requires steps { IsInStep (connection_by clock.now pair) }
     ensures follows { let part = on_windows clock.now.ticks (windows_turn cell) in
         IfOk result (IsStep clock.now (on_each part (connection_by clock.now pair, outs))) }
     ensures sound { IfOk result (λ r. SoundPair r.0) }
+    ensures steps { IfOk result (λ r. IsInStep (connection_by clock.now r.0)) }
 {
     let (pair, outs) = then_on_this(alloc, clock, cell, pair, outs)?;
     let (pair, outs) = then_on_this(alloc, clock, cell, pair.turned(), outs)?;
@@ -105,6 +113,7 @@ fn on_each(
 #[tactic(auto, unfolding(section_model::specs::Step::after_event))]
 pub fn follow(alloc: Global, clock: &Clock, pair: Pair, outs: Outs) -> Result<(Pair, Outs), Memory>
     requires pair { SoundPair pair }
+    requires steps { IsInStep (connection_by clock.now pair) }
     ensures follows { IfOk result (IsStep clock.now
         (after_event clock.now.ticks (connection_by clock.now pair, outs))) }
     ensures sound { IfOk result (λ r. SoundPair r.0) }

@@ -202,6 +202,7 @@ fn hear_on(
     if is_from_elsewhere(coming.point, &wire.head) {
         return lost_from_elsewhere(alloc, Side::Wire(wire), that);
     }
+    wire.windows.keeps_windows();
     let (wire, acted) = wire.in_touch(clock).hear(alloc, clock, coming)?;
     settle(alloc, clock, Side::Wire(wire), acted, that)
 }

@@ -3,6 +3,7 @@ ghost use Rattle.std.specs.Prelude.{◌≡◌, ◌<◌, ℕ, Some, IfOk};
 ghost use Rattle.section_model.specs.Ends.{Connection, turned};
 ghost use Rattle.section_model.specs.Step.{names};
 ghost use Rattle.section_coupling.specs.Duos.{end_named, end_numbered};
+ghost use Rattle.flow_law.specs.InStep.{IsInStep};
 ghost use Rattle.section_coupling.specs.Views.{connection_at};
 ghost use Rattle.section_coupling.specs.Sound.{SoundPair};
 
@@ -42,6 +43,7 @@ impl Pair {
     pub fn turned(self) -> Pair
         ensures value { (now : ℕ) → connection_at now result ≡ turned (connection_at now self) }
         ensures sound { SoundPair self → SoundPair result }
+        ensures steps { (now : ℕ) → IsInStep (connection_at now self) → IsInStep (connection_at now result) }
     {
         Pair {
             this: self.that,

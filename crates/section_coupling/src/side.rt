@@ -2,12 +2,12 @@
 ghost use Rattle.std.specs.Prelude.{◌≡◌, ◌≤◌, IfOk, ℕ};
 ghost use Rattle.section_model.specs.Acting.{end_takes, section_takes, section_takes_by, user_takes_by};
 ghost use Rattle.section_model.specs.Views.{section_of};
-ghost use Rattle.section_model.specs.Ends.{owner};
+ghost use Rattle.section_model.specs.Ends.{wire as section, owner};
 ghost use Rattle.section_model.specs.UserEnd.{user_takes};
 ghost use Rattle.section_model.specs.Lane.{reference_of};
 ghost use Rattle.section_model.specs.Step.{end_is_gone, is_named};
 ghost use Rattle.section_coupling.specs.Views.{end_at, end_by, section_by, user_at, IsEndAct};
-ghost use Rattle.section_coupling.specs.Sound.{SoundSide, SoundWire, SoundOwner, IsGranted, SoundActed};
+ghost use Rattle.section_coupling.specs.Sound.{SoundSide, SoundWire, SoundOwner, IsGranted, SoundActed, HasComeAt};
 ghost use Rattle.section_model.specs.Lengths.{HandWithin};
 
 use crate::clock::Clock;
@@ -70,6 +70,7 @@ fn wire_takes(
     requires section { SoundWire wire }
     requires granted { IsGranted hand.now }
     requires within { HandWithin hand.now }
+    requires left { HasComeAt hand.now (section (section_by clock.now wire)) }
     ensures takes { let cell = section_takes_by (section_of wire.head).state hand.now in
         IfOk result (IsEndAct clock.now
         (section_takes clock.now.ticks cell hand.now (section_by clock.now wire))) }
@@ -102,6 +103,7 @@ impl Side {
         requires end { SoundSide self }
         requires granted { IsGranted hand.now }
         requires within { HandWithin hand.now }
+        requires left { HasComeAt hand.now (end_by clock.now self) }
         ensures takes { IfOk result (IsEndAct clock.now
             (end_takes clock.now.ticks hand.now (end_by clock.now self))) }
         ensures sound { IfOk result (λ r. SoundSide r.0 × SoundActed r.1) }

@@ -2,7 +2,7 @@
 ghost use Rattle.std.specs.Prelude.{◌≡◌, ◌≤◌, ◌==◌, ◌&&◌, false, ℕ, IfOk};
 ghost use Rattle.std.specs.List.{list_any};
 ghost use Rattle.section_model.specs.Ends.{wire, is_connected};
-ghost use Rattle.section_class3.specs.Windows.{windows_act};
+ghost use Rattle.section_class3.specs.Windows.{InputHasCome, windows_act};
 ghost use Rattle.section_class2.specs.Lines.{line_acts};
 ghost use Rattle.section_model.specs.Views.{section_of};
 ghost use Rattle.section_model.specs.Acting.{is_sent, is_by_class, in_windows, by_line, by_windows, timed};
@@ -152,6 +152,7 @@ impl Wire {
         requires input { SoundInput input.now }
         requires data { TakesData cell input.now }
         requires class { self.head.class ≡ 3 }
+        requires left { InputHasCome input.now self.windows.windows }
         ensures acts { let act = windows_act cell input.now in IfOk result (λ r. (now : ℕ) →
             by_windows act (section_at now self) ≡ (section_at now r.0, r.1)) }
         ensures sound { IfOk result (λ r. SoundWire r.0 × SoundActed r.1) }
@@ -182,6 +183,8 @@ impl Wire {
         requires input { SoundInput input.now }
         requires sets_up { SetsUpOnce cell (section_of self.head).state }
         requires data { TakesData cell input.now }
+        requires left { self.head.class ≡ 3 →
+            InputHasCome input.now self.windows.windows }
         ensures acts { IfOk result (λ r. (now : ℕ) →
             untimed_acts cell input.now (section_at now self) ≡ (section_at now r.0, r.1)) }
         ensures sound { IfOk result (λ r. SoundWire r.0 × SoundActed r.1) }
@@ -220,6 +223,8 @@ impl Wire {
         requires input { SoundInput input.now }
         requires sets_up { SetsUpOnce cell (section_of self.head).state }
         requires data { TakesData cell input.now }
+        requires left { self.head.class ≡ 3 →
+            InputHasCome input.now self.windows.windows }
         ensures acts { IfOk result (IsAct clock.now
             (section_acts clock.now.ticks cell input.now (section_by clock.now self))) }
         ensures sound { IfOk result (λ r. SoundWire r.0 × SoundActed r.1) }

@@ -1,5 +1,5 @@
 -- The flow control of a section (Q.714, 3.5.2): its counts as whole numbers, its credits, and the units that wait.
-use Rattle.std.specs.Prelude.{ℕ, suc, ◌+◌, ◌-◌, ◌%◌, ◌==◌, Bool, false, not, List, [], ◌∷◌, ◌++◌, length, if◌then◌else◌, Option, Some, None, unwrap_or, min}
+use Rattle.std.specs.Prelude.{ℕ, suc, ◌+◌, ◌-◌, ◌%◌, ◌==◌, Bool, false, not, List, [], ◌∷◌, ◌++◌, length, if◌then◌else◌, Option, Some, None, unwrap_or}
 use Rattle.relay_base.specs.declared.causes.TheConstants.{RESET_INCORRECT_FIRST_NUMBER, RESET_INCORRECT_RECEIVE_NUMBER, RESET_INCORRECT_SEND_NUMBER, RESET_OUT_OF_WINDOW}
 use Rattle.section_model.specs.declared.hand.Unit.{Unit as DataUnit}
 use Rattle.section_model.specs.declared.limits.TheConstants.{SEQUENCE_NUMBERS}
@@ -66,9 +66,9 @@ counts_after_acknowledgement pr c = record c { acked = acked_after pr c }
 abbrev pub counts_after_sending : Counts → Counts
 counts_after_sending c = record c { sent = suc c.sent; told = c.passed }
 
--- So many units left on the other end, and no more than came.
+-- So many units left on the other end.
 abbrev pub counts_after_leaving : ℕ → Counts → Counts
-counts_after_leaving units c = record c { passed = min (c.passed + units) (length c.got) }
+counts_after_leaving units c = record c { passed = c.passed + units }
 
 -- P(R) is sent.
 abbrev pub counts_after_telling : Counts → Counts

@@ -285,8 +285,9 @@ impl Flow {
         Some((ps, pr, unit))
     }
 
-    /// So many of the units that came in left on the other end; no more than came are counted.
+    /// So many of the units that came in, and had not left, left on the other end.
     pub fn left(&mut self, units: u8)
+        requires { units ≤ length self.old.counts.got - self.old.counts.passed }
         ensures { self.new ≡
             record self.old { counts = counts_after_leaving units self.old.counts } }
     {
@@ -294,7 +295,7 @@ impl Flow {
             flow: self,
             number: units,
         });
-        self.held.unleft = self.held.unleft.saturating_sub(units);
+        self.held.unleft -= units;
         self.counts = counts;
     }
 

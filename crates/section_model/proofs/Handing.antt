@@ -1,5 +1,5 @@
 -- What an end hands back.
-use Rattle.std.proofs.Common.{◌≡◌, ℕ, zero, suc, ◌==◌, ◌&&◌, not, nat_lt, length, Bool, true, false, List, [], ◌∷◌, ◌++◌, fold, if◌then◌else◌, Some, None, refl, subst, sym, ap, ◌∙◌}
+use Rattle.std.proofs.Common.{◌≡◌, ℕ, zero, suc, ◌&&◌, not, nat_lt, length, Bool, true, false, List, [], ◌∷◌, ◌++◌, fold, if◌then◌else◌, Some, None, refl, subst, sym, ap, ◌∙◌}
 use Rattle.section_model.specs.declared.cell.Cell.{Cell}
 use Rattle.section_model.specs.declared.cell.Cell.TheVariants as cell
 use Rattle.section_model.specs.declared.hand.Hand.{Hand}

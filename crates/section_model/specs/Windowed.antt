@@ -1,5 +1,5 @@
 -- What a connection section does in class 3 alone: numbered data and its windows (Q.714, 3.5.2), expedited data (3.6), and the reset (3.7).
-use Rattle.std.specs.Prelude.{ℕ, suc, ◌+◌, ◌-◌, ◌*◌, ◌%◌, ◌==◌, ◌||◌, ◌&&◌, nat_lt, not, Bool, true, false, List, [], ◌∷◌, ◌++◌, length, take, drop, find, if◌then◌else◌, Option, Some, None, unwrap_or, is_some, min}
+use Rattle.std.specs.Prelude.{ℕ, suc, ◌+◌, ◌-◌, ◌*◌, ◌%◌, ◌≤◌, ◌==◌, ◌||◌, ◌&&◌, nat_lt, not, Bool, true, false, List, [], ◌∷◌, ◌++◌, length, take, drop, find, if◌then◌else◌, Option, Some, None, unwrap_or, is_some, min}
 use Rattle.std.specs.List.{range_with_len}
 use Rattle.relay_base.specs.declared.causes.TheConstants.{RESET_INCORRECT_FIRST_NUMBER, RESET_INCORRECT_RECEIVE_NUMBER, RESET_INCORRECT_SEND_NUMBER, RESET_OUT_OF_WINDOW, RESET_REMOTE_PROCEDURE_ERROR}
 use Rattle.relay_base.specs.declared.words.Output.TheVariants.{Lost as Dropped}
@@ -130,14 +130,16 @@ passes_reset (hand.Reset cause) x = (
 )
 passes_reset _ x = (x, no_effect)
 
--- So many of the units that came in here left on the other end, and no more than came; EA is sent where the expedited data did.
-abbrev pub passed_after : ℕ → Windows → ℕ
-passed_after units w = min (w.passed + units) (length w.got)
+-- What an effect says to have left had come in here, and had not left before.
+abbrev pub HasCome : Hand → Windows → Type 0
+HasCome (hand.Left units expedited) w = units ≤ length w.got - w.passed
+HasCome _ w = Unit {0}
 
+-- So many of the units that came in here left on the other end; EA is sent where the expedited data did.
 abbrev pub counts_left : Hand → Windowed → Windowed × Acted
-counts_left (hand.Left units false) x = (record x { windows = record x.windows { passed = passed_after units x.windows } }, no_effect)
+counts_left (hand.Left units false) x = (record x { windows = record x.windows { passed = x.windows.passed + units } }, no_effect)
 counts_left (hand.Left units true) x = (
-  record x { windows = record x.windows { passed = passed_after units x.windows; owed = false } },
+  record x { windows = record x.windows { passed = x.windows.passed + units; owed = false } },
   gives (sent_on x.head (Ea x.head.other) ∷ []),
 )
 counts_left _ x = (x, no_effect)

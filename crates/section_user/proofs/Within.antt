@@ -1,6 +1,6 @@
 -- The effects of a user's end have the lengths of Q.713.
 use Rattle.std.proofs.Common.{ℕ, suc, ◌+◌, ◌*◌, ◌<◌, ◌≤◌, List, [], ◌∷◌, ◌++◌, length, drop, map, Bool, true, false, refl, arith, sym, subst, get_or, length-take, length-drop}
-use Rattle.std.specs.Prelude.{◌==◌, ◌&&◌, nat_lt, IsTrue, if◌then◌else◌}
+use Rattle.std.specs.Prelude.{◌&&◌, nat_lt, IsTrue, if◌then◌else◌}
 use Rattle.std.specs.List.{range_with_len, All}
 use Rattle.std.proofs.lemmas.Bool.{leb-true, ltb-true}
 use Rattle.std.proofs.lemmas.List.Elements.{All-map, All-from_get_or}
@@ -18,7 +18,7 @@ use Rattle.section_model.specs.declared.input.Input.{Input}
 use Rattle.section_model.specs.declared.input.Input.TheVariants as input
 use Rattle.section_model.specs.Ends.{User}
 use Rattle.section_model.specs.Step.{is_in_range}
-use Rattle.section_model.specs.UserEnd.{given, handed, unit_count, units_of, user_asks, accepts, refuses, sends, expedites, disconnects, user_takes, tells_confirm, tells_disconnect, collects, tells_expedited, tells_reset, user_counts_left, taken, unit_at, overruns, continues, completes}
+use Rattle.section_model.specs.UserEnd.{given, handed, unit_count, units_of, user_asks, accepts, refuses, sends, expedites, disconnects, user_takes, tells_confirm, tells_disconnect, collects, tells_expedited, tells_reset, user_counts_left, unit_at, overruns, continues, completes}
 use Rattle.section_user.specs.declared.side.UserSide.{UserSide}
 use Rattle.section_user.specs.Side.{ActsAs, user_of, user_acts, user_hears_event}
 use Rattle.section_model.specs.Lengths.{IsData, HandWithin, HandsWithin, ActedWithin}

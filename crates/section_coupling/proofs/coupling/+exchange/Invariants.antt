@@ -1,7 +1,7 @@
 use Rattle.std.proofs.Common.{◌≡◌, ◌+◌, ◌*◌, drop, fold}
 use Rattle.section_model.specs.Coupling.{exchange, other_takes}
-use Rattle.section_coupling.specs.Views.{connection_at}
-use Rattle.section_coupling.specs.Sound.{SoundPair, SoundHands}
+use Rattle.section_coupling.specs.Views.{end_at, connection_at}
+use Rattle.section_coupling.specs.Sound.{SoundPair, SoundHands, AreOfWhatCame}
 use Rattle.section_coupling.proofs.coupling.+exchange.Given as goal
 
 abbrev pub decreases-exchange : goal.decreases-exchange
@@ -16,4 +16,5 @@ invariant-offer-loop-hand l = record {
   same : fold (other_takes (exchange l.turns l.clock.ticks) l.clock.ticks) (connection_at l.clock.taken l.pair, l.outs) (drop l.hand-index l.hands) ≡ fold (other_takes (exchange l.turns l.clock.ticks) l.clock.ticks) (connection_at l.clock.taken l.initial.pair, l.initial.outs) l.hands;
   sound : SoundPair l.pair;
   hands : SoundHands (drop l.hand-index l.hands);
+  left : AreOfWhatCame (end_at l.clock.taken l.pair.this) (drop l.hand-index l.hands) (end_at l.clock.taken l.pair.that);
 }

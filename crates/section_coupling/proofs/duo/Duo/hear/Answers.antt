@@ -1,6 +1,12 @@
 use Rattle.std.proofs.Common.{◌∙◌, refl, sym, subst}
 use Rattle.std.specs.Prelude.{IsTrue}
+use Rattle.std.specs.Prelude.{List}
+use Rattle.relay_base.specs.declared.words.Output.{Output}
+use Rattle.section_model.specs.Ends.{Connection}
+use Rattle.flow_law.specs.InStep.{IsInStep}
+use Rattle.flow_law.proofs.Step.{event_kept}
 use Rattle.flow_law.proofs.Following.{flow_kept}
+use Rattle.section_coupling.specs.Views.{connection_at}
 use Rattle.section_model.specs.Step.{hears}
 use Rattle.message_law.specs.DataSent.{SendsData}
 use Rattle.message_law.specs.ExpeditedSent.{SendsExpedited}
@@ -32,3 +38,8 @@ returns-clause-expedited c =
     subst (λ (d : DuoState). SendsExpedited d.ticks (duo_at c.args.now d) c.args.event.now c.in_ok-pair-2.outs) (c.pair.view_is ∙ c.in_ok-alloc.ensures)
     (expedited-step c.pair.inside.ticks c.args.now c.taken_after.result c.taken_after.result c.args.event.now c.pair.inside.pair c.in_ok-pair.pair c.in_ok-pair-2.pair _ _
     (subst (λ (d : DuoState). IsTrue (hears (duo_at c.args.now d) c.args.event.now)) (sym (c.pair.view_is ∙ c.in_ok-alloc.ensures)) c.requires.hears) refl c.in_ok-pair.ensures.step c.in_ok-pair-2.ensures.follows)
+
+pub follow-requires-clause-steps : goal.follow-requires-clause-steps
+follow-requires-clause-steps c =
+    subst (λ (s : Connection × List Output). IsInStep s.0) c.in_ok-pair.ensures.step
+    (event_kept c.pair.inside.ticks c.args.event.now (connection_at c.args.now c.pair.inside.pair) (at-any 0 c.args.now c.pair.inside.pair c.pair.invariant.1))

@@ -1,0 +1,12 @@
+use Rattle.std.proofs.Common.{subst}
+use Rattle.flow_law.specs.InStep.{IsInStep}
+use Rattle.section_model.specs.Ends.{wire as end}
+use Rattle.section_coupling.specs.Views.{section_by, end_by}
+use Rattle.section_coupling.proofs.Composed.{if-ok}
+use Rattle.section_coupling.proofs.Coming.{turn-come, turn-steps}
+use Rattle.section_coupling.proofs.following.on_section.Goals as goal
+
+pub settle-requires-clause-left : goal.settle-requires-clause-left
+settle-requires-clause-left c =
+    let clock = c.args.clock.now in
+    turn-come c.args.cell clock.ticks (section_by clock c.args.wire) (end_by clock c.args.that) _ c.requires.steps c.in_ok-wire.ensures.acts
