@@ -1,6 +1,5 @@
 -- Rows under distinct keys.
-use Rattle.std.proofs.Common.{◌≡◌, ℕ, zero, suc, ◌+◌, ◌<◌, List, [], ◌∷◌, ◌++◌, length, get_or, Bool, true, false, not, filter, refl, sym, ap, ◌∙◌, arith, subst, None, Ok, Err, OnOk, OnErr}
-use Rattle.std.specs.declared.result.Result.{Result}
+use Rattle.std.proofs.Common.{◌≡◌, ℕ, zero, suc, ◌+◌, ◌<◌, List, [], ◌∷◌, ◌++◌, length, get_or, Bool, true, false, not, filter, refl, sym, ap, ◌∙◌, arith, None}
 use Rattle.gtt_table.specs.Adding.{add_refusal}
 use Rattle.std.specs.Prelude.{◌==◌, ◌&&◌, ◌||◌, nat_eq}
 use Rattle.std.specs.List.{list_any}
@@ -19,14 +18,14 @@ neither true false h = cc
 neither false true h = cc
 neither false false h = (refl, refl)
 
-both : (a b : Bool) → (a && b) ≡ true → (a ≡ true) × (b ≡ true)
+pub both : (a b : Bool) → (a && b) ≡ true → (a ≡ true) × (b ≡ true)
 both true true h = (refl, refl)
 both true false h = cc
 both false true h = cc
 both false false h = cc
 
 -- where no element passes, the test fails at each
-fails_at : {X : Type 0} (test : X → Bool) (xs : List X) → list_any test xs ≡ false → (k : ℕ) (d : X) → k < length xs → test (get_or xs k d) ≡ false
+pub fails_at : {X : Type 0} (test : X → Bool) (xs : List X) → list_any test xs ≡ false → (k : ℕ) (d : X) → k < length xs → test (get_or xs k d) ≡ false
 fails_at test [] h k d below = absurd (omega (arith, below))
 fails_at test (x ∷ xs) h zero d below = (neither (test x) (list_any test xs) h).0
 fails_at test (x ∷ xs) h (suc k) d below = fails_at test xs ((neither (test x) (list_any test xs) h).1) k d (omega (arith, below))
@@ -41,7 +40,7 @@ HasDistinctKeys-without selector prefix rows h =
 
 -- One row alone stands under a key.
 
-selector_same : (s t : Selector) → is_same_selector s t ≡ true → s ≡ t
+pub selector_same : (s t : Selector) → is_same_selector s t ≡ true → s ≡ t
 selector_same s t h =
     let nai = both (s.gti == t.gti && s.tt == t.tt && s.np == t.np) (s.nai == t.nai) h in
     let np = both (s.gti == t.gti && s.tt == t.tt) (s.np == t.np) nai.0 in
@@ -52,7 +51,7 @@ selector_same s t h =
     ∙ ap (λ (n : ℕ). let u : Selector = record { gti = t.gti; tt = t.tt; np = t.np; nai = n } in u) (eqb-true s.nai t.nai nai.1)
 
 -- two rows under one key stand each under the other's
-same_key : (selector : Selector) (prefix : List ℕ) (row later : Row) → has_key selector prefix row ≡ true → has_key selector prefix later ≡ true
+pub same_key : (selector : Selector) (prefix : List ℕ) (row later : Row) → has_key selector prefix row ≡ true → has_key selector prefix later ≡ true
     → has_key later.selector later.prefix row ≡ true
 same_key selector prefix row later h e =
     let parts = both (is_same_selector later.selector selector) (pointwise nat_eq later.prefix prefix) e in
@@ -60,7 +59,7 @@ same_key selector prefix row later h e =
     ∙ ap (λ p. has_key selector p row) (same_text later.prefix prefix (sym parts.1)) ∙ h
 
 -- a row under a key, and one that isn't under its key
-other_key : (selector : Selector) (prefix : List ℕ) (row later : Row) → has_key selector prefix row ≡ true → has_key later.selector later.prefix row ≡ false
+pub other_key : (selector : Selector) (prefix : List ℕ) (row later : Row) → has_key selector prefix row ≡ true → has_key later.selector later.prefix row ≡ false
     → has_key selector prefix later ≡ false
 other_key selector prefix row later h e = by_test (has_key selector prefix later) refl
   where
@@ -87,12 +86,7 @@ length-without selector prefix (first ∷ rest) h some =
         let some_later : has_row selector prefix rest ≡ true = rw e at some in
         rw e (omega (arith, later some_later))
 
--- a row that was put at the end, or not, under a new key
-pub distinct_after : {E : Type 0} (r : Result (Unit {0}) E) (old new : List Row) (row : Row) → HasDistinctKeys old → has_row row.selector row.prefix old ≡ false
-    → OnOk r (new ≡ old ++ row ∷ []) → OnErr r (new ≡ old) → HasDistinctKeys new
-distinct_after (Ok done) old new row h none put kept = subst HasDistinctKeys (sym put) (HasDistinctKeys-push old row h none)
-distinct_after (Err fault) old new row h none put kept = subst HasDistinctKeys (sym kept) h
-
+-- a row that isn't refused has a new key
 pub new_key : (rows : List Row) (row : Row) → None ≡ add_refusal rows row → has_row row.selector row.prefix rows ≡ false
 unfolding add_refusal
 new_key rows row h = by_test (has_row row.selector row.prefix rows) refl

@@ -7,7 +7,7 @@ use Rattle.gtt_table.specs.Rows.{is_match}
 use Rattle.gtt_table.specs.Translation.{longer, longest_match, IsLongestMatch}
 use Rattle.gtt_table.proofs.RowLemmas.{lt_tells}
 
-abbrev IsBest : Selector → List ℕ → List Row → Option Row → Type 0
+abbrev pub IsBest : Selector → List ℕ → List Row → Option Row → Type 0
 IsBest selector digits rows None = All (λ other. is_match selector digits other ≡ false) rows
 IsBest selector digits rows (Some row) = IsLongestMatch rows selector digits row
 

@@ -2,6 +2,7 @@
 #![tactic(auto)]
 
 mod row;
+mod search;
 mod table;
 
 pub use row::{Entity, Row};

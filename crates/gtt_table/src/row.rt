@@ -1,9 +1,12 @@
 //! A row of the translation.
 ghost use Rattle.std.specs.Prelude.{◌≡◌};
-ghost use Rattle.gtt_table.specs.Rows.{has_key, is_match};
+ghost use Rattle.gtt_table.specs.Rows.{has_key};
+ghost use Rattle.gtt_table.specs.Inner.Order.{row_cmp};
 
+use crate::search::selector_order;
 use relay_base::{Digits, Pc, Ssn};
 use sccp_address::Selector;
+use std::cmp::Ordering;
 
 /// Where a translation leads: a point, a subsystem where it names one, and whether the address goes on routing on it.
 #[derive(Clone, Copy, Debug, PartialEq, Eq)]
@@ -30,10 +33,10 @@ impl Row {
         self.selector == *selector && self.prefix.as_slice() == prefix.as_slice()
     }
 
-    /// Whether the row is of this selector, and its prefix begins these digits.
-    pub fn is_match(&self, selector: &Selector, digits: &Digits) -> bool
-        ensures { result ≡ is_match selector.now digits.now self.now }
+    /// Where the row stands to a selector and a prefix: rows stand by selector, and then by prefix.
+    pub(crate) fn order(&self, selector: &Selector, prefix: &[u8]) -> Ordering
+        ensures { result ≡ row_cmp selector.now prefix.now self.now }
     {
-        self.selector == *selector && digits.starts_with(&self.prefix)
+        selector_order(&self.selector, selector).then(self.prefix.as_slice().cmp(prefix))
     }
 }

@@ -7,27 +7,37 @@ ghost use Rattle.std.specs.Vec.{vec_capacity};
 ghost use Rattle.gtt_table.specs.Adding.{add_refusal, Refuses, HasMemory};
 
 use crate::row::Row;
-use relay_base::{Digits, Memory};
+use crate::search::{has_selector, longest_match, place};
+use mark::Mark;
+use relay_base::{Digits, Memory, PlainList};
 use sccp_address::Selector;
 use std::alloc::Global;
 use std::marker::Model;
 
-/// Rows of which no two have one selector and one prefix, at most 4,096.
+/// Rows of which no two have one selector and one prefix, at most 4,096. Memory for one more can be taken first.
+/// A clause sees them in the order in which they were added.
 #[derive(Drop)]
 pub struct Table {
+    /// The rows by selector and prefix.
     rows: Vec<Row>,
+    /// The rows in the order in which they were added.
+    added: Mark<PlainList<Row>>,
 }
 
 impl Model for Table {
     ghost use Rattle.std.specs.Prelude.{nat_lt, vec_len};
     ghost use Rattle.std.specs.Vec.{vec_capacity};
-    ghost use Rattle.gtt_table.specs.Rows.{Rows, HasDistinctKeys};
+    ghost use Rattle.gtt_table.specs.Rows.{Rows};
+    ghost use Rattle.gtt_table.specs.Inner.Order.{AreKept};
 
     ghost Value = { Rows };
 
-    ghost view = { λ t. record { rows = t.rows.items; has_room = nat_lt (vec_len t.rows) (vec_capacity t.rows) } };
+    ghost view = { λ t. record {
+      rows = t.added.value;
+      has_room = nat_lt (vec_len t.rows) (vec_capacity t.rows);
+    } };
 
-    ghost invariant = { λ t. HasDistinctKeys t.rows.items };
+    ghost invariant = { λ t. AreKept t.rows.items t.added.value };
 }
 
 /// What a search gives: no row has the selector, no prefix begins the digits, or the row with the longest such prefix.
@@ -50,6 +60,14 @@ pub enum AddFault {
 #[derive(Clone, Copy, Debug, PartialEq, Eq)]
 pub struct NoSuchRow;
 
+/// A key whose row goes.
+#[derive(Clone, Copy)]
+struct Taking<'a> {
+    table: &'a Table,
+    selector: &'a Selector,
+    prefix: &'a Digits,
+}
+
 impl Table {
     /// The most rows that a table holds.
     pub const MOST: usize = 4_096;
@@ -60,6 +78,7 @@ impl Table {
     {
         Table {
             rows: Vec::new(alloc),
+            added: none_added(),
         }
     }
 
@@ -69,6 +88,7 @@ impl Table {
     {
         Ok(Table {
             rows: self.rows.clone()?,
+            added: self.same_added(),
         })
     }
 
@@ -86,13 +106,7 @@ impl Table {
         ensures value { result ≡ has_row selector.now prefix.now self.now.rows }
         ensures distinct { HasDistinctKeys self.now.rows }
     {
-        self.rows.iter().any(|row| row.has_key(selector, prefix))
-    }
-
-    fn find(&self, selector: &Selector, prefix: &Digits) -> Option<&Row>
-        ensures { option_copied result ≡ find (has_key selector.now prefix.now) self.now.rows }
-    {
-        self.rows.iter().find(|row| row.has_key(selector, prefix))
+        place(&self.rows, selector, prefix.as_slice()).is_ok()
     }
 
     /// Why this row would not be added, beside want of memory.
@@ -118,26 +132,32 @@ impl Table {
         ensures refusal { Refuses result (add_refusal self.old.rows row) }
         ensures memory { IsTrue self.old.has_room → HasMemory result }
     {
-        let row = &row;
-        match self.refusal(row) {
-            Some(fault) => Err(fault),
-            None => match put(&mut self.rows, row) {
-                Ok(()) => Ok(()),
-                Err(Memory) => Err(AddFault::Memory),
-            },
+        if let Some(fault) = self.refusal(&row) {
+            return Err(fault);
+        }
+        match self.insert(row) {
+            Ok(()) => Ok(()),
+            Err(Memory) => Err(AddFault::Memory),
         }
     }
 
-    fn drop_key(&mut self, selector: &Selector, prefix: &Digits)
-        ensures value { self.new.rows ≡ without selector.now prefix.now self.old.rows }
-        ensures one { let had = has_row selector.now prefix.now self.old.rows
-            in had ≡ true → length self.new.rows + 1 ≡ length self.old.rows }
+    /// Puts a row under a new key in its place.
+    fn insert(&mut self, row: Row) -> Result<(), Memory>
+        requires { has_row row.selector row.prefix self.old.rows ≡ false }
+        ensures ok { OnOk result (self.new.rows ≡ self.old.rows ++ row ∷ []) }
+        ensures err { OnErr result (self.new.rows ≡ self.old.rows) }
+        ensures memory { IsTrue self.old.has_room → IsOk result }
     {
-        self.rows.retain(|row| !row.has_key(selector, prefix));
+        let Err(at) = place(&self.rows, &row.selector, row.prefix.as_slice()) else {
+            unreachable!()
+        };
+        let added = self.added_with(&row);
+        self.rows.insert(at, row)?;
+        self.added = added;
+        Ok(())
     }
 
     /// Takes the row with this selector and prefix away.
-    #[tactic(auto, using(crate::proofs::RowLemmas::searches))]
     pub fn remove(&mut self, selector: &Selector, prefix: &Digits) -> Result<Row, NoSuchRow>
         ensures ok { let row = find (has_key selector.now prefix.now) self.old.rows
             in IfOk result (λ x. row ≡ Some x) }
@@ -146,32 +166,51 @@ impl Table {
         ensures err { OnErr result (has_row selector.now prefix.now self.old.rows ≡ false) }
         ensures same { OnErr result (self.new.rows ≡ self.old.rows) }
     {
-        match self.find(selector, prefix).copied() {
-            Some(row) => {
-                self.drop_key(selector, prefix);
-                Ok(row)
-            }
-            None => Err(NoSuchRow),
-        }
+        let Ok(at) = place(&self.rows, selector, prefix.as_slice()) else {
+            return Err(NoSuchRow);
+        };
+        let added = self.added_without(selector, prefix);
+        let row = self.rows.remove(at);
+        self.added = added;
+        Ok(row)
     }
 
     fn has_selector(&self, selector: &Selector) -> bool
         ensures { result ≡ has_selector selector.now self.now.rows }
     {
-        self.rows.iter().any(|row| row.selector == *selector)
+        has_selector(&self.rows, selector)
     }
 
     /// The row with the longest prefix that begins the digits (Q.714, 2.4).
     fn longest_match(&self, selector: &Selector, digits: &Digits) -> Option<&Row>
         ensures { option_copied result ≡ longest_match selector.now digits.now self.now.rows }
     {
-        let mut longest = None;
-        for row in self.rows.as_slice() {
-            if row.is_match(selector, digits) {
-                longest = longer(longest, row);
-            }
-        }
-        longest
+        longest_match(&self.rows, selector, digits.as_slice())
+    }
+
+    /// What the rows were added as, for a copy.
+    fn same_added(&self) -> Mark<PlainList<Row>>
+        ensures { result.value ≡ self.now.rows }
+    {
+        Mark::after(self)
+    }
+
+    /// The same with one row more.
+    fn added_with(&self, row: &Row) -> Mark<PlainList<Row>>
+        ensures { result.value ≡ self.now.rows ++ row.now ∷ [] }
+    {
+        Mark::after(&(self, row))
+    }
+
+    /// The same without the row under a key.
+    fn added_without(&self, selector: &Selector, prefix: &Digits) -> Mark<PlainList<Row>>
+        ensures { result.value ≡ without selector.now prefix.now self.now.rows }
+    {
+        Mark::after(&Taking {
+            table: self,
+            selector,
+            prefix,
+        })
     }
 
     /// The row that translates these digits (Q.714, 2.4).
@@ -190,22 +229,8 @@ impl Table {
     }
 }
 
-/// Puts an item at the end.
-fn put<T: Copy>(list: &mut Vec<T>, item: &T) -> Result<(), Memory>
-    ensures ok { OnOk result (list.new.items ≡ list.old.items ++ item.now ∷ []) }
-    ensures err { OnErr result (list.new.items ≡ list.old.items) }
-    ensures memory { vec_len list.old < vec_capacity list.old → IsOk result }
+fn none_added() -> Mark<PlainList<Row>>
+    ensures { result.value ≡ [] }
 {
-    list.reserve(1)?;
-    list.push_reserved(*item);
-    Ok(())
-}
-
-fn longer<'a>(longest: Option<&'a Row>, row: &'a Row) -> Option<&'a Row>
-    ensures { option_copied result ≡ longer (option_copied longest.entry) (Some row.entry.now) }
-{
-    match longest {
-        Some(other) if row.prefix.len() <= other.prefix.len() => longest,
-        _ => Some(row),
-    }
+    Mark::after(&0u8)
 }

@@ -14,6 +14,8 @@ mod same;
 #[cfg(test)]
 mod slots;
 #[cfg(test)]
+mod timers;
+#[cfg(test)]
 mod user_side;
 #[cfg(test)]
 mod windows;

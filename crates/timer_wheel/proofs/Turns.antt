@@ -7,7 +7,7 @@ use Rattle.std.proofs.lemmas.List.{map-append, length-map}
 use Rattle.timer_wheel.specs.declared.due.Due.{Due}
 use Rattle.timer_wheel.specs.declared.due.Alarm.{Alarm}
 use Rattle.timer_wheel.specs.Order.{is_before}
-use Rattle.timer_wheel.specs.Timers.{Armed, is_timer, others, with_timer, due_now, after_tick, IsRising, AreRunning}
+use Rattle.timer_wheel.specs.Timers.{Armed, is_timer, others, with_timer, due_now, lowered, after_tick, IsRising, AreRunning}
 use Rattle.timer_wheel.specs.Inner.Tree.{before, behind, fires, not_fires, recounted, Rises}
 use Rattle.timer_wheel.specs.Inner.Turning.{left_at, armed_at}
 use Rattle.timer_wheel.proofs.Order.{before-trans, before-asym, filter_none, head_of, tail_of}
@@ -128,11 +128,8 @@ after_at now (x ∷ list) h =
     rw (one_left now x.tick (All-head (λ (a : Alarm). now < a.tick) x list h))
     (by_test (nat_le x.tick (now + 1)) (after_at now list (All-tail (λ (a : Alarm). now < a.tick) x list h)))
   where
-    lower : Armed → Armed
-    lower a = record a { ticks = a.ticks - 1 }
-
     by_test : (b : Bool) → after_tick (armed_at now list) ≡ armed_at (now + 1) (filter (not_fires (now + 1)) list)
-        → map (λ (a : Armed). record a { ticks = a.ticks - 1 })
+        → map lowered
         (cond (not b) (left_at now x ∷ filter (λ a. not (a.ticks == 1)) (armed_at now list)) (filter (λ a. not (a.ticks == 1)) (armed_at now list)))
         ≡ armed_at (now + 1) (cond (not b) (x ∷ filter (not_fires (now + 1)) list) (filter (not_fires (now + 1)) list))
     by_test true rest = rest

@@ -1,5 +1,5 @@
--- The running timers of a lane's connections, as those of setting up, release, inactivity and reset (Q.714, 3.1, 3.3, 3.4, 3.7), by
--- rising connection and timer.
+-- The running timers of a lane's connections, as those of setting up, release, inactivity and reset
+-- (Q.714, 3.1, 3.3, 3.4, 3.7), by rising connection and timer.
 use Rattle.std.specs.Prelude.{◌≡◌, ◌==◌, ◌&&◌, ◌-◌, ◌≤◌, ℕ, Bool, true, not, List, ◌∷◌, ◌++◌, All, AllPairs, filter, map}
 use Rattle.timer_wheel.specs.declared.due.Due.{Due}
 use Rattle.timer_wheel.specs.Order.{is_before}
@@ -29,18 +29,26 @@ is_timer due armed = armed.due.conn == due.conn && armed.due.timer == due.timer
 abbrev pub others : Due → List Armed → List Armed
 others due armed = filter (λ a. not (is_timer due a)) armed
 
--- this timer with so many ticks left, behind the timers that come before it
+abbrev pub before : Due → List Armed → List Armed
+before due armed = filter (λ a. is_before a.due due) armed
+
+abbrev pub behind : Due → List Armed → List Armed
+behind due armed = filter (λ a. is_before due a.due) armed
+
+-- this timer with so many ticks left, between those before it and those behind it
 abbrev pub with_timer : Due → ℕ → List Armed → List Armed
-with_timer due ticks armed =
-    filter (λ a. is_before a.due due) armed ++ record { due = due; ticks = ticks } ∷ filter (λ a. is_before due a.due) armed
+with_timer due ticks armed = before due armed ++ record { due = due; ticks = ticks } ∷ behind due armed
 
 -- the timers of which one tick is left
 abbrev pub due_now : List Armed → List Due
 due_now armed = map (λ a. a.due) (filter (λ a. a.ticks == 1) armed)
 
+abbrev pub lowered : Armed → Armed
+lowered a = record a { ticks = a.ticks - 1 }
+
 -- a tick drops these, and lowers what is left of the others
 abbrev pub after_tick : List Armed → List Armed
-after_tick armed = map (λ (a : Armed). record a { ticks = a.ticks - 1 }) (filter (λ a. not (a.ticks == 1)) armed)
+after_tick armed = map lowered (filter (λ a. not (a.ticks == 1)) armed)
 
 -- each comes before all later ones
 abbrev pub IsRising : List Armed → Type 0
