@@ -1,6 +1,12 @@
 -- The references of an opening over time: a freeze lasts until a tick of the lane, so nothing is to be done to it.
-use Rattle.std.proofs.Common.{◌≡◌, ℕ, ◌+◌, ◌-◌, ◌<◌, Bool, true, false, [], refl, sym, subst, ap, ◌∙◌, arith, if◌then◌else◌, not, IsTrue}
-use Rattle.std.specs.Prelude.{Option, Some, None, option_map, is_some}
+use Rattle.relay_base.specs.declared.words.Output.{Output}
+use Rattle.std.proofs.Common.{◌≡◌, List, ℕ, ◌+◌, ◌-◌, ◌<◌, Bool, true, false, [], refl, sym, subst, ap, ◌∙◌, arith, if◌then◌else◌, not}
+use Rattle.std.specs.Prelude.{Option, Some, None, option_map, is_some, IfOk, IfSome}
+use Rattle.std.specs.declared.result.Result.{Result}
+use Rattle.std.specs.declared.result.Result.TheVariants.{Ok, Err}
+use Rattle.relay_base.specs.declared.errors.Memory.{Memory}
+use Rattle.conn_lane.specs.declared.kept.Heard.{Heard}
+use Rattle.conn_lane.specs.Inner.Ticked.{next_or}
 use Rattle.relay_base.specs.declared.words.Event.{Event}
 use Rattle.relay_base.specs.declared.words.Event.TheVariants.{Message as Arrived, Asked as Requested, Tick}
 use Rattle.plant_core.specs.declared.terms.Ticks.{Ticks}
@@ -14,7 +20,7 @@ use Rattle.section_coupling.specs.Duos.{DuoState, duo_at, taken_after}
 use Rattle.conn_lane.specs.declared.kept.Hold.{Hold}
 use Rattle.conn_lane.specs.Inner.Remnants.{Live, Seat, Remnant, ticks_in, left_after, seat_after, frozen_by, remnant_after, live_of, part_at, or_none}
 use Rattle.conn_lane.specs.Inner.Seated.{SeatIs, IsSeated}
-use Rattle.conn_lane.specs.Inner.Views.{KeptOpeningState, IsAlive, IsIdle, IsAsleep, HearsAt, live_at, seat_at, until_after, remnant_at}
+use Rattle.conn_lane.specs.Inner.Views.{KeptOpeningState, IsAlive, IsIdle, IsAsleep, live_at, seat_at, until_after, remnant_at}
 
 begins : (now freeze : ℕ) → now + freeze - now ≡ freeze
 begins now freeze = omega arith
@@ -127,17 +133,48 @@ pub asleep : (now wakes : ℕ) (duo : Option DuoState) → IsAsleep wakes duo �
 asleep now wakes None is early = tt
 asleep now wakes (Some d) is early = is now early
 
--- its connection hears what it hears
-pub hears_so : (now : ℕ) (event : Event) (b : Bool) (d : DuoState) (duo : Option DuoState) → duo ≡ Some d → b ≡ hears (duo_at now d) event
-    → (IsTrue b → HearsAt now event duo) × (HearsAt now event duo → IsTrue b)
-hears_so now event b d duo is same =
-    (λ yes. subst (HearsAt now event) (sym is) (subst IsTrue same yes), λ heard. subst IsTrue (sym same) (subst (HearsAt now event) is heard))
+-- what a connection doesn't hear gives no part
+pub deaf_part : (now : ℕ) (event : Event) (b : Bool) (d : DuoState) (duo : Option DuoState) → duo ≡ Some d → b ≡ hears (duo_at now d) event → b ≡ false → None ≡ part_at event (option_map (live_at now) duo)
+deaf_part now event b d duo is same deaf =
+    sym (ap (λ x. part_at event (option_map (live_at now) x)) is
+    ∙ ap (λ x. elim x [ true ↦ Some (connection_step d.ticks (duo_at now d) event).1 | false ↦ None ]) (sym same ∙ deaf))
 
 -- a connection that isn't over hears each tick
-pub hears_boxed : {X : Type 0} (now : ℕ) (value : X → DuoState) (duo : Option X) → IsAlive (option_map value duo) → is_some duo ≡ true → HearsAt now Tick (option_map value duo)
-hears_boxed now value None alive some = absurd (cc)
-hears_boxed now value (Some x) alive some = true_is (hears (duo_at now (value x)) Tick) (hears_tick (duo_at now (value x)) (over_alike now 0 (value x) ∙ alive))
+idle_or_heard : (now : ℕ) (duo : Option DuoState) → IsAlive duo → None ≡ part_at Tick (option_map (live_at now) duo) → IsIdleAt now duo
+idle_or_heard now None alive none = tt
+idle_or_heard now (Some d) alive none = absurd (by_test (hears (duo_at now d) Tick) (hears_tick (duo_at now d) (over_alike now 0 d ∙ alive)) none)
   where
-    true_is : (b : Bool) → b ≡ true → IsTrue b
-    true_is true e = refl
-    true_is false e = absurd (cc)
+    by_test : (b : Bool) → b ≡ true → ◌≡◌ {A = Option (List Output)} None (elim b [ true ↦ Some (connection_step d.ticks (duo_at now d) Tick).1 | false ↦ None ]) → ⊥
+    by_test true e none = cc
+    by_test false e none = cc
+
+-- what an event makes of an opening whose connection hears it
+pub kept_next : {X : Type 0} (event : Event) (now : ℕ) (d new : DuoState) (k : KeptOpeningState) (value : X → DuoState) (duo : Option X) (this that : Option Hold) → k.duo ≡ Some d
+    → duo_at (taken_after now event) new ≡ fed d.ticks (duo_at now d) event → new.ticks ≡ d.ticks
+    → option_map (λ x. live_at (taken_after now event) (value x)) duo ≡ live_of new.ticks (duo_at (taken_after now event) new)
+    → option_map (seat_at (taken_after now event)) this ≡ seat_after new.ticks.freeze event (end_is_gone (duo_at (taken_after now event) new).this) (option_map (seat_at now) k.this)
+    → option_map (seat_at (taken_after now event)) that ≡ seat_after new.ticks.freeze event (end_is_gone (duo_at (taken_after now event) new).that) (option_map (seat_at now) k.that)
+    → remnant_at (taken_after now event) (record { duo = option_map value duo; this = this; that = that }) ≡ remnant_after event (remnant_at now k)
+kept_next event now d new k value duo this that is fed_so ticks live first second =
+    let later = taken_after now event in
+    let s : Option Seat = option_map (seat_at now) k.this in
+    let t : Option Seat = option_map (seat_at now) k.that in
+    kept_alike (mapped duo ∙ live) first second
+    ∙ (ap (λ c. kept_as (live_of new.ticks c) (seat_after new.ticks.freeze event (end_is_gone c.this) s) (seat_after new.ticks.freeze event (end_is_gone c.that) t)) fed_so
+    ∙ (ap (λ ticks. kept_as (live_of ticks (fed d.ticks (duo_at now d) event))
+    (seat_after ticks.freeze event (end_is_gone (fed d.ticks (duo_at now d) event).this) s)
+    (seat_after ticks.freeze event (end_is_gone (fed d.ticks (duo_at now d) event).that) t)) ticks
+    ∙ ap (λ x. remnant_after event (kept_as (option_map (live_at now) x) s t)) (sym is)))
+  where
+    mapped : (x : Option _) → option_map (live_at (taken_after now event)) (option_map value x) ≡ option_map (λ y. live_at (taken_after now event) (value y)) x
+    mapped None = refl
+    mapped (Some y) = refl
+
+-- what a tick makes of an opening
+pub ticks_on : (now : ℕ) (k : KeptOpeningState) (r : Result (Option Heard) Memory) → IsAlive k.duo → IsSeated (remnant_at now k)
+    → IfOk r (λ heard. IfSome heard (λ h. remnant_at (now + 1) h.next ≡ remnant_after Tick (remnant_at now k)))
+    → IfOk r (λ heard. option_map (λ h. h.outs) heard ≡ part_at Tick (option_map (live_at now) k.duo))
+    → IfOk r (λ heard. remnant_at (now + 1) (next_or k heard) ≡ remnant_after Tick (remnant_at now k))
+ticks_on now k (Err memory) alive seated keeping part = tt
+ticks_on now k (Ok None) alive seated keeping part = (sleeps_on now k alive (idle_or_heard now k.duo alive part) seated).keeping
+ticks_on now k (Ok (Some heard)) alive seated keeping part = keeping

@@ -1,5 +1,5 @@
 -- A lane with one more entry.
-use Rattle.std.proofs.Common.{◌≡◌, ℕ, ◌≤◌, ◌<◌, ◌+◌, ◌^◌, OnErr, Ok, Err, Bool, true, false, cond, List, [], ◌∷◌, ◌++◌, length, map, refl, sym, subst, ap, ◌∙◌, arith, append-nil, length-append}
+use Rattle.std.proofs.Common.{◌≡◌, ℕ, ◌≤◌, ◌<◌, ◌+◌, ◌^◌, OnOk, OnErr, Ok, Err, Bool, true, false, cond, List, [], ◌∷◌, ◌++◌, length, map, refl, sym, subst, ap, ap₂, ◌∙◌, arith, append-nil, length-append}
 use Rattle.std.specs.declared.result.Result.{Result}
 use Rattle.std.specs.Prelude.{Option, Some, None, option_map, is_some, IfSome}
 use Rattle.relay_base.specs.declared.words.Output.{Output}
@@ -15,7 +15,7 @@ use Rattle.plant_core.specs.declared.terms.Terms.{Terms}
 use Rattle.plant_core.specs.Asking.{Question, asked_at, answer_in}
 use Rattle.section_model.specs.Ends.{Connection}
 use Rattle.section_model.specs.Laws.{openings_from}
-use Rattle.section_model.specs.Opening.{Wish, by_cr, by_user, no_wish, wish_of, question_of, slots_needed, opened, Opened}
+use Rattle.section_model.specs.Opening.{Wish, by_cr, by_user, no_wish, wish_of, wish_of_message, wish_of_reading, wish_of_request, question_of, slots_needed, opened, Opened}
 use Rattle.section_model.specs.Lane.{Lane, Opening, with_event, opening_of, opening_list, openings_after, legal_outputs, other_outputs, outputs_by, answer_of, IsLegalEntry, stray_answer, is_tick}
 use Rattle.journal_law.proofs.Splitting.{splits}
 use Rattle.plant_core.specs.declared.terms.Ticks.{Ticks}
@@ -23,16 +23,25 @@ use Rattle.section_coupling.specs.Duos.{DuoState, duo_at, taken_after}
 use Rattle.section_coupling.specs.Openings.{is_wish, IsAnswered}
 use Rattle.conn_lane.specs.Inner.Remnants.{Remnant, remnant_of, remnant_after, first_part, all_parts, lowest_in, is_needed, needed}
 use Rattle.conn_lane.specs.Laws.{unheard}
-use Rattle.conn_lane.specs.Inner.Seated.{AreOrderly}
+use Rattle.conn_lane.specs.Inner.Seated.{AreOrderly, reference_in}
 use Rattle.conn_lane.specs.Inner.Views.{news}
 use Rattle.conn_lane.specs.Journals.{lane_of}
 use Rattle.conn_lane.specs.Lanes.{conn_asked_of}
-use Rattle.conn_lane.specs.Inner.Views.{OpeningsState}
+use Rattle.conn_lane.specs.Inner.Views.{OpeningsState, keeps_of}
 use Rattle.conn_lane.specs.Inner.Turns.{opened_in, other_outs_in, outs_in, new_remnant, keeps_in, IsConnLane}
 use Rattle.conn_lane.specs.Inner.Grown.{Comes, Grows}
 use Rattle.conn_lane.proofs.Keeps.{keeps_all}
 use Rattle.conn_lane.proofs.Needless.{outs_needed, keeps_needed}
 use Rattle.conn_lane.proofs.NewSeats.{orderly_keeps}
+use Rattle.conn_lane.proofs.HeardAt.{nobody_named}
+use Rattle.relay_base.specs.declared.words.Request.{Request}
+use Rattle.relay_base.specs.declared.words.Request.TheVariants as request
+use Rattle.q713_codec.specs.declared.message.Message.{Message}
+use Rattle.q713_codec.specs.declared.message.Message.TheVariants.{Cr, Cc}
+use Rattle.relay_base.specs.declared.words.ReadFault.{ReadFault}
+use Rattle.q713_codec.specs.Reading.{reading_of}
+use Rattle.section_model.specs.Parameters.{arrival_of, arrival_by, arrival_in}
+use Rattle.section_model.specs.Step.{destination_of, named}
 
 abbrev kept_of : Lane → List Opening → List Remnant
 kept_of lane openings = map (remnant_of lane.terms.ticks) openings
@@ -99,15 +108,15 @@ needed_again (k ∷ keeps) = by_test (is_needed k) refl (needed_again keeps)
     by_test false is again = again
 
 pub lane_grows : (plant : PlantState) (head : LaneHead) (number : ℕ) (journal : List Entry) (before after : OpeningsState) (entry : Entry)
-    → IsConnLane head number journal (Some before) → Grows plant head number before after entry
-    → IsConnLane head number (journal ++ entry ∷ []) (Some after)
+    → IsConnLane head number journal before → Grows plant head number before after entry
+    → IsConnLane head number (journal ++ entry ∷ []) after
 lane_grows plant head number journal before after entry lane more =
     let openings = openings_from (lane_of head number) [] journal in
     let wish = wish_of head.terms entry.event in
-    let same : needed before.keeps ≡ needed (kept_of (lane_of head number) openings) = lane.keeps.keeps in
+    let same : needed (keeps_of before) ≡ needed (kept_of (lane_of head number) openings) = lane.keeps.keeps in
     let outs : entry.outs ≡ legal_outputs (lane_of head number) openings entry.event (answer_of entry) =
     more.outs
-    ∙ (outs_needed (lane_of head number) before.keeps entry.event wish (answer_of entry)
+    ∙ (outs_needed (lane_of head number) (keeps_of before) entry.event wish (answer_of entry)
     ∙ (ap (λ keeps. outs_in (lane_of head number) keeps entry.event wish (answer_of entry)) same
     ∙ (sym (outs_needed (lane_of head number) (kept_of (lane_of head number) openings) entry.event wish (answer_of entry))
     ∙ sym (outs-alike (lane_of head number) openings entry.event (answer_of entry))))) in
@@ -118,7 +127,7 @@ lane_grows plant head number journal before after entry lane more =
       keeps = record {
         keeps =
             more.keeps
-            ∙ (keeps_needed (lane_of head number) before.keeps entry.event wish (answer_of entry)
+            ∙ (keeps_needed (lane_of head number) (keeps_of before) entry.event wish (answer_of entry)
             ∙ (ap (λ keeps. needed (keeps_in (lane_of head number) keeps entry.event wish (answer_of entry))) same
             ∙ (sym (keeps_needed (lane_of head number) (kept_of (lane_of head number) openings) entry.event wish (answer_of entry))
             ∙ (ap needed (sym (keeps-alike (lane_of head number) openings entry.event (answer_of entry)))
@@ -129,9 +138,23 @@ lane_grows plant head number journal before after entry lane more =
       credit = lane.credit;
     }
 
--- want of memory spoils what is kept, and nothing else
-pub lane_spent : (head : LaneHead) (number : ℕ) (journal : List Entry) (openings : Option OpeningsState) → IsConnLane head number journal openings → IsConnLane head number journal None
-lane_spent head number journal openings lane = record { legal = lane.legal; keeps = tt; lanes = lane.lanes; credit = lane.credit }
+-- the lane once its change is written, or as before
+pub lane_written : {A E : Type 0} (r : Result A E) (plant : PlantState) (head : LaneHead) (number : ℕ) (journal later : List Entry) (before after made : OpeningsState) (entry : Entry)
+    → IsConnLane head number journal before → Grows plant head number before made entry → OnOk r (later ≡ journal ++ entry ∷ []) → OnOk r (after ≡ made) → OnErr r ((later ≡ journal) × (after ≡ before))
+    → IsConnLane head number later after
+lane_written (Ok a) plant head number journal later before after made entry lane more grown is same =
+    subst (λ j. IsConnLane head number j after) (sym grown)
+    (subst (IsConnLane head number (journal ++ entry ∷ [])) (sym is) (lane_grows plant head number journal before made entry lane more))
+lane_written (Err e) plant head number journal later before after made entry lane more grown is same =
+    subst (λ j. IsConnLane head number j after) (sym same.0) (subst (IsConnLane head number journal) (sym same.1) lane)
+
+pub on_ok : {A E : Type 0} {P Q : Type 0} (r : Result A E) → (P → Q) → OnOk r P → OnOk r Q
+on_ok (Ok a) f p = f p
+on_ok (Err e) f p = tt
+
+pub on_err : {A E : Type 0} {P Q : Type 0} (r : Result A E) → (P → Q) → OnErr r P → OnErr r Q
+on_err (Ok a) f p = tt
+on_err (Err e) f p = f p
 
 -- An event that opens no connection, and one that opens one.
 
@@ -194,10 +217,6 @@ none_asked_of head plant event e = ap (asked_at plant.edition plant.routing) (no
 pub few_taken : (taken n : ℕ) → taken ≤ n → n < 2 ^ 32 → taken ≤ 4_294_967_295
 few_taken taken n e f = omega (arith, e, f)
 
-pub on_err : {A E : Type 0} (r : Result A E) (P : Type 0) → P → OnErr r P
-on_err (Ok a) P p = tt
-on_err (Err e) P p = p
-
 -- What comes of an event.
 
 news_are : (ticks : Ticks) (taken : ℕ) (duo : Option DuoState) → IfSome duo (λ d. d.ticks ≡ ticks) → news taken duo ≡ new_remnant ticks (option_map (duo_at taken) duo)
@@ -210,32 +229,59 @@ open_untimed terms (Arrived point sls bytes) e = refl
 open_untimed terms (Requested ssn r) e = refl
 open_untimed terms Tick e = absurd (cc)
 
+-- an event that opens a connection names no reference, so nobody hears it
+
+message_names_none : (terms : Terms) (point sls : ℕ) (m : Message) → is_wish (wish_of_message terms point sls m) ≡ true → destination_of (arrival_of m) ≡ None
+unfolding arrival_of
+message_names_none terms point sls (Cr slr class called credit calling body hop importance) e = refl
+message_names_none terms point sls (Cc dlr slr class credit called body importance) e = absurd (cc)
+message_names_none terms point sls _ e = absurd (cc)
+
+reading_names_none : (terms : Terms) (point sls : ℕ) (r : Result Message ReadFault) → is_wish (wish_of_reading terms point sls r) ≡ true → destination_of (arrival_by r) ≡ None
+reading_names_none terms point sls (Ok m) e = message_names_none terms point sls m e
+reading_names_none terms point sls (Err fault) e = absurd (cc)
+
+request_names_none : (terms : Terms) (ssn : ℕ) (r : Request) → is_wish (wish_of_request terms ssn r) ≡ true → named r ≡ None
+request_names_none terms ssn (request.Conn tag class credit called body) e = refl
+request_names_none terms ssn _ e = absurd (cc)
+
+open_names_none : (terms : Terms) (event : Event) → is_wish (wish_of terms event) ≡ true → reference_in event ≡ None
+unfolding wish_of arrival_in
+open_names_none terms (Arrived point sls bytes) e = reading_names_none terms point sls (reading_of bytes) e
+open_names_none terms (Requested ssn r) e = request_names_none terms ssn r e
+open_names_none terms Tick e = absurd (cc)
+
+open_unheard : (terms : Terms) (event : Event) (keeps : List Remnant) → is_wish (wish_of terms event) ≡ true → AreOrderly keeps → map (remnant_after event) keeps ≡ keeps
+open_unheard terms event keeps wish orderly = (nobody_named event keeps (open_untimed terms event wish) orderly.seated (open_names_none terms event wish)).1
+
 -- an event that opens a connection
 pub open_comes : (plant : PlantState) (head : LaneHead) (number : ℕ) (event : Event) (before after : OpeningsState) (routing : Option Asked) (duo : Option DuoState) (outputs : List Output)
     → is_wish (wish_of head.terms event) ≡ true → routing ≡ conn_asked_of head plant event
-    → opened_in (lane_of head number) before.keeps (wish_of head.terms event) (answer_in routing) ≡ record { connection = option_map (duo_at before.taken) duo; outs = outputs }
-    → IfSome duo (λ d. d.ticks ≡ head.terms.ticks) → after ≡ record { taken = before.taken; keeps = map (remnant_after event) before.keeps ++ news before.taken duo }
+    → opened_in (lane_of head number) (keeps_of before) (wish_of head.terms event) (answer_in routing) ≡ record { connection = option_map (duo_at before.taken) duo; outs = outputs }
+    → IfSome duo (λ d. d.ticks ≡ head.terms.ticks) → AreOrderly (keeps_of before) → after.taken ≡ before.taken → keeps_of after ≡ keeps_of before ++ news before.taken duo
     → Comes plant head number event before after routing outputs
-open_comes plant head number event before after routing duo outputs wish asked opens ticks is =
+open_comes plant head number event before after routing duo outputs wish asked opens ticks orderly taken is =
     let lane : Lane = lane_of head number in
     record {
       asked = asked;
-      outs = opened_outs lane before.keeps event (wish_of head.terms event) (answer_in routing) (record { connection = option_map (duo_at before.taken) duo; outs = outputs }) wish opens;
-      taken = ap (λ o. o.taken) is ∙ sym (open_taken head.terms before.taken event wish);
+      outs = opened_outs lane (keeps_of before) event (wish_of head.terms event) (answer_in routing) (record { connection = option_map (duo_at before.taken) duo; outs = outputs }) wish opens;
+      taken = taken ∙ sym (open_taken head.terms before.taken event wish);
       keeps = ap needed
-          (opened_keeps lane before.keeps event (wish_of head.terms event) (answer_in routing) (record { connection = option_map (duo_at before.taken) duo; outs = outputs }) after.keeps opens
-          (ap (λ o. o.keeps) is ∙ ap (λ ks. map (remnant_after event) before.keeps ++ ks) (news_are head.terms.ticks before.taken duo ticks)));
+          (opened_keeps lane (keeps_of before) event (wish_of head.terms event) (answer_in routing) (record { connection = option_map (duo_at before.taken) duo; outs = outputs }) (keeps_of after) opens
+          (is
+          ∙ ap₂ (λ ks more. ks ++ more) (sym (open_unheard head.terms event (keeps_of before) wish orderly)) (news_are head.terms.ticks before.taken duo ticks)));
     }
 
 -- what is kept with the new connection is orderly
-pub open_orderly : (head : LaneHead) (number : ℕ) (event : Event) (before : OpeningsState) (answer : Option Answer) (duo : Option DuoState) (outputs : List Output) → number < 16 → AreOrderly before.keeps
-    → opened_in (lane_of head number) before.keeps (wish_of head.terms event) answer ≡ record { connection = option_map (duo_at before.taken) duo; outs = outputs }
-    → IfSome duo (λ d. d.ticks ≡ head.terms.ticks) → AreOrderly (map (remnant_after event) before.keeps ++ news before.taken duo)
-open_orderly head number event before answer duo outputs within orderly opens ticks =
+pub open_orderly : (head : LaneHead) (number : ℕ) (event : Event) (before : OpeningsState) (answer : Option Answer) (duo : Option DuoState) (outputs : List Output) → number < 16 → AreOrderly (keeps_of before)
+    → opened_in (lane_of head number) (keeps_of before) (wish_of head.terms event) answer ≡ record { connection = option_map (duo_at before.taken) duo; outs = outputs }
+    → IfSome duo (λ d. d.ticks ≡ head.terms.ticks) → is_wish (wish_of head.terms event) ≡ true → AreOrderly (keeps_of before ++ news before.taken duo)
+open_orderly head number event before answer duo outputs within orderly opens ticks wish =
     let lane : Lane = lane_of head number in
-    subst (λ ks. AreOrderly (map (remnant_after event) before.keeps ++ ks))
+    subst (λ ks. AreOrderly (ks ++ news before.taken duo)) (open_unheard head.terms event (keeps_of before) wish orderly)
+    (subst (λ ks. AreOrderly (map (remnant_after event) (keeps_of before) ++ ks))
     (ap (λ o. new_remnant head.terms.ticks o.connection) opens ∙ sym (news_are head.terms.ticks before.taken duo ticks))
-    (orderly_keeps lane before.keeps event (wish_of head.terms event) answer within orderly)
+    (orderly_keeps lane (keeps_of before) event (wish_of head.terms event) answer within orderly))
 
 others_untimed : (keeps : List Remnant) (event : Event) → is_tick event ≡ false → other_outs_in keeps event ≡ unheard (first_part event keeps) (stray_answer event)
 others_untimed keeps (Arrived point sls bytes) e = refl
@@ -249,18 +295,18 @@ untimed taken Tick e = absurd (cc)
 
 -- an event that a connection may hear
 pub hear_comes : (plant : PlantState) (head : LaneHead) (number : ℕ) (event : Event) (before after : OpeningsState) (part : Option (List Output)) (outputs : List Output)
-    → is_tick event ≡ false → is_wish (wish_of head.terms event) ≡ false → part ≡ first_part event before.keeps → outputs ≡ unheard part (stray_answer event)
-    → after ≡ record { taken = before.taken; keeps = map (remnant_after event) before.keeps } → Comes plant head number event before after None outputs
-hear_comes plant head number event before after part outputs no_tick wish parts outs is =
+    → is_tick event ≡ false → is_wish (wish_of head.terms event) ≡ false → part ≡ first_part event (keeps_of before) → outputs ≡ unheard part (stray_answer event)
+    → after.taken ≡ before.taken → keeps_of after ≡ map (remnant_after event) (keeps_of before) → Comes plant head number event before after None outputs
+hear_comes plant head number event before after part outputs no_tick wish parts outs taken is =
     let lane : Lane = lane_of head number in
     record {
       asked = sym (none_asked_of head plant event wish);
       outs =
           outs
           ∙ (ap (λ p. unheard p (stray_answer event)) parts
-          ∙ (sym (others_untimed before.keeps event no_tick) ∙ other_outs lane before.keeps event (wish_of head.terms event) None wish));
-      taken = ap (λ o. o.taken) is ∙ sym (untimed before.taken event no_tick);
-      keeps = ap needed (ap (λ o. o.keeps) is ∙ other_keeps lane before.keeps event (wish_of head.terms event) None wish);
+          ∙ (sym (others_untimed (keeps_of before) event no_tick) ∙ other_outs lane (keeps_of before) event (wish_of head.terms event) None wish));
+      taken = taken ∙ sym (untimed before.taken event no_tick);
+      keeps = ap needed (is ∙ other_keeps lane (keeps_of before) event (wish_of head.terms event) None wish);
     }
 
 no_wish_of_tick : (terms : Terms) → is_wish (wish_of terms Tick) ≡ false
@@ -268,16 +314,16 @@ unfolding wish_of
 no_wish_of_tick terms = refl
 
 -- a tick
-pub tick_comes : (plant : PlantState) (head : LaneHead) (number : ℕ) (before after : OpeningsState) (outputs : List Output) → outputs ≡ all_parts Tick before.keeps
-    → after ≡ record { taken = before.taken + 1; keeps = needed (map (remnant_after Tick) before.keeps) } → Comes plant head number Tick before after None outputs
-tick_comes plant head number before after outputs outs is =
+pub tick_comes : (plant : PlantState) (head : LaneHead) (number : ℕ) (before after : OpeningsState) (outputs : List Output) → outputs ≡ all_parts Tick (keeps_of before)
+    → after.taken ≡ before.taken + 1 → keeps_of after ≡ needed (map (remnant_after Tick) (keeps_of before)) → Comes plant head number Tick before after None outputs
+tick_comes plant head number before after outputs outs taken is =
     let lane : Lane = lane_of head number in
     let wish = no_wish_of_tick head.terms in
     record {
       asked = sym (none_asked_of head plant Tick wish);
-      outs = outs ∙ other_outs lane before.keeps Tick (wish_of head.terms Tick) None wish;
-      taken = ap (λ o. o.taken) is;
+      outs = outs ∙ other_outs lane (keeps_of before) Tick (wish_of head.terms Tick) None wish;
+      taken = taken;
       keeps =
-          ap (λ o. needed o.keeps) is
-          ∙ (needed_again (map (remnant_after Tick) before.keeps) ∙ ap needed (other_keeps lane before.keeps Tick (wish_of head.terms Tick) None wish));
+          ap needed is
+          ∙ (needed_again (map (remnant_after Tick) (keeps_of before)) ∙ ap needed (other_keeps lane (keeps_of before) Tick (wish_of head.terms Tick) None wish));
     }

@@ -1,4 +1,5 @@
 mod After
+mod Changed
 mod Free
 mod Gone
 mod Heard
@@ -8,7 +9,6 @@ mod LaneGrows
 mod Marked
 mod Needless
 mod Over
-mod Parts
 mod Seated
 mod Apart
 mod HeardAt

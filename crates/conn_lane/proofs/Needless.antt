@@ -1,9 +1,8 @@
 -- What a lane may drop of what it keeps: nothing hangs on it.
-use Rattle.std.proofs.Common.{◌≡◌, ℕ, ◌-◌, ◌==◌, ◌&&◌, ◌||◌, not, Bool, true, false, cond, List, [], ◌∷◌, ◌++◌, map, take, refl, sym, ap, ap₂, ◌∙◌, append-nil, arith, eqb-true}
+use Rattle.std.proofs.Common.{◌≡◌, ℕ, ◌-◌, ◌==◌, ◌&&◌, ◌||◌, not, Bool, true, false, cond, List, [], ◌∷◌, ◌++◌, map, take, refl, sym, ap, ap₂, ◌∙◌, arith, eqb-true}
 use Rattle.std.specs.Prelude.{Option, Some, None, is_some}
 use Rattle.std.specs.List.{list_any, range_with_len}
 use Rattle.std.proofs.lemmas.Bool.{eq-eqb}
-use Rattle.std.proofs.lemmas.List.{map-append}
 use Rattle.std.proofs.lemmas.List.Elements.{filter-append}
 use Rattle.relay_base.specs.declared.words.Event.{Event}
 use Rattle.relay_base.specs.declared.words.Event.TheVariants.{Message as Arrived, Asked as Requested, Tick}
@@ -13,7 +12,6 @@ use Rattle.relay_base.specs.References.{slot_of}
 use Rattle.section_model.specs.Lane.{Lane, enough, stray_answer}
 use Rattle.conn_lane.specs.Inner.Remnants.{Seat}
 use Rattle.conn_lane.specs.Inner.Remnants.{Live, Remnant, ticks_in, seat_after, remnant_after, part_at, first_of, first_part, or_none, all_parts, sits, takes_slot, lowest_in, holds_out, is_needed, needed}
-use Rattle.conn_lane.specs.Inner.Views.{KeptOpeningState, remnant_at, remnants_at}
 use Rattle.conn_lane.specs.Laws.{unheard}
 use Rattle.conn_lane.specs.Inner.Turns.{opened_in, other_outs_in, outs_in, new_remnant, keeps_in}
 use Rattle.conn_lane.proofs.Free.{filter_alike}
@@ -130,21 +128,3 @@ keeps_needed lane keeps event wish answer =
     filter-append is_needed (map (remnant_after event) keeps) (new_remnant lane.terms.ticks (opened_in lane keeps wish answer).connection)
     ∙ (ap₂ (λ old new. old ++ new) (after-alike event keeps) (ap (λ o. needed (new_remnant lane.terms.ticks o.connection)) (opened-alike lane keeps wish answer))
     ∙ sym (filter-append is_needed (map (remnant_after event) (needed keeps)) (new_remnant lane.terms.ticks (opened_in lane (needed keeps) wish answer).connection)))
-
--- one opening more
-pub needed_more : (now : ℕ) (next yielded : List KeptOpeningState) (one : KeptOpeningState) → remnants_at now next ≡ needed (remnants_at now yielded) → is_needed (remnant_at now one) ≡ true
-    → remnants_at now (next ++ one ∷ []) ≡ needed (remnants_at now (yielded ++ one ∷ []))
-needed_more now next yielded one same e =
-    map-append (remnant_at now) next (one ∷ [])
-    ∙ (ap₂ (λ old b. old ++ cond b (remnant_at now one ∷ []) []) same (sym e)
-    ∙ (sym (filter-append is_needed (remnants_at now yielded) (remnant_at now one ∷ []))
-    ∙ ap needed (sym (map-append (remnant_at now) yielded (one ∷ [])))))
-
-pub needed_same : (now : ℕ) (next yielded : List KeptOpeningState) (one : KeptOpeningState) → remnants_at now next ≡ needed (remnants_at now yielded) → is_needed (remnant_at now one) ≡ false
-    → remnants_at now next ≡ needed (remnants_at now (yielded ++ one ∷ []))
-needed_same now next yielded one same e =
-    same
-    ∙ (sym (append-nil (needed (remnants_at now yielded)))
-    ∙ (ap (λ b. needed (remnants_at now yielded) ++ cond b (remnant_at now one ∷ []) []) (sym e)
-    ∙ (sym (filter-append is_needed (remnants_at now yielded) (remnant_at now one ∷ []))
-    ∙ ap needed (sym (map-append (remnant_at now) yielded (one ∷ []))))))

@@ -1,7 +1,9 @@
+pub mod Changes
 pub mod Finding
 pub mod Grown
 pub mod Index
 pub mod Remnants
 pub mod Seated
+pub mod Ticked
 pub mod Turns
 pub mod Views

@@ -126,16 +126,23 @@ impl Index {
         }
     }
 
-    /// The index of these openings, after so many ticks.
-    pub fn of(alloc: Global, now: u64, kept: &[KeptOpening]) -> Result<Index, Memory>
-        ensures { IfOk result (λ index. IsIndexOf (remnants_at now kept.now) index) }
+    /// Forgets all openings.
+    fn clear(&mut self)
+        ensures { self.new ≡ replicate 4096 None }
     {
-        let mut index = Index::new(alloc)?;
+        self.places.fill(None);
+        self.first = 1;
+    }
+
+    /// Notes these openings, after so many ticks, and no others.
+    pub fn refill(&mut self, now: u64, kept: &[KeptOpening])
+        ensures { IsIndexOf (remnants_at now kept.now) self.new }
+    {
+        self.clear();
         for (place, one) in kept.iter().enumerate() {
-            index.take(now, place, one);
+            self.take(now, place, one);
         }
-        index.advance();
-        Ok(index)
+        self.advance();
     }
 
     /// The local references of the lowest free slots, in the lane of this number, at most so many.

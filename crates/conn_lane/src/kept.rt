@@ -8,6 +8,7 @@ ghost use Rattle.section_coupling.specs.Duos.{duo_at, taken_after, end_numbered}
 ghost use Rattle.conn_lane.specs.Inner.Remnants.{remnant_of, remnant_after, seat_after, part_in, part_at, or_none, live_of, seat_by, holds_out, is_needed, is_freed, has_freed};
 ghost use Rattle.conn_lane.specs.Inner.Seated.{IsSeated};
 ghost use Rattle.conn_lane.specs.Inner.Views.{IsAlive, HearsAt, live_at, until_after, seat_at, remnant_at};
+ghost use Rattle.conn_lane.specs.Inner.Ticked.{next_or};
 
 use relay_base::{Event, Memory, Outs, Ref24};
 use section_coupling::{Duo, taken_after};
@@ -29,6 +30,13 @@ pub struct KeptOpening {
     pub this: Option<Hold>,
     pub that: Option<Hold>,
     pub wakes: u64,
+}
+
+/// What an event makes of an opening, and the outputs of its connection.
+#[derive(Drop)]
+pub struct Heard {
+    pub next: KeptOpening,
+    pub outs: Outs,
 }
 
 impl Model for KeptOpening {
@@ -178,56 +186,46 @@ impl KeptOpening {
         })
     }
 
-    /// Whether its connection hears an event.
-    pub fn hears(&self, event: &Event) -> bool
-        ensures { (now : ℕ) → IsTrue result ↔ HearsAt now event.now self.now.duo }
-    {
-        match &self.duo {
-            Some(duo) => duo.hears(event),
-            None => false,
-        }
-    }
-
-    /// An event that its connection hears, and the outputs of that. After `Memory` all is as before.
-    pub fn hear(&mut self, alloc: Global, now: u32, event: &Event) -> Result<Outs, Memory>
-        requires hears { HearsAt now event.now self.old.duo }
-        ensures keeping { let later = taken_after now event.now in
-            OnOk result
-            (remnant_at later self.new ≡ remnant_after event.now (remnant_at now self.old)) }
-        ensures outs { let live = option_map (live_at now) self.old.duo in
-            IfOk result (λ outs. Some outs ≡ part_at event.now live) }
-        ensures err { OnErr result (self.new ≡ self.old) }
+    /// What an event makes of the opening; None where its connection doesn't hear it. `now` is how many ticks the lane took before.
+    pub fn hear(&self, alloc: Global, now: u32, event: &Event) -> Result<Option<Heard>, Memory>
+        ensures keeping { let later = taken_after now event.now in IfOk result (λ heard.
+            IfSome heard (λ h.
+            remnant_at later h.next ≡ remnant_after event.now (remnant_at now self.now))) }
+        ensures part { let live = option_map (live_at now) self.now.duo in IfOk result (λ heard.
+            option_map (λ h. h.outs) heard ≡ part_at event.now live) }
     {
         let Some(duo) = &self.duo else {
-            return Ok(Outs::new(alloc));
+            return Ok(None);
         };
+        if !duo.hears(event) {
+            return Ok(None);
+        }
         let (duo, outs) = feed(duo, now, event)?;
         let this = hold_after(now, event, &duo, 0, self.this);
         let that = hold_after(now, event, &duo, 1, self.that);
         let wakes = duo.wakes();
         let duo = unless_over(alloc, duo)?;
-        *self = KeptOpening {
+        let next = KeptOpening {
             duo,
             this,
             that,
             wakes,
         };
-        Ok(outs)
+        Ok(Some(Heard { next, outs }))
     }
 
-    /// A tick, and the outputs of that: none where it only brings timers nearer. `now` is how many ticks the lane took before. After `Memory` all
-    /// is as before.
+    /// What a tick makes of the opening; None where it only brings timers nearer. `now` is how many ticks the lane took before.
     #[tactic(auto, using(crate::proofs::Holds::sleeps_on))]
-    pub fn tick(&mut self, alloc: Global, now: u32) -> Result<Outs, Memory>
-        requires seated { IsSeated (remnant_at now self.old) }
-        ensures keeping { OnOk result
-            (remnant_at (now + 1) self.new ≡ remnant_after Tick (remnant_at now self.old)) }
-        ensures outs { let live = option_map (live_at now) self.old.duo in
-            IfOk result (λ outs. outs ≡ or_none (part_at Tick live)) }
-        ensures err { OnErr result (self.new ≡ self.old) }
+    pub fn tick(&self, alloc: Global, now: u32) -> Result<Option<Heard>, Memory>
+        requires seated { IsSeated (remnant_at now self.now) }
+        ensures keeping { IfOk result (λ heard.
+            remnant_at (now + 1) (next_or self.now heard) ≡
+            remnant_after Tick (remnant_at now self.now)) }
+        ensures outs { let live = option_map (live_at now) self.now.duo in IfOk result (λ heard.
+            or_none (option_map (λ h. h.outs) heard) ≡ or_none (part_at Tick live)) }
     {
-        if self.duo.is_none() || u64::from(now) + 1 < self.wakes {
-            return Ok(Outs::new(alloc));
+        if u64::from(now) + 1 < self.wakes {
+            return Ok(None);
         }
         self.hear(alloc, now, &Event::Tick)
     }

@@ -10,15 +10,16 @@ ghost use Rattle.section_model.specs.Lane.{stray_answer, is_tick};
 ghost use Rattle.section_coupling.specs.Duos.{duo_at};
 ghost use Rattle.section_coupling.specs.Openings.{IsAnswered, is_wish};
 ghost use Rattle.section_coupling.specs.Sound.{IsCredit};
-ghost use Rattle.conn_lane.specs.Inner.Remnants.{remnant_after};
 ghost use Rattle.conn_lane.specs.Laws.{unheard};
-ghost use Rattle.conn_lane.specs.Inner.Seated.{AreOrderly};
-ghost use Rattle.conn_lane.specs.Inner.Views.{news};
+ghost use Rattle.plant_core.specs.Plant.{PlantState};
+ghost use Rattle.conn_lane.specs.Inner.Views.{keeps_of};
+ghost use Rattle.conn_lane.specs.Inner.Changes.{Fits, changed};
 ghost use Rattle.conn_lane.specs.Inner.Turns.{opened_in};
 ghost use Rattle.conn_lane.specs.Journals.{lane_of};
 ghost use Rattle.conn_lane.specs.Lanes.{conn_asked_of};
 ghost use Rattle.conn_lane.specs.Inner.Grown.{TurnsInto, Grows};
 
+use crate::change::Change;
 use crate::openings::Openings;
 use plant_core::{Answer, Asked, Entry, EntryList, LaneHead, Plant, fitted};
 use relay_base::{Event, Memory, Outs, Stamp};
@@ -34,8 +35,7 @@ pub struct ConnLane {
     head: LaneHead,
     number: u8,
     journal: EntryList,
-    /// What is kept of its openings; nothing once memory ran out in mid-event, after which the lane takes no more.
-    openings: Option<Openings>,
+    openings: Openings,
 }
 
 impl Model for ConnLane {
@@ -59,10 +59,10 @@ fn asked_by(plant: &Plant, event: &Event) -> Option<Asked>
     }
 }
 
-/// What comes of an event: what is kept then, the routing where it asked one, and the outputs.
+/// What comes of an event: what it changes in the openings, the routing where it asked one, and the outputs.
 #[derive(Drop)]
 struct Turn {
-    openings: Openings,
+    change: Change,
     asked: Option<Asked>,
     outs: Outs,
 }
@@ -116,21 +116,6 @@ fn needed(event: &Event, answer: Option<&Answer>) -> u8
     }
 }
 
-/// The openings after an event that opens a connection, with that.
-fn joined(event: &Event, openings: Openings, duo: Option<Duo>) -> Result<Openings, Memory>
-    requires event { is_tick event.now ≡ false }
-    requires taken { openings.taken ≤ 4_294_967_295 }
-    requires orderly { let later = map (remnant_after event.now) openings.keeps in
-        AreOrderly (later ++ news openings.taken duo) }
-    ensures { IfOk result (λ after. after ≡ record {
-      taken = openings.taken;
-      keeps = map (remnant_after event.now) openings.keeps ++ news openings.taken duo;
-    }) }
-{
-    let (openings, _) = openings.hear(event)?;
-    openings.with(duo)
-}
-
 impl Context {
     /// Opens a connection with the lowest free references.
     #[tactic(auto, using(crate::proofs::LaneGrows::opens_so))]
@@ -147,7 +132,7 @@ impl Context {
             IsAnswered wish (answer_in asked.now) }
         ensures opened { let lane = lane_of self.now.head self.now.number in
             let wish = wish_of self.now.head.terms event.now in IfOk result (λ b.
-            opened_in lane openings.now.keeps wish (answer_in asked.now) ≡
+            opened_in lane (keeps_of openings.now) wish (answer_in asked.now) ≡
             record {
               connection = option_map (duo_at openings.now.taken) b.duo;
               outs = b.outs;
@@ -170,86 +155,89 @@ impl Context {
     }
 
     /// A CR, or a user's request for a connection.
-    fn open(&self, plant: &Plant, event: &Event, openings: Openings) -> Result<Turn, Memory>
-        requires taken { openings.taken ≤ 4_294_967_295 }
+    fn open(&self, plant: &Plant, event: &Event, openings: &Openings) -> Result<Turn, Memory>
+        requires taken { openings.now.taken ≤ 4_294_967_295 }
         requires number { self.now.number < MOST_LANES }
         requires credit { IsCredit self.now.head.terms.credit }
         requires wish { is_wish (wish_of self.now.head.terms event.now) ≡ true }
-        ensures { IfOk result (λ turn. TurnsInto plant.now self.now event.now openings turn) }
+        ensures { IfOk result (λ turn. TurnsInto plant.now self.now event.now openings.now turn) }
     {
         let asked = asked_by(plant, event);
-        let begun = self.begin(event, &asked, &openings)?;
-        let openings = joined(event, openings, begun.duo)?;
+        let begun = self.begin(event, &asked, openings)?;
+        let change = openings.open(begun.duo)?;
         Ok(Turn {
-            openings,
+            change,
             asked,
             outs: begun.outs,
         })
     }
 
-    /// A tick.
-    fn tick(&self, plant: &Plant, openings: Openings) -> Result<Turn, Memory>
-        requires taken { openings.taken ≤ 4_294_967_295 }
-        ensures { IfOk result (λ turn. TurnsInto plant.now self.now Tick openings turn) }
+    /// An event that opens no connection, and is no tick.
+    fn hear(&self, event: &Event, openings: &Openings) -> Result<Turn, Memory>
+        requires taken { openings.now.taken ≤ 4_294_967_295 }
+        requires event { is_tick event.now ≡ false }
+        requires wish { is_wish (wish_of self.now.head.terms event.now) ≡ false }
+        ensures { (plant : PlantState) →
+            IfOk result (λ turn. TurnsInto plant self.now event.now openings.now turn) }
     {
-        let (openings, outs) = openings.tick()?;
+        let (change, part) = openings.hear(event)?;
+        let outs = or_stray(self.alloc, event, part)?;
         Ok(Turn {
-            openings,
+            change,
             asked: None,
             outs,
         })
     }
 
-    /// An event that opens no connection, and is no tick.
-    fn hear(&self, plant: &Plant, event: &Event, openings: Openings) -> Result<Turn, Memory>
-        requires taken { openings.taken ≤ 4_294_967_295 }
-        requires event { is_tick event.now ≡ false }
-        requires wish { is_wish (wish_of self.now.head.terms event.now) ≡ false }
-        ensures { IfOk result (λ turn. TurnsInto plant.now self.now event.now openings turn) }
+    /// A tick.
+    fn tick(&self, openings: &Openings) -> Result<Turn, Memory>
+        requires taken { openings.now.taken ≤ 4_294_967_295 }
+        ensures { (plant : PlantState) →
+            IfOk result (λ turn. TurnsInto plant self.now Tick openings.now turn) }
     {
-        let (openings, part) = openings.hear(event)?;
-        let outs = or_stray(self.alloc, event, part)?;
+        let (change, outs) = openings.tick()?;
         Ok(Turn {
-            openings,
+            change,
             asked: None,
             outs,
         })
     }
 
     /// What comes of an event.
-    fn turn(&self, plant: &Plant, event: &Event, openings: Openings) -> Result<Turn, Memory>
-        requires taken { openings.taken ≤ 4_294_967_295 }
+    fn turn(&self, plant: &Plant, event: &Event, openings: &Openings) -> Result<Turn, Memory>
+        requires taken { openings.now.taken ≤ 4_294_967_295 }
         requires number { self.now.number < MOST_LANES }
         requires credit { IsCredit self.now.head.terms.credit }
-        ensures { IfOk result (λ turn. TurnsInto plant.now self.now event.now openings turn) }
+        ensures { IfOk result (λ turn. TurnsInto plant.now self.now event.now openings.now turn) }
     {
         if matches!(event, Event::Tick) {
-            self.tick(plant, openings)
+            self.tick(openings)
         } else if opens(event) {
             self.open(plant, event, openings)
         } else {
-            self.hear(plant, event, openings)
+            self.hear(event, openings)
         }
     }
 
-    /// The entry of an event, and what is kept then.
+    /// The entry of an event, and what it changes in the openings.
     fn entry(
         &self,
         plant: &Plant,
         stamp: Stamp,
         event: &Event,
-        openings: Openings,
-    ) -> Result<(Openings, Entry), Memory>
-        requires taken { openings.taken ≤ 4_294_967_295 }
+        openings: &Openings,
+    ) -> Result<(Change, Entry), Memory>
+        requires taken { openings.now.taken ≤ 4_294_967_295 }
         requires number { self.now.number < MOST_LANES }
         requires credit { IsCredit self.now.head.terms.credit }
-        ensures grows { IfOk result (λ r.
-            Grows plant.now self.now.head self.now.number openings r.0 r.1) }
+        ensures grows { IfOk result (λ r. Grows plant.now self.now.head self.now.number
+            openings.now (changed r.0 openings.now) r.1) }
+        ensures fits { IfOk result (λ r. Fits r.0 openings.now) }
         ensures stamp { IfOk result (λ r. r.1.stamp ≡ stamp) }
         ensures event { IfOk result (λ r. r.1.event ≡ event.now) }
     {
         let Turn {
-            openings,
+            change,
             asked,
             outs,
         } = self.turn(plant, event, openings)?;
@@ -260,7 +248,7 @@ impl Context {
             asked,
             outs: fitted(outs),
         };
-        Ok((openings, entry))
+        Ok((change, entry))
     }
 }
 
@@ -280,28 +268,23 @@ impl ConnLane {
             head: *head,
             number,
             journal: EntryList::new(alloc),
-            openings: Some(Openings::new(alloc)?),
+            openings: Openings::new(alloc)?,
         })
     }
 
-    /// Takes an event, with these routing data. After want of memory the journal is as before, and the lane takes no more.
+    /// Takes an event, with these routing data. After want of memory the lane is as before, and takes a later event like any other.
     pub fn step(&mut self, plant: &Plant, stamp: Stamp, event: &Event) -> Result<(), Memory>
         requires few { length self.old.journal < 2 ^ 32 }
         ensures ok { OnOk result (ConnLaneTakes plant.now stamp event.now self.old self.new) }
         ensures err { OnErr result (self.new ≡ self.old) }
     {
-        let Some(openings) = self.openings.take() else {
-            return Err(Memory);
-        };
         let context = Context {
             alloc: self.alloc,
             head: self.head,
             number: self.number,
         };
-        let (openings, entry) = context.entry(plant, stamp, event, openings)?;
-        self.journal.push(entry)?;
-        self.openings = Some(openings);
-        Ok(())
+        let (change, entry) = context.entry(plant, stamp, event, &self.openings)?;
+        self.openings.write(change, &mut self.journal, entry)
     }
 
     /// What the lane did, event by event.

@@ -1,6 +1,7 @@
 //! The connection lane: the connections of one lane, and its journal.
 #![tactic(auto)]
 
+mod change;
 mod index;
 mod kept;
 mod lane;

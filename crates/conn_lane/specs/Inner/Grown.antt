@@ -14,20 +14,22 @@ use Rattle.conn_lane.specs.declared.lane.Turn.{Turn}
 use Rattle.conn_lane.specs.Inner.Remnants.{needed}
 use Rattle.conn_lane.specs.Journals.{lane_of}
 use Rattle.conn_lane.specs.Lanes.{conn_asked_of}
-use Rattle.conn_lane.specs.Inner.Views.{OpeningsState}
+use Rattle.conn_lane.specs.Inner.Changes.{Fits, changed}
+use Rattle.conn_lane.specs.Inner.Views.{OpeningsState, keeps_of}
 use Rattle.conn_lane.specs.Inner.Turns.{outs_in, keeps_in}
 
 -- what comes of an event: the routing that it asks, the outputs, and what is kept
 pub record Comes (plant : PlantState) (head : LaneHead) (number : ℕ) (event : Event) (before after : OpeningsState) (routing : Option Asked) (outputs : List Output) : Type 0 where
   pub asked : routing ≡ conn_asked_of head plant event
-  pub outs : outputs ≡ outs_in (lane_of head number) before.keeps event (wish_of head.terms event) (answer_in routing)
+  pub outs : outputs ≡ outs_in (lane_of head number) (keeps_of before) event (wish_of head.terms event) (answer_in routing)
   pub taken : after.taken ≡ taken_after before.taken event
-  pub keeps : needed after.keeps ≡ needed (keeps_in (lane_of head number) before.keeps event (wish_of head.terms event) (answer_in routing))
+  pub keeps : needed (keeps_of after) ≡ needed (keeps_in (lane_of head number) (keeps_of before) event (wish_of head.terms event) (answer_in routing))
 
 -- one more entry, with what comes of its event
 abbrev pub Grows : PlantState → LaneHead → ℕ → OpeningsState → OpeningsState → Entry → Type 0
 Grows plant head number before after entry = Comes plant head number entry.event before after entry.asked entry.outs
 
--- what comes of an event in a lane, as the code has it
-abbrev pub TurnsInto : PlantState → Context → Event → OpeningsState → Turn → Type 0
-TurnsInto plant lane event before turn = Comes plant lane.head lane.number event before turn.openings turn.asked turn.outs
+-- what comes of an event in a lane, as the code has it: a change that can be made
+pub record TurnsInto (plant : PlantState) (lane : Context) (event : Event) (before : OpeningsState) (turn : Turn) : Type 0 where
+  pub fits : Fits turn.change before
+  pub comes : Comes plant lane.head lane.number event before (changed turn.change before) turn.asked turn.outs

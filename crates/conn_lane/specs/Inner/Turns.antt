@@ -1,5 +1,5 @@
 -- What comes of an event in a connection lane, from what it keeps of its openings.
-use Rattle.std.specs.Prelude.{◌≡◌, ℕ, ◌≤◌, ◌<◌, List, [], ◌∷◌, ◌++◌, length, map, Option, Some, None, IfSome}
+use Rattle.std.specs.Prelude.{◌≡◌, ℕ, ◌≤◌, ◌<◌, List, [], ◌∷◌, ◌++◌, length, map, Option, Some, None}
 use Rattle.relay_base.specs.declared.limits.TheConstants.{MOST_LANES}
 use Rattle.relay_base.specs.declared.words.Event.{Event}
 use Rattle.relay_base.specs.declared.words.Event.TheVariants.{Message as Arrived, Asked as Requested, Tick}
@@ -16,7 +16,7 @@ use Rattle.section_coupling.specs.Sound.{IsCredit}
 use Rattle.conn_lane.specs.Inner.Remnants.{Remnant, remnant_of, remnant_after, first_part, all_parts, lowest_in, needed}
 use Rattle.conn_lane.specs.Laws.{unheard}
 use Rattle.conn_lane.specs.Journals.{IsConnJournal, lane_of}
-use Rattle.conn_lane.specs.Inner.Views.{OpeningsState}
+use Rattle.conn_lane.specs.Inner.Views.{OpeningsState, keeps_of}
 
 -- the opening for a wish, with the lowest free references
 abbrev pub opened_in : Lane → List Remnant → Wish → Option Answer → Opened
@@ -43,12 +43,12 @@ keeps_in lane keeps event wish answer =
 
 -- what the lane keeps is, as far as it is needed, that of its journal's openings
 pub record KeepsRemnants (head : LaneHead) (number : ℕ) (journal : List Entry) (o : OpeningsState) : Type 0 where
-  pub keeps : needed o.keeps ≡ needed (map (remnant_of head.terms.ticks) (openings_from (lane_of head number) [] journal))
+  pub keeps : needed (keeps_of o) ≡ needed (map (remnant_of head.terms.ticks) (openings_from (lane_of head number) [] journal))
   pub few : o.taken ≤ length journal
 
--- the journal is legal, and unless want of memory spoilt it the lane keeps what it has to
-pub record IsConnLane (head : LaneHead) (number : ℕ) (journal : List Entry) (openings : Option OpeningsState) : Type 0 where
+-- the journal is legal, and the lane keeps what it has to
+pub record IsConnLane (head : LaneHead) (number : ℕ) (journal : List Entry) (openings : OpeningsState) : Type 0 where
   pub legal : IsConnJournal head number journal
-  pub keeps : IfSome openings (KeepsRemnants head number journal)
+  pub keeps : KeepsRemnants head number journal openings
   pub lanes : number < MOST_LANES
   pub credit : IsCredit head.terms.credit

@@ -48,10 +48,14 @@ remnant_at now k = record {
 abbrev pub remnants_at : ℕ → List KeptOpeningState → List Remnant
 remnants_at now kept = map (remnant_at now) kept
 
--- how many ticks a lane has taken, and what it keeps of its openings
+-- how many ticks a lane has taken, and what its code keeps of its openings
 pub record OpeningsState : Type 0 where
   pub taken : ℕ
-  pub keeps : List Remnant
+  pub kept : List KeptOpeningState
+
+-- what it keeps of them, after those ticks
+abbrev pub keeps_of : OpeningsState → List Remnant
+keeps_of o = remnants_at o.taken o.kept
 
 -- its connection hears an event
 abbrev pub HearsAt : ℕ → Event → Option DuoState → Type 0
