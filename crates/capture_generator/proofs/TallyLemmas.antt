@@ -8,8 +8,8 @@ use Rattle.relay_base.specs.declared.words.Output.TheVariants.{Sent, Told, Lost}
 use Rattle.plant_core.specs.declared.entry.Entry.{Entry}
 use Rattle.journal_text.specs.declared.book.Book.{Book}
 use Rattle.capture_generator.specs.declared.tally.Counts.{Counts}
-use Rattle.capture_generator.specs.Counts.{Totals, totals_of, counted, outputs_in, is_sent, is_told, is_lost}
-use Rattle.capture_generator.specs.Inner.Tally.{all_counted, with_output, with_entry, with_journal, with_control, with_lanes}
+use Rattle.capture_generator.specs.Counts.{counted, outputs_in, is_sent, is_told, is_lost}
+use Rattle.capture_generator.specs.Inner.Tally.{Totals, totals_of, all_counted, with_output, with_entry, with_journal, with_control, with_lanes}
 
 abbrev no_totals : Totals
 no_totals = record { entries = 0; sent = 0; told = 0; lost = 0 }

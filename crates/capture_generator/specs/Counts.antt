@@ -28,32 +28,22 @@ outputs_in journal = map (λ e. e.outs) journal
 abbrev pub outputs_of : Book → List (List Output)
 outputs_of book = map (λ e. e.outs) book.control ++ flat_map outputs_in book.conns ++ flat_map outputs_in book.units
 
--- how many entries there are, and how many of their outputs are messages that were sent, what users were told, and losses
-pub record Totals : Type 0 where
-  pub entries : ℕ
-  pub sent : ℕ
-  pub told : ℕ
-  pub lost : ℕ
+-- a number above 18,446,744,073,709,551,615 is written as that one
+abbrev pub counted : ℕ → ℕ
+counted n = min n (2 ^ 64 - 1)
 
-abbrev pub totals_of : Book → Totals
-totals_of book =
-    let outputs = outputs_of book in record {
-      entries = length outputs;
-      sent = sum_by (count_by is_sent) outputs;
-      told = sum_by (count_by is_told) outputs;
-      lost = sum_by (count_by is_lost) outputs;
-    }
+-- how many of the outputs are of a kind
+abbrev pub many : (Output → Bool) → List (List Output) → ℕ
+many is outputs = counted (sum_by (count_by is) outputs)
 
--- the line of counts, without its end
+-- how many lines and entries there are, and how many of their outputs are messages that were sent, what users were told, and losses
 abbrev pub counts_line : ℕ → ℕ → ℕ → ℕ → ℕ → List ℕ
 counts_line lines entries sent told lost = spaced (
     codes "lines" ∷ decimal lines ∷ codes "entries" ∷ decimal entries ∷ codes "sent" ∷ decimal sent
     ∷ codes "told" ∷ decimal told ∷ codes "lost" ∷ decimal lost ∷ []
     )
 
--- a number above 18,446,744,073,709,551,615 is written as that one
-abbrev pub counted : ℕ → ℕ
-counted n = min n (2 ^ 64 - 1)
-
-abbrev pub counts_text : ℕ → Totals → List ℕ
-counts_text lines t = counts_line lines (counted t.entries) (counted t.sent) (counted t.told) (counted t.lost)
+abbrev pub counts_text : ℕ → Book → List ℕ
+counts_text lines book =
+    let outputs = outputs_of book in
+    counts_line lines (counted (length outputs)) (many is_sent outputs) (many is_told outputs) (many is_lost outputs)

@@ -1,7 +1,7 @@
 //! How many entries and outputs the journals of a book have.
 ghost use Rattle.std.specs.Prelude.{◌≡◌, ◌++◌, codes, string_bytes, IfOk};
-ghost use Rattle.capture_generator.specs.Counts.{totals_of, counts_line, counts_text};
-ghost use Rattle.capture_generator.specs.Inner.Tally.{all_counted, with_output, with_entry, with_journal, with_control, with_lanes};
+ghost use Rattle.capture_generator.specs.Counts.{counts_line, counts_text};
+ghost use Rattle.capture_generator.specs.Inner.Tally.{totals_of, all_counted, with_output, with_entry, with_journal, with_control, with_lanes};
 
 use journal_text::Book;
 use plant_core::{ControlEntry, Entry, EntryList};
@@ -102,7 +102,7 @@ fn counts_text(alloc: Global, lines: u32, counts: &Counts) -> Result<String, All
 /// The line of counts of a run over so many lines: how many entries all journals have, and how many of their outputs are sent, told
 /// and lost. A count stays at its last value, 18,446,744,073,709,551,615.
 pub fn counts_line(alloc: Global, lines: u32, book: &Book) -> Result<Octets, Memory>
-    ensures { IfOk result (λ o. o ≡ counts_text lines (totals_of book.now) ++ codes "\n") }
+    ensures { IfOk result (λ o. o ≡ counts_text lines book.now ++ codes "\n") }
 {
     let text = counts_text(alloc, lines, &counts_of(book))?;
     let mut line = Octets::from(text.into_bytes());

@@ -19,7 +19,7 @@ use Rattle.journal_text.specs.Print.{book_text}
 use Rattle.command_words.specs.declared.command.Command.{Command}
 use Rattle.command_words.specs.declared.command.Command.TheVariants.{Run, Generate}
 use Rattle.capture_generator.specs.Generator.{generated_capture}
-use Rattle.capture_generator.specs.Counts.{totals_of, counts_text}
+use Rattle.capture_generator.specs.Counts.{counts_text}
 use Rattle.node_engine.specs.Right.{IsRight}
 use Rattle.book_law.specs.Sequential.{IsSequential}
 
@@ -81,7 +81,7 @@ Untouched written book = Keeps written.before written.after × IsEmpty book
 -- what a command writes of a book: its print, or the line of its counts
 abbrev pub output_of : Command → Book → List ℕ
 output_of Run book = book_text book
-output_of (Generate number lines) book = counts_text lines (totals_of book) ++ codes "\n"
+output_of (Generate number lines) book = counts_text lines book ++ codes "\n"
 
 -- the book is right for the capture, and this is said of what is written of it
 abbrev pub Filled : (List ℕ → Type 0) → Command → Capture → Book → Type 0

@@ -8,7 +8,7 @@ ghost use Rattle.node_engine.specs.Right.{IsRight};
 ghost use Rattle.command_words.specs.Commands.{command_in};
 ghost use Rattle.command_words.specs.declared.command.Command.TheVariants.{Run, Generate};
 ghost use Rattle.capture_generator.specs.Generator.{generated_capture};
-ghost use Rattle.capture_generator.specs.Counts.{totals_of, counts_text};
+ghost use Rattle.capture_generator.specs.Counts.{counts_text};
 ghost use Rattle.relay_call.specs.Outcome.{bytes, ReadAs, Wrote, WrotePart, Filled, FilledBy, IsDone};
 ghost use Rattle.relay_call.specs.Inner.Stops.{TakesNone, StoppedLate, Stopped};
 
@@ -53,9 +53,9 @@ fn write_counts<K: Sink>(
     book: &Book,
     out: &mut K,
 ) -> Result<(), WriteFault>
-    ensures ok { let text = counts_text lines (totals_of book.now) ++ codes "\n" in
+    ensures ok { let text = counts_text lines book.now ++ codes "\n" in
         OnOk result (Wrote (bytes (K.held out.old) (K.held out.new)) text) }
-    ensures err { let text = counts_text lines (totals_of book.now) ++ codes "\n" in
+    ensures err { let text = counts_text lines book.now ++ codes "\n" in
         OnErr result (WrotePart (bytes (K.held out.old) (K.held out.new)) text) }
     ensures fault { result ≡ Err WriteFault.Sink → Rose (K.faults out.old) (K.faults out.new) }
     ensures kept { result ≢ Err WriteFault.Sink → K.faults out.new ≡ K.faults out.old }

@@ -1,11 +1,28 @@
 -- How the code counts: each number stays at the last one of its width.
-use Rattle.std.specs.Prelude.{◌+◌, List, fold}
+use Rattle.std.specs.Prelude.{ℕ, ◌+◌, List, length, fold}
+use Rattle.std.specs.List.{count_by, sum_by}
 use Rattle.relay_base.specs.declared.words.Output.{Output}
 use Rattle.relay_base.specs.declared.words.Output.TheVariants.{Sent, Told, Lost}
 use Rattle.plant_core.specs.declared.entry.Entry.{Entry}
 use Rattle.plant_core.specs.declared.entry.ControlEntry.{ControlEntry}
-use Rattle.capture_generator.specs.Counts.{Totals, counted}
+use Rattle.journal_text.specs.declared.book.Book.{Book}
+use Rattle.capture_generator.specs.Counts.{counted, outputs_of, is_sent, is_told, is_lost}
 use Rattle.capture_generator.specs.declared.tally.Counts.{Counts}
+
+pub record Totals : Type 0 where
+  pub entries : ℕ
+  pub sent : ℕ
+  pub told : ℕ
+  pub lost : ℕ
+
+abbrev pub totals_of : Book → Totals
+totals_of book =
+    let outputs = outputs_of book in record {
+      entries = length outputs;
+      sent = sum_by (count_by is_sent) outputs;
+      told = sum_by (count_by is_told) outputs;
+      lost = sum_by (count_by is_lost) outputs;
+    }
 
 abbrev pub all_counted : Totals → Counts
 all_counted t = record { entries = counted t.entries; sent = counted t.sent; told = counted t.told; lost = counted t.lost }
