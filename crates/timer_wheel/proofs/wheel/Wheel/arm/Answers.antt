@@ -1,10 +1,15 @@
-use Rattle.std.proofs.Common.{◌≡◌, ◌+◌, [], ◌∷◌, ◌++◌, length, length-append, append_assoc, sym, ap, ap₂, ◌∙◌, subst, arith, All, ◌<◌}
+use Rattle.std.proofs.Common.{◌≡◌, ◌+◌, List, [], ◌∷◌, ◌++◌, length, length-append, append_assoc, sym, ap, ap₂, ◌∙◌, subst, arith, All, ◌<◌}
 use Rattle.timer_wheel.specs.declared.due.Alarm.{Alarm}
 use Rattle.timer_wheel.specs.Timers.{Timers, timer_of, with_timer}
 use Rattle.timer_wheel.specs.Inner.Tree.{alarms, Rises, before, behind}
 use Rattle.timer_wheel.specs.Inner.Turning.{armed_at}
 use Rattle.timer_wheel.proofs.Turns.{with_at, others_count, rises_with, later_with}
 use Rattle.timer_wheel.proofs.wheel.Wheel.arm.Goals as goal
+
+-- one alarm between the front and the back of a list
+between : {whole half left one right front back : List Alarm} {alarm : Alarm} → whole ≡ half ++ right → half ≡ left ++ one → left ≡ front → one ≡ alarm ∷ []
+    → right ≡ back → whole ≡ front ++ alarm ∷ back
+between w h l o r = w ∙ ap₂ (λ x y. x ++ y) (h ∙ ap₂ (λ x y. x ++ y) l o) r ∙ append_assoc _ (_ ∷ []) _
 
 pub taken-requires : goal.taken-requires
 taken-requires c =
@@ -25,9 +30,7 @@ invariant_of-self c =
     let alarm : Alarm = record { due = due; tick = c.self.inside.passed + c.args.ticks } in
     let alone : alarms c.planted-timer.result ≡ alarm ∷ [] =
     c.planted-timer.ensures.alarms ∙ ap (λ n. let a : Alarm = record { due = due; tick = c.self.inside.passed + n } in a ∷ []) c.from.ensures in
-    let is : alarms c.join-2.result ≡ before due list ++ alarm ∷ behind due list =
-    c.join-2.ensures.alarms ∙ ap₂ (λ l r. l ++ r) (c.join.ensures.alarms ∙ ap₂ (λ l r. l ++ r) front alone) back
-    ∙ append_assoc (before due list) (alarm ∷ []) (behind due list) in
+    let is : alarms c.join-2.result ≡ before due list ++ alarm ∷ behind due list = between c.join-2.ensures.alarms c.join.ensures.alarms front alone back in
     let size = ap length is ∙ length-append (before due list) (alarm ∷ behind due list) in
     let turned = c.self.invariant.0 in (
       record {
@@ -50,9 +53,7 @@ returns c =
     let alarm : Alarm = record { due = due; tick = c.self.inside.passed + c.args.ticks } in
     let alone : alarms c.planted-timer.result ≡ alarm ∷ [] =
     c.planted-timer.ensures.alarms ∙ ap (λ n. let a : Alarm = record { due = due; tick = c.self.inside.passed + n } in a ∷ []) c.from.ensures in
-    let is : alarms c.join-2.result ≡ before due list ++ alarm ∷ behind due list =
-    c.join-2.ensures.alarms ∙ ap₂ (λ l r. l ++ r) (c.join.ensures.alarms ∙ ap₂ (λ l r. l ++ r) front alone) back
-    ∙ append_assoc (before due list) (alarm ∷ []) (behind due list) in
+    let is : alarms c.join-2.result ≡ before due list ++ alarm ∷ behind due list = between c.join-2.ensures.alarms c.join.ensures.alarms front alone back in
     ap (λ l. let t : Timers = record { armed = l; room = c.self.inside.room } in t)
     (ap (armed_at c.self.inside.passed) is ∙ sym (with_at c.self.inside.passed c.args.ticks due list))
     ∙ ap (λ (v : Timers). let t : Timers = record { armed = with_timer due c.args.ticks v.armed; room = v.room } in t) c.self.view_is
