@@ -87,17 +87,17 @@ acceptance-writes i =
 
 -- ---- the octets of the messages
 
-three : (n : ℕ) (rest : List ℕ) → n < 16777216 → AreOctets rest → AreOctets (octets3 n ++ rest)
-three n rest h more = (omega arith, (omega arith, (omega (arith, h), more)))
+three : (n : ℕ) (rest : List ℕ) → AreOctets rest → AreOctets (octets3 n ++ rest)
+three n rest more = (omega arith, (omega arith, (omega arith, more)))
 
 unit-octets : AreOctets unit_octets
 unit-octets = are_octets unit_octets refl
 
-request-octets : (n : ℕ) → n < 16777216 → AreOctets (request_octets n)
-request-octets n h = (omega arith, three n (2 ∷ 2 ∷ 0 ∷ 2 ∷ 66 ∷ 8 ∷ []) h (are_octets (2 ∷ 2 ∷ 0 ∷ 2 ∷ 66 ∷ 8 ∷ []) refl))
+request-octets : (n : ℕ) → AreOctets (request_octets n)
+request-octets n = (omega arith, three n (2 ∷ 2 ∷ 0 ∷ 2 ∷ 66 ∷ 8 ∷ []) (are_octets (2 ∷ 2 ∷ 0 ∷ 2 ∷ 66 ∷ 8 ∷ []) refl))
 
-data-octets : (n octet : ℕ) → n < 16777216 → octet < 256 → AreOctets (data_octets n octet)
-data-octets n octet h o = (omega arith, three n (0 ∷ 1 ∷ 1 ∷ octet ∷ []) h (omega arith, (omega arith, (omega arith, (o, tt)))))
+data-octets : (n octet : ℕ) → octet < 256 → AreOctets (data_octets n octet)
+data-octets n octet o = (omega arith, three n (0 ∷ 1 ∷ 1 ∷ octet ∷ []) (omega arith, (omega arith, (omega arith, (o, tt)))))
 
 -- ---- by kind
 
@@ -105,9 +105,9 @@ either : (a b : List (List ℕ)) (e f : Event) (t : Bool) → Writes a e → Wri
 either a b e f true g h = g
 either a b e f false g h = h
 
-pub kind-writes : (kind i : ℕ) → i < 200000 → Writes (words_of_kind kind i) (event_of_kind kind i)
-kind-writes kind i h =
+pub kind-writes : (kind i : ℕ) → Writes (words_of_kind kind i) (event_of_kind kind i)
+kind-writes kind i =
     either (message_words i unit_octets) _ (message_at i unit_octets) _ (kind == 0) (message-writes i 9 _ unit-octets (omega arith))
-    (either (message_words i (request_octets (i + 1))) _ (message_at i (request_octets (i + 1))) _ (kind == 1) (message-writes i 1 _ (request-octets (i + 1) (omega (arith, h))) (omega arith))
+    (either (message_words i (request_octets (i + 1))) _ (message_at i (request_octets (i + 1))) _ (kind == 1) (message-writes i 1 _ (request-octets (i + 1)) (omega arith))
     (either (acceptance_words i) (message_words i (data_octets (reference_at i) (i % 256))) (Asked 8 (Accept (reference_at i) 2 0 [])) (message_at i (data_octets (reference_at i) (i % 256))) (kind == 2)
-    (acceptance-writes i) (message-writes i 6 _ (data-octets (reference_at i) (i % 256) (omega arith) (omega arith)) (omega arith))))
+    (acceptance-writes i) (message-writes i 6 _ (data-octets (reference_at i) (i % 256) (omega arith)) (omega arith))))

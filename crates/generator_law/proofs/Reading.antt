@@ -109,7 +109,7 @@ event-read : (x q r n : ℕ) → n ≡ 400 * q + r → r < 400 → n < 199000
     → line_taken generator_head (read_at x q r) (line_at (number_after x (n + 1)) n) ≡ Ok (read_at x q (r + 1))
 event-read x q r n at h few =
     let picked : ℕ = number_after x (n + 1) in
-    event_line (words_of_kind (picked / 65536 % 4) n) (event_at picked n) (read_at x q r) (kind-writes (picked / 65536 % 4) n (omega (arith, few))) (omega (arith, at, h, few))
+    event_line (words_of_kind (picked / 65536 % 4) n) (event_at picked n) (read_at x q r) (kind-writes (picked / 65536 % 4) n) (omega (arith, at, h, few))
     ∙ ap Ok (reading_same (whole_blocks x q) ([] ∷ (events_after (number_after x (400 * q)) (400 * q) r ++ event_read x q r n ∷ []) ∷ []) (block_phase x q (r + 1)) (1 + 2 * q)
     (6 + 403 * q + r + 1) (6 + 403 * q + (r + 1)) (401 * q + r + 1) (401 * q + (r + 1)) q
     (ap (λ (es : Stamped). [] ∷ es ∷ []) (one_more x q r n at h)) (omega arith) (omega arith))

@@ -52,12 +52,12 @@ barrier-lines n = by_test (n % 400 == 0)
     by_test true = all_passed (list_all (nat_le 32)) IsLine (codes "w" ∷ codes "t" ∷ codes "w" ∷ []) line refl
     by_test false = tt
 
-event-lines : (x n : ℕ) → n ≤ 199000 → AllByRecursion IsLine (lines_after x n)
+event-lines : (x n : ℕ) → AllByRecursion IsLine (lines_after x n)
 unfolding lines_after
-event-lines x zero h = tt
-event-lines x (suc n) h =
-    all-append IsLine (lines_after x n) (line_at (number_after x (suc n)) n ∷ barriers_after (n + 1)) (event-lines x n (omega (arith, h)))
-    (spaced-line _ (kind-writes (number_after x (suc n) / 65536 % 4) n (omega (arith, h))).each, barrier-lines (n + 1))
+event-lines x zero = tt
+event-lines x (suc n) =
+    all-append IsLine (lines_after x n) (line_at (number_after x (suc n)) n ∷ barriers_after (n + 1)) (event-lines x n)
+    (spaced-line _ (kind-writes (number_after x (suc n) / 65536 % 4) n).each, barrier-lines (n + 1))
 
 lines-of-head : AllByRecursion IsLine head_lines
 lines-of-head = all_passed (list_all (nat_le 32)) IsLine head_lines line refl
@@ -77,16 +77,16 @@ length-barriers n = by_test (n % 400 == 0)
     by_test true = omega arith
     by_test false = omega arith
 
-length-lines : (x n : ℕ) → n ≤ 199000 → length (joined (lines_after x n)) ≤ 100 * n
+length-lines : (x n : ℕ) → length (joined (lines_after x n)) ≤ 100 * n
 unfolding lines_after
-length-lines x zero h = omega arith
-length-lines x (suc n) h = omega (
+length-lines x zero = omega arith
+length-lines x (suc n) = omega (
   arith,
   length-joined (lines_after x n) (line_at (number_after x (suc n)) n ∷ barriers_after (n + 1)),
   length-line (line_at (number_after x (suc n)) n) (barriers_after (n + 1)),
   length-barriers (n + 1),
-  (kind-writes (number_after x (suc n) / 65536 % 4) n (omega (arith, h))).short,
-  length-lines x n (omega (arith, h)),
+  (kind-writes (number_after x (suc n) / 65536 % 4) n).short,
+  length-lines x n,
 )
 
 -- ---- the capture
@@ -109,7 +109,7 @@ lines-capture x n h =
 
 within-read : (x n : ℕ) → n ≤ 199000 → capture_within (joined (head_lines ++ lines_after x n)) ≡ Ok (record { head = generator_head; phases = phases_after x n })
 within-read x n h =
-    ap (λ ls. at_head (begun (halves ls)) >>= capture_from) (lines-joined (head_lines ++ lines_after x n) (all-append IsLine head_lines (lines_after x n) lines-of-head (event-lines x n h)))
+    ap (λ ls. at_head (begun (halves ls)) >>= capture_from) (lines-joined (head_lines ++ lines_after x n) (all-append IsLine head_lines (lines_after x n) lines-of-head (event-lines x n)))
     ∙ ap (λ (r : Result (Head × ℕ × Lines) HeadFault). at_head r >>= capture_from) (begun-head (lines_after x n))
     ∙ lines-capture x n h
 
@@ -118,6 +118,6 @@ unfolding capture_of
 text_law number count h =
     let x : ℕ = number % 2147483648 in
     let text : List ℕ = generated_text number count in
-    let few : length text ≤ 67108864 = omega (arith, h, length-joined head_lines (lines_after x count), length-lines x count h) in
+    let few : length text ≤ 67108864 = omega (arith, h, length-joined head_lines (lines_after x count), length-lines x count) in
     ap (λ t. cond t (Err (refused.TooLong limit.Bytes)) (capture_within text)) (not_above (length text) 67108864 few)
     ∙ within-read x count h

@@ -4,7 +4,6 @@ use Rattle.std.specs.Prelude.{Option, Some, None, IsTrue}
 use Rattle.std.specs.List.{list_any, filter}
 use Rattle.std.specs.declared.result.Result.{Result}
 use Rattle.std.proofs.lemmas.Bool.{and_from, and_parts, or_left, or_right, not-false, both_ways}
-use Rattle.relay_base.specs.Giving.{◌>>=◌}
 use Rattle.relay_base.proofs.GivingLemmas.{bound}
 use Rattle.relay_base.specs.declared.words.ReadFault.{ReadFault}
 use Rattle.relay_base.specs.declared.words.ReadFault.TheVariants.{Empty, Short, PointerOut, ValueLength}
