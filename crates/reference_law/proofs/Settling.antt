@@ -7,50 +7,50 @@ use Rattle.section_model.specs.declared.hand.Acted.{Acted}
 use Rattle.section_model.specs.Ends.{End, Connection}
 use Rattle.section_model.specs.Acting.{end_takes}
 use Rattle.section_model.specs.Coupling.{with_more, other_takes, exchange, settles}
-use Rattle.reference_law.specs.ReferenceLaw.{Stays, BothStay}
-use Rattle.reference_law.proofs.Ends.{as_it_was, in_turn, both_as_they_were, both_in_turn}
-use Rattle.reference_law.proofs.Acting.{takes_stays}
+use Rattle.reference_law.proofs.Ends.{IsKept, Both, both_same, both_in_turn}
 
 -- an end that acted and its other end
-abbrev acted_with : End × Acted → End → Connection
+abbrev pub acted_with : End × Acted → End → Connection
 acted_with acting that = record { this = acting.0; that = that }
 
 -- how an exchange goes on
-abbrev GoesOn : (End × Acted → End → Connection × List Output) → Type 0
-GoesOn next = (acting : End × Acted) (that : End) → BothStay (acted_with acting that) (next acting that).0
+abbrev GoesOn : (End → End → Type 0) → (End × Acted → End → Connection × List Output) → Type 0
+GoesOn Later next = (acting : End × Acted) (that : End) → Both Later (acted_with acting that) (next acting that).0
 
 -- one effect is taken
-offered_stays : (next : End × Acted → End → Connection × List Output) (ticks : Ticks) → GoesOn next
-    → (r : Connection × List Output) (h : Hand) → BothStay r.0 (other_takes next ticks r h).0
-offered_stays next ticks goes_on r h =
+offered_kept : {ticks : Ticks} {Later : End → End → Type 0} → IsKept ticks Later → (next : End × Acted → End → Connection × List Output) → GoesOn Later next
+    → (r : Connection × List Output) (h : Hand) → Both Later r.0 (other_takes next ticks r h).0
+offered_kept {ticks} k next goes_on r h =
     let taken = end_takes ticks h r.0.that in
-    let after : BothStay (acted_with taken r.0.this) (next taken r.0.this).0 = goes_on taken r.0.this in record {
-      this = after.that;
-      that = in_turn r.0.that taken.0 (next taken r.0.this).0.this (takes_stays ticks h r.0.that) after.this;
-    }
+    let after = goes_on taken r.0.this in (after.1, k.in_turn r.0.that taken.0 (next taken r.0.this).0.this (k.takes h r.0.that) after.0)
 
 -- and all of a list, one after another
-hands_stay : (next : End × Acted → End → Connection × List Output) (ticks : Ticks) → GoesOn next
-    → (hands : List Hand) (r : Connection × List Output) → BothStay r.0 (fold (other_takes next ticks) r hands).0
-hands_stay next ticks goes_on [] r = both_as_they_were r.0
-hands_stay next ticks goes_on (h ∷ hands) r =
+hands_kept : {ticks : Ticks} {Later : End → End → Type 0} → IsKept ticks Later → (next : End × Acted → End → Connection × List Output) → GoesOn Later next
+    → (hands : List Hand) (r : Connection × List Output) → Both Later r.0 (fold (other_takes next ticks) r hands).0
+hands_kept k next goes_on [] r = both_same k r.0
+hands_kept {ticks} k next goes_on (h ∷ hands) r =
     let one = other_takes next ticks r h in
-    both_in_turn r.0 one.0 (fold (other_takes next ticks) one hands).0 (offered_stays next ticks goes_on r h) (hands_stay next ticks goes_on hands one)
+    both_in_turn k r.0 one.0 (fold (other_takes next ticks) one hands).0 (offered_kept k next goes_on r h) (hands_kept k next goes_on hands one)
 
-exchange_stays : (turns : ℕ) (ticks : Ticks) → GoesOn (exchange turns ticks)
+exchange_kept : {ticks : Ticks} {Later : End → End → Type 0} → IsKept ticks Later → (turns : ℕ) → GoesOn Later (exchange turns ticks)
 unfolding exchange
-exchange_stays zero ticks acting that = both_as_they_were (acted_with acting that)
-exchange_stays (suc turns) ticks acting that =
+exchange_kept k zero acting that = both_same k (acted_with acting that)
+exchange_kept {ticks} {Later} k (suc turns) acting that =
     let next = exchange turns ticks in
-    let goes_on : GoesOn next = exchange_stays turns ticks in
+    let goes_on : GoesOn Later next = exchange_kept k turns in
     let first = fold (other_takes next ticks) (acted_with acting that, []) acting.1.first in
-    both_in_turn (acted_with acting that) first.0 (fold (other_takes next ticks) (with_more acting.1.outs first) acting.1.then).0
-    (hands_stay next ticks goes_on acting.1.first (acted_with acting that, []))
-    (hands_stay next ticks goes_on acting.1.then (with_more acting.1.outs first))
+    both_in_turn k (acted_with acting that) first.0 (fold (other_takes next ticks) (with_more acting.1.outs first) acting.1.then).0
+    (hands_kept k next goes_on acting.1.first (acted_with acting that, []))
+    (hands_kept k next goes_on acting.1.then (with_more acting.1.outs first))
 
--- an end that acts and stays, with all that comes of its act
-pub settled : (ticks : Ticks) (this that : End) (acted : End × Acted) → Stays this acted.0
-    → BothStay (record { this = this; that = that }) (settles ticks acted that).0
-settled ticks this that acted stays =
-    both_in_turn (record { this = this; that = that }) (acted_with acted that) (settles ticks acted that).0
-    (record { this = stays; that = as_it_was that }) (exchange_stays 2 ticks acted that)
+-- all that comes of an act
+pub settling_kept : {ticks : Ticks} {Later : End → End → Type 0} → IsKept ticks Later
+    → (that : End) (acted : End × Acted) → Both Later (acted_with acted that) (settles ticks acted that).0
+settling_kept k that acted = exchange_kept k 2 acted that
+
+-- an end that acts within the relation, with all that comes of its act
+pub settled : {ticks : Ticks} {Later : End → End → Type 0} → IsKept ticks Later
+    → (this that : End) (acted : End × Acted) → Later this acted.0 → Both Later (record { this = this; that = that }) (settles ticks acted that).0
+settled {ticks} k this that acted later =
+    both_in_turn k (record { this = this; that = that }) (acted_with acted that) (settles ticks acted that).0
+    (later, k.same that) (settling_kept k that acted)

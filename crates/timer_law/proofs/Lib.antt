@@ -1,0 +1,5 @@
+pub mod Running
+pub mod Firing
+pub mod Resting
+pub mod Quiet
+pub mod Openings
