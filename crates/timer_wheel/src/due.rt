@@ -25,7 +25,7 @@ impl Due {
 }
 
 /// A running timer, and the tick at which it fires, by the wheel's count.
-#[derive(Clone, Copy, Debug)]
+#[derive(Clone, Copy)]
 pub struct Alarm {
     pub due: Due,
     pub tick: u64,
@@ -66,8 +66,10 @@ impl DueList {
         ensures ok { OnOk result (self.new ≡ record self.old { room = max self.old.room timers }) }
         ensures err { OnErr result (self.new ≡ self.old) }
     {
-        self.timers.reserve(timers as usize)?;
-        self.room = self.room.max(timers);
+        if timers > self.room {
+            self.timers.reserve(timers as usize)?;
+            self.room = timers;
+        }
         Ok(())
     }
 

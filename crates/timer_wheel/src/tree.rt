@@ -156,12 +156,13 @@ pub(crate) fn without_due(tree: Tree, tick: u64, spare: &mut Vec<Box<Node>>) -> 
 {
     match tree {
         Tree::Leaf => Tree::Leaf,
-        Tree::Fork(mut node) => {
+        Tree::Fork(node) => {
             if node.soonest > tick {
                 return Tree::Fork(node);
             }
-            let left = without_due(node.left.take(), tick, spare);
-            let right = without_due(node.right.take(), tick, spare);
+            let (left, node, right) = open(node);
+            let left = without_due(left, tick, spare);
+            let right = without_due(right, tick, spare);
             if node.alarm.tick <= tick {
                 spare.push_reserved(node);
                 join(left, right)
