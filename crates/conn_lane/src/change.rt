@@ -8,12 +8,12 @@ pub struct Next {
     pub one: KeptOpening,
 }
 
-/// What an event changes in the openings of a lane. It is made apart, so that memory may run out before anything changes.
+/// What an event changes in the openings of a lane. It is made apart, so that memory runs out before anything changes, or not at all.
 #[derive(Drop)]
 pub enum Change {
-    /// Nobody hears the event.
+    /// Nobody hears the event, and no connection comes of it.
     Nothing,
-    /// One connection hears it.
+    /// A connection hears it.
     Heard(Next),
     /// A connection is opened.
     Opened(KeptOpening),

@@ -1,5 +1,6 @@
 //! The openings of a lane that are needed yet, and the index of their local references.
-ghost use Rattle.std.specs.Prelude.{◌≡◌, ◌≤◌, ◌<◌, ◌+◌, ◌++◌, ◌∷◌, [], All, map, length, false, Some, IfOk, OnOk, OnErr, vec_capacity};
+ghost use Rattle.std.specs.Prelude.{◌≡◌, ◌≤◌, ◌<◌, ◌+◌, ◌++◌, ◌∷◌, [], All, map, length, false, Some, IfOk, OnOk, OnErr, vec_len};
+ghost use Rattle.std.specs.Vec.{vec_capacity};
 ghost use Rattle.relay_base.specs.declared.words.Event.TheVariants.{Tick};
 ghost use Rattle.relay_base.specs.declared.limits.TheConstants.{MOST_LANES};
 ghost use Rattle.section_model.specs.Lane.{Lane, is_tick};
@@ -8,6 +9,7 @@ ghost use Rattle.conn_lane.specs.Inner.Remnants.{remnant_after, first_part, all_
 ghost use Rattle.conn_lane.specs.Inner.Seated.{IsSeated, AreOrderly, reference_in};
 ghost use Rattle.conn_lane.specs.Inner.Views.{remnants_at, keeps_of, news};
 ghost use Rattle.conn_lane.specs.Inner.Finding.{IsPlaceIn};
+ghost use Rattle.conn_lane.specs.Inner.Index.{IsIndexOf};
 ghost use Rattle.conn_lane.specs.Inner.Changes.{IsAmong, put_all, needed_at, changed, Fits, Makes};
 
 use crate::change::{Change, Next};
@@ -93,6 +95,18 @@ fn drop_needless(kept: &mut Vec<KeptOpening>, now: u64)
     ensures { kept.new.items ≡ needed_at now kept.old.items }
 {
     kept.retain(|one| one.is_needed(now));
+}
+
+/// Puts a new opening behind the others, after so many ticks, and notes it.
+fn add(kept: &mut Vec<KeptOpening>, index: &mut Index, now: u64, one: KeptOpening)
+    requires room { vec_len kept.old < vec_capacity kept.old }
+    ensures kept { kept.new.items ≡ kept.old.items ++ one ∷ [] }
+    ensures index { IsIndexOf (remnants_at now kept.old.items) index.old →
+        IsIndexOf (remnants_at now kept.new.items) index.new }
+{
+    index.take(now, kept.len(), &one);
+    index.advance();
+    kept.push_reserved(one);
 }
 
 impl Openings {
@@ -225,11 +239,7 @@ impl Openings {
         match change {
             Change::Nothing => {}
             Change::Heard(next) => self.replace(next),
-            Change::Opened(one) => {
-                self.index.take(self.taken, self.kept.len(), &one);
-                self.index.advance();
-                self.kept.push_reserved(one);
-            }
+            Change::Opened(one) => add(&mut self.kept, &mut self.index, self.taken, one),
             Change::Ticked(nexts) => self.advance(nexts),
         }
         Ok(())

@@ -21,7 +21,10 @@ abbrev pub changed : Change → OpeningsState → OpeningsState
 changed Nothing o = o
 changed (Heard next) o = record { taken = o.taken; kept = slice_set o.kept next.place next.one }
 changed (Opened one) o = record { taken = o.taken; kept = o.kept ++ one ∷ [] }
-changed (Ticked nexts) o = record { taken = o.taken + 1; kept = needed_at (o.taken + 1) (put_all nexts.items o.kept) }
+changed (Ticked nexts) o = record {
+  taken = o.taken + 1;
+  kept = needed_at (o.taken + 1) (put_all nexts.items o.kept);
+}
 
 -- a place of these openings
 abbrev pub IsAmong : List KeptOpeningState → Next → Type 0

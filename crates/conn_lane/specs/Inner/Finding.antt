@@ -13,7 +13,8 @@ pub record IsUnheard (event : Event) (keeps : List Remnant) : Type 0 where
 pub record IsForPlace (event : Event) (keeps : List Remnant) (place : ℕ) : Type 0 where
   pub within : place < length keeps
   pub part : (d : Remnant) → first_part event keeps ≡ part_at event (get_or keeps place d).live
-  pub after : (d : Remnant) → map (remnant_after event) keeps ≡ slice_set keeps place (remnant_after event (get_or keeps place d))
+  pub after : (d : Remnant) → map (remnant_after event) keeps
+      ≡ slice_set keeps place (remnant_after event (get_or keeps place d))
 
 -- an event that is no tick is for nobody, or for the one at a place
 abbrev pub IsPlaceIn : Event → List Remnant → Option ℕ → Type 0

@@ -21,9 +21,11 @@ use Rattle.conn_lane.specs.Inner.Turns.{outs_in, keeps_in}
 -- what comes of an event: the routing that it asks, the outputs, and what is kept
 pub record Comes (plant : PlantState) (head : LaneHead) (number : ℕ) (event : Event) (before after : OpeningsState) (routing : Option Asked) (outputs : List Output) : Type 0 where
   pub asked : routing ≡ conn_asked_of head plant event
-  pub outs : outputs ≡ outs_in (lane_of head number) (keeps_of before) event (wish_of head.terms event) (answer_in routing)
+  pub outs : outputs
+      ≡ outs_in (lane_of head number) (keeps_of before) event (wish_of head.terms event) (answer_in routing)
   pub taken : after.taken ≡ taken_after before.taken event
-  pub keeps : needed (keeps_of after) ≡ needed (keeps_in (lane_of head number) (keeps_of before) event (wish_of head.terms event) (answer_in routing))
+  pub keeps : needed (keeps_of after)
+      ≡ needed (keeps_in (lane_of head number) (keeps_of before) event (wish_of head.terms event) (answer_in routing))
 
 -- one more entry, with what comes of its event
 abbrev pub Grows : PlantState → LaneHead → ℕ → OpeningsState → OpeningsState → Entry → Type 0

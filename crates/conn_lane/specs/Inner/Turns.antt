@@ -43,7 +43,8 @@ keeps_in lane keeps event wish answer =
 
 -- what the lane keeps is, as far as it is needed, that of its journal's openings
 pub record KeepsRemnants (head : LaneHead) (number : ℕ) (journal : List Entry) (o : OpeningsState) : Type 0 where
-  pub keeps : needed (keeps_of o) ≡ needed (map (remnant_of head.terms.ticks) (openings_from (lane_of head number) [] journal))
+  pub keeps : needed (keeps_of o)
+      ≡ needed (map (remnant_of head.terms.ticks) (openings_from (lane_of head number) [] journal))
   pub few : o.taken ≤ length journal
 
 -- the journal is legal, and the lane keeps what it has to
