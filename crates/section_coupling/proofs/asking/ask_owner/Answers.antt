@@ -4,7 +4,7 @@ use Rattle.section_model.specs.Laws.{hands_of}
 use Rattle.section_model.specs.Step.{asking_cell}
 use Rattle.section_coupling.specs.Views.{user_at, end_by}
 use Rattle.section_coupling.specs.Sound.{AreOfWhatCame}
-use Rattle.section_coupling.proofs.Coming.{asks-come}
+use Rattle.section_coupling.proofs.HandsCome.{asks-come}
 use Rattle.section_coupling.proofs.asking.ask_owner.Goals as goal
 
 pub settle-requires-clause-left : goal.settle-requires-clause-left

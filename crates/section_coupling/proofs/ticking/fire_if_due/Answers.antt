@@ -3,7 +3,7 @@ use Rattle.section_model.specs.Ends.{End, Acted}
 use Rattle.section_model.specs.Laws.{hands_of}
 use Rattle.section_coupling.specs.Sound.{AreOfWhatCame}
 use Rattle.section_coupling.specs.Views.{end_by}
-use Rattle.section_coupling.proofs.Coming.{fires-come}
+use Rattle.section_coupling.proofs.HandsCome.{fires-come}
 use Rattle.section_coupling.proofs.ticking.fire_if_due.Goals as goal
 
 pub settle-requires-clause-left : goal.settle-requires-clause-left
