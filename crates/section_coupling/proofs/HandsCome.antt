@@ -1,7 +1,7 @@
 -- The units that are said to have left had come in.
-use Rattle.std.proofs.Common.{◌≡◌, ℕ, ◌+◌, ◌-◌, ◌≤◌, ◌<◌, ◌==◌, ◌&&◌, ◌||◌, nat_le, nat_lt, not, Bool, true, false, List, [], ◌∷◌, ◌++◌, length, drop, get_or, map, fold, if◌then◌else◌, Some, None, is_some, refl, sym, subst, ap, ◌∙◌, arith, zero-le, length-drop}
+use Rattle.std.proofs.Common.{◌≡◌, ℕ, ◌+◌, ◌-◌, ◌≤◌, ◌<◌, ◌==◌, ◌&&◌, ◌||◌, nat_le, nat_lt, not, Bool, true, false, List, [], ◌∷◌, ◌++◌, length, drop, get_or, map, fold, if◌then◌else◌, Some, None, is_some, refl, sym, subst, ap, ◌∙◌, arith, length-drop}
 use Rattle.std.specs.Prelude.{Option}
-use Rattle.std.proofs.lemmas.Bool.{eqb-true, eqb-false, and_parts, false≢true}
+use Rattle.std.proofs.lemmas.Bool.{eqb-true, eqb-false, and_parts}
 use Rattle.std.proofs.lemmas.List.{length_push, drop_more}
 use Rattle.relay_base.specs.declared.words.Output.{Output}
 use Rattle.relay_base.specs.declared.words.Request.{Request}
@@ -16,12 +16,12 @@ use Rattle.section_model.specs.declared.hand.Acted.{Acted}
 use Rattle.section_model.specs.Parameters.{Parameters}
 use Rattle.section_model.specs.Laws.{hands_of}
 use Rattle.section_model.specs.Ends.{End, wire, owner, Line, Section, User, Connection, turned, is_up}
-use Rattle.section_model.specs.Line.{agreed, agreed_credit, reached, line_hears, line_fires, line_takes, passes_accept, passes_refuse, passes_end, keeps_end, passes_unit, counts_passed}
-use Rattle.section_model.specs.Windowed.{Windowed, windowed_hears, windowed_fires, windowed_takes, resets, is_next, is_used_up, is_valid, wrong_number, takes_data, sends_expedited, queues_unit, passes_expedited, passes_reset, counts_left, may_leave, leaves, acknowledges}
-use Rattle.section_model.specs.UserEnd.{given, user_takes, user_asks, handed, units_of, tells_confirm, tells_disconnect, collects, tells_expedited, tells_reset, user_counts_left, accepts, refuses, sends, expedites, disconnects}
+use Rattle.section_model.specs.Line.{agreed, agreed_credit, reached, line_hears, line_fires, line_takes}
+use Rattle.section_model.specs.Windowed.{Windowed, windowed_hears, windowed_fires, windowed_takes, resets, is_next, is_used_up, is_valid, wrong_number, takes_data, sends_expedited, may_leave, leaves, acknowledges}
+use Rattle.section_model.specs.UserEnd.{given, user_takes, user_asks, handed, units_of}
 use Rattle.section_model.specs.Acting.{timed, by_windows, by_line, line_in, is_by_class, in_windows, section_hears, section_fires, section_takes, section_takes_by, user_takes_by, end_takes}
 use Rattle.section_model.specs.Coupling.{other_takes, exchange}
-use Rattle.flow_law.specs.InStep.{AreInStep, passed_at, got_at}
+use Rattle.flow_law.specs.InStep.{AreInStep}
 use Rattle.flow_law.proofs.Flowing.{either}
 use Rattle.flow_law.proofs.Growing.{StaysAs}
 use Rattle.flow_law.proofs.Going.{exchange_goes, offered_goes}

@@ -10,18 +10,35 @@ exchange-offer-requires t c =
 
 pub exchange-offer-requires-2 : goal.exchange-offer-requires-2
 exchange-offer-requires-2 t c =
-    let clock = c.args.clock.now in
-    (search rules, (c.in_ok-pair.ensures.sound, (c.requires.acted.1,
-    rest-left (c.args.turns - 1) clock.ticks c.args.acted.first c.args.acted.then (connection_by clock (record { this = c.args.this; that = c.args.that })) _ _ c.requires.left c.in_ok-pair.ensures.offered)))
+    let clock = c.args.clock.now in (
+      search rules,
+      (
+        c.in_ok-pair.ensures.sound,
+        (
+          c.requires.acted.1,
+          rest-left (c.args.turns - 1) clock.ticks c.args.acted.first c.args.acted.then (connection_by clock (record { this = c.args.this; that = c.args.that })) _ _ c.requires.left c.in_ok-pair.ensures.offered,
+        ),
+      ),
+    )
 
 pub offer-exchange-requires : goal.offer-exchange-requires
 offer-exchange-requires t c =
     let clock = c.args.clock.now in
     let within : c.loop-hand.hand-index < length c.args.hands.now = subst (λ hs. c.loop-hand.hand-index < length hs) c.as_slice-hand-items.ensures c.loop-hand-test.true in
     let hand = c.hand-item.result in
-    let is : hand ≡ get_or c.args.hands.now c.loop-hand.hand-index hand = subst (λ hs. hand ≡ get_or hs c.loop-hand.hand-index hand) c.as_slice-hand-items.ensures c.hand-item.is in
-    (search rules, (c.in_ok-that.ensures.sound.0, (c.in_ok-that.ensures.sound.1, (c.loop-hand.invariant.sound.0,
-    taken-left clock.ticks c.args.hands.now c.loop-hand.hand-index hand (connection_at clock.taken c.loop-hand.pair) _ within c.loop-hand.invariant.left is c.in_ok-that.ensures.takes))))
+    let is : hand ≡ get_or c.args.hands.now c.loop-hand.hand-index hand = subst (λ hs. hand ≡ get_or hs c.loop-hand.hand-index hand) c.as_slice-hand-items.ensures c.hand-item.is in (
+      search rules,
+      (
+        c.in_ok-that.ensures.sound.0,
+        (
+          c.in_ok-that.ensures.sound.1,
+          (
+            c.loop-hand.invariant.sound.0,
+            taken-left clock.ticks c.args.hands.now c.loop-hand.hand-index hand (connection_at clock.taken c.loop-hand.pair) _ within c.loop-hand.invariant.left is c.in_ok-that.ensures.takes,
+          ),
+        ),
+      ),
+    )
 
 pub offer-loop-hand-preserved : goal.offer-loop-hand-preserved
 offer-loop-hand-preserved t c =
