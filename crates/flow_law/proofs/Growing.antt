@@ -1,5 +1,5 @@
 -- What came in at an end goes on, or begins anew, act by act.
-use Rattle.std.proofs.Common.{◌≡◌, ℕ, ◌+◌, ◌≤◌, ◌==◌, ◌&&◌, ◌||◌, nat_le, nat_lt, not, true, false, List, [], ◌∷◌, ◌++◌, length, min, if◌then◌else◌, Option, Some, None, refl, sym, arith, zero-le, append-nil, append_assoc, length-append, add-zero, inl, inr, ◌⊎◌}
+use Rattle.std.proofs.Common.{◌≡◌, ℕ, ◌+◌, ◌≤◌, ◌==◌, ◌&&◌, ◌||◌, nat_le, nat_lt, not, true, false, List, [], ◌∷◌, ◌++◌, length, if◌then◌else◌, Option, Some, None, refl, sym, arith, zero-le, append-nil, append_assoc, length-append, add-zero, inl, inr, ◌⊎◌}
 use Rattle.std.proofs.lemmas.Bool.{eqb-false}
 use Rattle.plant_core.specs.declared.terms.Ticks.{Ticks}
 use Rattle.relay_base.specs.declared.words.Request.{Request}

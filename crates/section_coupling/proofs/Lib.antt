@@ -3,7 +3,7 @@ pub mod SoundWindows
 pub mod SoundUsers
 pub mod ByTable
 pub mod Arriving
-pub mod Coming
+pub mod HandsCome
 pub mod Exchanging
 pub mod LaterTimers
 pub mod Fitting

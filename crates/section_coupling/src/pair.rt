@@ -43,7 +43,8 @@ impl Pair {
     pub fn turned(self) -> Pair
         ensures value { (now : ℕ) → connection_at now result ≡ turned (connection_at now self) }
         ensures sound { SoundPair self → SoundPair result }
-        ensures steps { (now : ℕ) → IsInStep (connection_at now self) → IsInStep (connection_at now result) }
+        ensures steps { (now : ℕ) → IsInStep (connection_at now self) →
+            IsInStep (connection_at now result) }
     {
         Pair {
             this: self.that,

@@ -1,6 +1,9 @@
 //! A section of class 3: its numbers past 128, and a copy of what waits.
 ghost use Rattle.std.specs.Prelude.{◌≤◌, IfOk};
+ghost use Rattle.section_model.specs.Ends.{Windows as SectionWindows};
 ghost use Rattle.section_model.specs.Lengths.{HandWithin, InputWithin};
+ghost use Rattle.section_model.specs.Windowed.{HasCome};
+ghost use Rattle.section_class3.specs.Windows.{InputHasCome};
 
 use crate::outputs::assert_outs;
 use relay_base::{Event, Memory, Octets, Output, Outs, Pc, Ref24, Sls};
@@ -48,14 +51,16 @@ impl Section {
     }
 
     fn act(&mut self, alloc: Global, cell: Cell, input: &Input<'_>) -> Result<Acted, Memory>
-        requires { InputWithin input.now }
+        requires within { InputWithin input.now }
+        requires left { InputHasCome input.now self.old.windows }
     {
         self.windows.act(alloc, &mut self.wire, cell, input)
     }
 
     /// The other end hands over a unit or expedited data.
     fn pass(&mut self, alloc: Global, cell: Cell, hand: &Hand) -> Result<(), Memory>
-        requires { HandWithin hand.now }
+        requires within { HandWithin hand.now }
+        requires left { HasCome hand.now self.old.windows }
     {
         let _passed = self.act(alloc, cell, &Input::Hand(hand))?;
         Ok(())
@@ -81,7 +86,8 @@ impl Section {
 
 /// A unit of one octet.
 fn unit(alloc: Global) -> Result<Hand, Memory>
-    ensures { IfOk result HandWithin }
+    ensures within { IfOk result HandWithin }
+    ensures left { IfOk result (λ hand. (w : SectionWindows) → HasCome hand w) }
 {
     Ok(Hand::Unit {
         more: false,
@@ -91,7 +97,8 @@ fn unit(alloc: Global) -> Result<Hand, Memory>
 
 /// Expedited data of one octet.
 fn expedited(alloc: Global) -> Result<Hand, Memory>
-    ensures { IfOk result HandWithin }
+    ensures within { IfOk result HandWithin }
+    ensures left { IfOk result (λ hand. (w : SectionWindows) → HasCome hand w) }
 {
     Ok(Hand::Expedited {
         body: Octets::from_slice(alloc, &[1])?,

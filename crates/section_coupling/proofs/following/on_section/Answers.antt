@@ -1,9 +1,5 @@
-use Rattle.std.proofs.Common.{subst}
-use Rattle.flow_law.specs.InStep.{IsInStep}
-use Rattle.section_model.specs.Ends.{wire as end}
 use Rattle.section_coupling.specs.Views.{section_by, end_by}
-use Rattle.section_coupling.proofs.Composed.{if-ok}
-use Rattle.section_coupling.proofs.Coming.{turn-come, turn-steps}
+use Rattle.section_coupling.proofs.HandsCome.{turn-come}
 use Rattle.section_coupling.proofs.following.on_section.Goals as goal
 
 pub settle-requires-clause-left : goal.settle-requires-clause-left

@@ -2,7 +2,7 @@ use Rattle.std.proofs.Common.{sym, subst, ◌∙◌}
 use Rattle.section_coupling.specs.Views.{section_by, end_by}
 use Rattle.section_coupling.proofs.Composed.{if-ok}
 use Rattle.section_coupling.proofs.Arriving.{heard_near}
-use Rattle.section_coupling.proofs.Coming.{Counts, within-counts, coming-come}
+use Rattle.section_coupling.proofs.HandsCome.{Counts, within-counts, coming-come}
 use Rattle.section_coupling.proofs.hearing.hear_on.Goals as goal
 
 pub returns-clause-hears : goal.returns-clause-hears

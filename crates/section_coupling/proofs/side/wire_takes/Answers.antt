@@ -1,4 +1,4 @@
-use Rattle.section_coupling.proofs.Coming.{code-come}
+use Rattle.section_coupling.proofs.HandsCome.{code-come}
 use Rattle.section_coupling.proofs.side.wire_takes.Goals as goal
 
 pub act-requires-clause-left : goal.act-requires-clause-left

@@ -20,3 +20,7 @@ by_windows-requires-clause-class c =
 
 pub by_line-requires-clause-class : goal.by_line-requires-clause-class
 by_line-requires-clause-class c = sym (c.in_windows.ensures 0) ∙ c.if-in_windows.false
+
+pub by_windows-requires-clause-left : goal.by_windows-requires-clause-left
+by_windows-requires-clause-left c =
+    c.requires.left (eqb-true c.args.self.head.class 3 (and_parts (is_by_class c.args.cell) (c.args.self.head.class == 3) (sym (c.in_windows.ensures 0) ∙ c.if-in_windows.true)).1)

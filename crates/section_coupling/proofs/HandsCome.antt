@@ -1,8 +1,8 @@
 -- The units that are said to have left had come in.
-use Rattle.std.proofs.Common.{◌≡◌, ℕ, ◌+◌, ◌-◌, ◌≤◌, ◌==◌, ◌&&◌, ◌||◌, nat_le, nat_lt, not, Bool, true, false, List, [], ◌∷◌, ◌++◌, length, map, fold, if◌then◌else◌, Some, None, is_some, refl, sym, subst, ◌∙◌, arith, zero-le, length-drop}
+use Rattle.std.proofs.Common.{◌≡◌, ℕ, ◌+◌, ◌-◌, ◌≤◌, ◌<◌, ◌==◌, ◌&&◌, ◌||◌, nat_le, nat_lt, not, Bool, true, false, List, [], ◌∷◌, ◌++◌, length, drop, get_or, map, fold, if◌then◌else◌, Some, None, is_some, refl, sym, subst, ap, ◌∙◌, arith, length-drop}
 use Rattle.std.specs.Prelude.{Option}
-use Rattle.std.proofs.lemmas.Bool.{eqb-true, eqb-false, and_parts, false≢true}
-use Rattle.std.proofs.lemmas.List.{length_push}
+use Rattle.std.proofs.lemmas.Bool.{eqb-true, eqb-false, and_parts}
+use Rattle.std.proofs.lemmas.List.{length_push, drop_more}
 use Rattle.relay_base.specs.declared.words.Output.{Output}
 use Rattle.relay_base.specs.declared.words.Request.{Request}
 use Rattle.relay_base.specs.declared.words.Request.TheVariants as request
@@ -15,16 +15,16 @@ use Rattle.section_model.specs.declared.hand.Unit.{Unit as DataUnit}
 use Rattle.section_model.specs.declared.hand.Acted.{Acted}
 use Rattle.section_model.specs.Parameters.{Parameters}
 use Rattle.section_model.specs.Laws.{hands_of}
-use Rattle.section_model.specs.Ends.{End, wire, owner, Line, Section, User, Connection, is_up}
-use Rattle.section_model.specs.Line.{line_hears, line_fires, line_takes, passes_accept, passes_refuse, passes_end, keeps_end, passes_unit, counts_passed}
-use Rattle.section_model.specs.Windowed.{Windowed, windowed_hears, windowed_fires, windowed_takes, resets, is_next, is_used_up, is_valid, wrong_number, takes_data, sends_expedited, queues_unit, passes_expedited, passes_reset, counts_left, may_leave, leaves, acknowledges}
-use Rattle.section_model.specs.UserEnd.{user_takes, user_asks, handed, units_of, tells_confirm, tells_disconnect, collects, tells_expedited, tells_reset, user_counts_left, accepts, refuses, sends, expedites, disconnects}
+use Rattle.section_model.specs.Ends.{End, wire, owner, Line, Section, User, Connection, turned, is_up}
+use Rattle.section_model.specs.Line.{agreed, agreed_credit, reached, line_hears, line_fires, line_takes}
+use Rattle.section_model.specs.Windowed.{Windowed, windowed_hears, windowed_fires, windowed_takes, resets, is_next, is_used_up, is_valid, wrong_number, takes_data, sends_expedited, may_leave, leaves, acknowledges}
+use Rattle.section_model.specs.UserEnd.{given, user_takes, user_asks, handed, units_of}
 use Rattle.section_model.specs.Acting.{timed, by_windows, by_line, line_in, is_by_class, in_windows, section_hears, section_fires, section_takes, section_takes_by, user_takes_by, end_takes}
 use Rattle.section_model.specs.Coupling.{other_takes, exchange}
-use Rattle.flow_law.specs.InStep.{AreInStep, passed_at, got_at}
+use Rattle.flow_law.specs.InStep.{AreInStep}
 use Rattle.flow_law.proofs.Flowing.{either}
 use Rattle.flow_law.proofs.Growing.{StaysAs}
-use Rattle.flow_law.proofs.Going.{Exchanges, exchange_goes, offered_goes}
+use Rattle.flow_law.proofs.Going.{exchange_goes, offered_goes}
 use Rattle.flow_law.proofs.Leaving.{few_leave}
 use Rattle.section_model.specs.declared.hand.Came.{Came}
 use Rattle.section_model.specs.Ends.{no_effect}
@@ -41,7 +41,7 @@ use Rattle.section_coupling.specs.declared.coming.Coming.{Coming}
 use Rattle.section_coupling.specs.declared.wire.Wire.{Wire}
 use Rattle.section_coupling.specs.Views.{section_at}
 use Rattle.section_coupling.specs.Inner.Comings.{hears_coming}
-use Rattle.section_coupling.specs.Sound.{came_in, HasComeAt, MayLeave, LeavesNone, LeaveNone, IsAlone, AreOfWhatCame}
+use Rattle.section_coupling.specs.Sound.{came_in, HasComeAt, MayLeave, LeavesNone, LeaveNone, IsAlone, AreOfWhatCame, SoundHands}
 
 -- No unit is said to have left.
 
@@ -53,24 +53,6 @@ none-come _ (wire x) none = λ three. tt
 owner-may : (h : Hand) (u : User) → MayLeave h (owner u)
 owner-may (hand.Unit more body) u = tt
 owner-may _ u = tt
-
--- one effect, by which no unit left and that is no unit
-abbrev IsPlain : Hand → Type 0
-IsPlain (hand.Unit more body) = ⊥
-IsPlain h = LeavesNone h
-
-plain-alone : (h : Hand) (x : Section) (that : End) → IsPlain h → AreOfWhatCame (wire x) (h ∷ []) that
-plain-alone (hand.Unit more body) x that p = absurd p
-plain-alone (hand.Left units expedited) x that p = (none-come (hand.Left units expedited) that p, tt, refl, tt)
-plain-alone (hand.Accept class credit called body importance) x that p = (none-come (hand.Accept class credit called body importance) that tt, tt, refl, tt)
-plain-alone (hand.Refuse cause called body importance) x that p = (none-come (hand.Refuse cause called body importance) that tt, tt, refl, tt)
-plain-alone (hand.End cause body importance) x that p = (none-come (hand.End cause body importance) that tt, tt, refl, tt)
-plain-alone (hand.Expedited body) x that p = (none-come (hand.Expedited body) that tt, tt, refl, tt)
-plain-alone (hand.Reset cause) x that p = (none-come (hand.Reset cause) that tt, tt, refl, tt)
-plain-alone hand.Done x that p = (none-come hand.Done that tt, tt, refl, tt)
-
-owner-alone : (h : Hand) (u : User) (that : End) → HasComeAt h that → AreOfWhatCame (owner u) (h ∷ []) that
-owner-alone h u that come = (come, owner-may h u, tt, tt)
 
 -- What an end answers.
 
@@ -104,7 +86,7 @@ unfolding windowed_takes
 windows-answer cell.PassUnit (hand.Unit more body) ticks x this = tt
 windows-answer cell.PassUnit _ ticks x this = tt
 windows-answer cell.PassExpedited (hand.Expedited body) ticks x this =
-    either (ByWindows ticks x this) (is_up x.head.state && not x.windows.unanswered) _ _ (λ _. plain-alone (hand.Left 0 true) _ this refl) (λ _. tt)
+    either (ByWindows ticks x this) (is_up x.head.state && not x.windows.unanswered) _ _ (λ _. (none-come (hand.Left 0 true) this refl, tt, refl, tt)) (λ _. tt)
 windows-answer cell.PassExpedited _ ticks x this = tt
 windows-answer cell.PassReset (hand.Reset cause) ticks x this = tt
 windows-answer cell.PassReset _ ticks x this = tt
@@ -124,10 +106,10 @@ user-answers cell.TellDisconnect (hand.Refuse cause called body importance) u th
 user-answers cell.TellDisconnect (hand.End cause body importance) u this may = tt
 user-answers cell.TellDisconnect _ u this may = tt
 user-answers cell.TellUnit (hand.Unit more body) u this may =
-    either (ByUser this) (nat_lt 8192 (length (u.text ++ body))) _ _ (λ _. owner-alone (hand.End 0x07 None None) _ this (none-come (hand.End 0x07 None None) this tt))
-    (λ _. either (ByUser this) more _ _ (λ _. owner-alone (hand.Left 1 false) _ this may) (λ _. owner-alone (hand.Left 1 false) _ this may))
+    either (ByUser this) (nat_lt 8192 (length (u.text ++ body))) _ _ (λ _. ((none-come (hand.End 0x07 None None) this tt), tt, tt, tt))
+    (λ _. either (ByUser this) more _ _ (λ _. (may, tt, tt, tt)) (λ _. (may, tt, tt, tt)))
 user-answers cell.TellUnit _ u this may = tt
-user-answers cell.TellExpedited (hand.Expedited body) u this may = owner-alone (hand.Left 0 true) u this (none-come (hand.Left 0 true) this refl)
+user-answers cell.TellExpedited (hand.Expedited body) u this may = ((none-come (hand.Left 0 true) this refl), tt, tt, tt)
 user-answers cell.TellExpedited _ u this may = tt
 user-answers cell.TellReset (hand.Reset cause) u this may = tt
 user-answers cell.TellReset _ u this may = tt
@@ -148,7 +130,7 @@ one-came : (got : List DataUnit) (u : DataUnit) (passed : ℕ) → passed ≤ le
 one-came got u passed within = rw (length_push got u) (omega (arith, within))
 
 resets-come : (cause : ℕ) (ticks : Ticks) (x : Section) (that : End) → ByWindows ticks x that (resets cause (record { head = x.head; windows = x.windows }))
-resets-come cause ticks x that = plain-alone (hand.Reset cause) _ that tt
+resets-come cause ticks x that = (none-come (hand.Reset cause) that tt, tt, refl, tt)
 
 data-come : (m : Parameters) (ticks : Ticks) (x : Section) (that : End) → x.windows.passed ≤ length x.windows.got → ByWindows ticks x that (takes_data m (record { head = x.head; windows = x.windows }))
 data-come m ticks x that within =
@@ -160,7 +142,7 @@ data-come m ticks x that within =
 
 expedited-come : (body : Option (List ℕ)) (ticks : Ticks) (x : Section) (w : Windowed) (that : End) → ByWindows ticks x that (sends_expedited body w)
 expedited-come None ticks x w that = tt
-expedited-come (Some body) ticks x w that = plain-alone (hand.Left 0 true) _ that refl
+expedited-come (Some body) ticks x w that = (none-come (hand.Left 0 true) that refl, tt, refl, tt)
 
 windows-hear : (c : Cell) (m : Parameters) (ticks : Ticks) (x : Section) (that : End) → x.windows.passed ≤ length x.windows.got
     → ByWindows ticks x that (windowed_hears c m (record { head = x.head; windows = x.windows }))
@@ -169,12 +151,12 @@ windows-hear cell.TakeNumberedData m ticks x that within = data-come m ticks x t
 windows-hear cell.TakeAcknowledgement m ticks x that within =
     either (ByWindows ticks x that) (is_valid m.pr x.windows) _ _ (λ _. tt) (λ _. resets-come 0x03 ticks x that)
 windows-hear cell.TakeExpedited m ticks x that within =
-    either (ByWindows ticks x that) x.windows.owed _ _ (λ _. resets-come 0x06 ticks x that) (λ _. plain-alone (hand.Expedited m.data_octets) _ that tt)
+    either (ByWindows ticks x that) x.windows.owed _ _ (λ _. resets-come 0x06 ticks x that) (λ _. (none-come (hand.Expedited m.data_octets) that tt, tt, refl, tt))
 windows-hear cell.TakeExpeditedAcknowledgement m ticks x that within =
     either (ByWindows ticks x that) x.windows.unanswered _ _
     (λ _. expedited-come x.windows.waiting ticks x (record { head = x.head; windows = record x.windows { unanswered = false } }) that) (λ _. tt)
-windows-hear cell.ResetByPeer m ticks x that within = plain-alone (hand.Reset m.cause) _ that tt
-windows-hear cell.ResetComplete m ticks x that within = plain-alone hand.Done _ that tt
+windows-hear cell.ResetByPeer m ticks x that within = (none-come (hand.Reset m.cause) that tt, tt, refl, tt)
+windows-hear cell.ResetComplete m ticks x that within = (none-come hand.Done that tt, tt, refl, tt)
 windows-hear _ m ticks x that within = tt
 
 abbrev ByLine : Ticks → Section → End → Line × Acted → Type 0
@@ -184,14 +166,14 @@ line-hear : (c : Cell) (point : ℕ) (m : Parameters) (ticks : Ticks) (x : Secti
 unfolding line_hears
 line-hear cell.Confirm point m ticks x that other =
     either (ByLine ticks x that) ((m.class == 2 || m.class == 3) && nat_le m.class x.head.class) _ _
-    (λ _. (none-come _ that tt, tt, refl, tt)) (λ _. plain-alone (hand.Refuse 0x0F None None None) _ that tt)
-line-hear cell.Refused point m ticks x that other = plain-alone (hand.Refuse m.cause m.called m.body m.importance) _ that tt
-line-hear cell.Released point m ticks x that other = plain-alone (hand.End m.cause m.body m.importance) _ that tt
+    (λ _. (none-come (hand.Accept m.class (agreed (reached point m.slr (line_in x)).head m) m.called m.body m.importance) that tt, tt, refl, tt)) (λ _. (none-come (hand.Refuse 0x0F None None None) that tt, tt, refl, tt))
+line-hear cell.Refused point m ticks x that other = (none-come (hand.Refuse m.cause m.called m.body m.importance) that tt, tt, refl, tt)
+line-hear cell.Released point m ticks x that other = (none-come (hand.End m.cause m.body m.importance) that tt, tt, refl, tt)
 line-hear cell.TakeData point m ticks x that other = (none-come (hand.Unit m.more m.data_octets) that tt, (λ three. absurd (eqb-false x.head.class 3 other three)), refl, tt)
 line-hear cell.ErrorReceived point m ticks x that other =
-    either (ByLine ticks x that) (m.cause == 3) _ _ (λ _. plain-alone (hand.End 0x0F None None) _ that tt) (λ _. plain-alone (hand.End 0x0F None None) _ that tt)
+    either (ByLine ticks x that) (m.cause == 3) _ _ (λ _. (none-come (hand.End 0x0F None None) that tt, tt, refl, tt)) (λ _. (none-come (hand.End 0x0F None None) that tt, tt, refl, tt))
 line-hear cell.TestReceived point m ticks x that other =
-    either (ByLine ticks x that) (m.slr == x.head.other && m.class == x.head.class) _ _ (λ _. tt) (λ _. plain-alone (hand.End 0x05 None None) _ that tt)
+    either (ByLine ticks x that) (m.slr == x.head.other && m.class == x.head.class) _ _ (λ _. tt) (λ _. (none-come (hand.End 0x05 None None) that tt, tt, refl, tt))
 line-hear _ point m ticks x that other = tt
 
 pub hears-come : (ticks : Ticks) (c : Cell) (point : ℕ) (m : Parameters) (x : Section) (that : End) → (x.head.class ≡ 3 → x.windows.passed ≤ length x.windows.got)
@@ -204,9 +186,9 @@ hears-come ticks c point m x that within =
 
 line-fire : (c : Cell) (ticks : Ticks) (x : Section) (that : End) → ByLine ticks x that (line_fires c (line_in x))
 unfolding line_fires
-line-fire cell.NotAnswered ticks x that = plain-alone (hand.Refuse 0x0C None None None) _ that tt
-line-fire cell.ResetExpired ticks x that = plain-alone (hand.End 0x0C None None) _ that tt
-line-fire cell.PeerSilent ticks x that = plain-alone (hand.End 0x0D None None) _ that tt
+line-fire cell.NotAnswered ticks x that = (none-come (hand.Refuse 0x0C None None None) that tt, tt, refl, tt)
+line-fire cell.ResetExpired ticks x that = (none-come (hand.End 0x0C None None) that tt, tt, refl, tt)
+line-fire cell.PeerSilent ticks x that = (none-come (hand.End 0x0D None None) that tt, tt, refl, tt)
 line-fire _ ticks x that = tt
 
 pub fires-come : (ticks : Ticks) (c : Cell) (x : Section) (that : End) → AreOfWhatCame (section_fires ticks c x).0 (hands_of (section_fires ticks c x).1) that
@@ -252,16 +234,16 @@ units-come (d ∷ units) u that = (none-come (handed d) that tt, tt, tt, units-l
 
 pub asks-come : (c : Cell) (r : Request) (u : User) (that : End) → AreOfWhatCame (owner (user_asks c r u).0) (hands_of (user_asks c r u).1) that
 unfolding user_asks
-asks-come cell.UserAccepts (request.Accept mine class credit body) u that = owner-alone _ _ that (none-come _ that tt)
+asks-come cell.UserAccepts (request.Accept mine class credit body) u that = (none-come (hand.Accept class (agreed_credit class credit u.credit) None (given body) None) that tt, tt, tt, tt)
 asks-come cell.UserAccepts _ u that = tt
-asks-come cell.UserRefuses (request.Refuse mine cause body) u that = owner-alone _ _ that (none-come _ that tt)
+asks-come cell.UserRefuses (request.Refuse mine cause body) u that = (none-come (hand.Refuse cause None (given body) None) that tt, tt, tt, tt)
 asks-come cell.UserRefuses _ u that = tt
 asks-come cell.UserSends (request.Send mine body) u that = units-come (units_of body) _ that
 asks-come cell.UserSends _ u that = tt
-asks-come cell.UserExpedites (request.Expedite mine body) u that = owner-alone _ _ that (none-come _ that tt)
+asks-come cell.UserExpedites (request.Expedite mine body) u that = (none-come (hand.Expedited body) that tt, tt, tt, tt)
 asks-come cell.UserExpedites _ u that = tt
-asks-come cell.UserResets r u that = owner-alone _ _ that (none-come _ that tt)
-asks-come cell.UserDisconnects (request.Disc mine cause body) u that = owner-alone _ _ that (none-come _ that tt)
+asks-come cell.UserResets r u that = (none-come (hand.Reset 0) that tt, tt, tt, tt)
+asks-come cell.UserDisconnects (request.Disc mine cause body) u that = (none-come (hand.End cause (given body) None) that tt, tt, tt, tt)
 asks-come cell.UserDisconnects _ u that = tt
 asks-come _ r u that = tt
 
@@ -276,7 +258,6 @@ no-more h hands e = absurd (cc)
 
 next-come : (n : ℕ) (ticks : Ticks) (this that : End) (outs : List Output) (h : Hand) (hands : List Hand) → AreOfWhatCame this (h ∷ hands) that
     → (let c = (other_takes (exchange n ticks) ticks (record { this = this; that = that }, outs) h).0 in AreOfWhatCame c.this hands c.that)
-unfolding Exchanges
 next-come n ticks this that outs h [] k = tt
 next-come n ticks (wire x) that outs h (next ∷ hands) k = absurd (no-more next hands k.2)
 next-come n ticks (owner u) that outs h (next ∷ hands) k =
@@ -349,3 +330,44 @@ pub turn-steps : (c : Cell) (ticks : Ticks) (this that : End) → AreInStep this
 turn-steps cell.Leave ticks this that k = on_windows_kept ticks leaves (leaves_kept ticks) this that k
 turn-steps cell.Acknowledge ticks this that k = on_windows_kept ticks acknowledges (λ x that o three. acknowledges_kept ticks x that) this that k
 turn-steps _ ticks this that k = on_windows_kept ticks (λ x. (x, no_effect)) (nothing-kept ticks) this that k
+
+-- What the code hands over, one after another.
+
+pub answered-come : (ticks : Ticks) (h : Hand) (e this : End) (r : End × Acted) → MayLeave h this → end_takes ticks h e ≡ r → AreOfWhatCame r.0 (hands_of r.1) this
+answered-come ticks h e this r may taken = subst (λ (done : End × Acted). AreOfWhatCame done.0 (hands_of done.1) this) taken (answers-come ticks h e this may)
+
+-- the other end takes the effect at a place
+pub taken-left : (ticks : Ticks) (hands : List Hand) (i : ℕ) (h : Hand) (c : Connection) (r : End × Acted) → i < length hands → AreOfWhatCame c.this (drop i hands) c.that
+    → h ≡ get_or hands i h → end_takes ticks h c.that ≡ r → AreOfWhatCame r.0 (hands_of r.1) c.this
+taken-left ticks hands i h c r within k same taken =
+    answered-come ticks (get_or hands i h) c.that c.this r (subst (λ hs. AreOfWhatCame c.this hs c.that) (drop_more hands i h within) k).1
+    (subst (λ g. end_takes ticks g c.that ≡ r) same taken)
+
+-- and what it hands back has gone on
+pub offered-left : (n : ℕ) (ticks : Ticks) (c d p : Connection) (more : List Output) (hands : List Hand) (i : ℕ) (h : Hand) (e : End × Acted) → i < length hands
+    → h ≡ get_or hands i h → end_takes ticks h c.that ≡ e → exchange n ticks e c.this ≡ (d, more) → p ≡ turned d → AreOfWhatCame c.this (drop i hands) c.that
+    → AreOfWhatCame p.this (drop (i + 1) hands) p.that
+offered-left n ticks c d p more hands i h e within same taken given turn k =
+    let rest = drop (i + 1) hands in
+    let at_place : end_takes ticks (get_or hands i h) c.that ≡ e = subst (λ g. end_takes ticks g c.that ≡ e) same taken in
+    subst (λ (q : Connection). AreOfWhatCame q.this rest q.that) (sym turn)
+    (subst (λ (done : Connection × List Output). AreOfWhatCame (turned done.0).this rest (turned done.0).that) (ap (λ (acting : End × Acted). exchange n ticks acting c.this) at_place ∙ given)
+    (one-taken n ticks (c, []) (get_or hands i h) rest (subst (λ hs. AreOfWhatCame c.this hs c.that) (drop_more hands i h within) k)))
+
+pub offered-more : (n : ℕ) (ticks : Ticks) (c d p : Connection) (outs more all : List Output) (hands : List Hand) (i : ℕ) (h : Hand) (e : End × Acted) (r : Connection × List Output) → i < length hands
+    → h ≡ get_or hands i h → end_takes ticks h c.that ≡ e → exchange n ticks e c.this ≡ (d, more) → p ≡ turned d → all ≡ outs ++ more
+    → fold (other_takes (exchange n ticks) ticks) (c, outs) (drop i hands) ≡ r → fold (other_takes (exchange n ticks) ticks) (p, all) (drop (i + 1) hands) ≡ r
+offered-more n ticks c d p outs more all hands i h e r within same taken given turn joined k =
+    let rest = drop (i + 1) hands in
+    let at_place : end_takes ticks (get_or hands i h) c.that ≡ e = subst (λ g. end_takes ticks g c.that ≡ e) same taken in
+    subst (λ o. fold (other_takes (exchange n ticks) ticks) (p, o) rest ≡ r) (sym joined)
+    (subst (λ (q : Connection). fold (other_takes (exchange n ticks) ticks) (q, outs ++ more) rest ≡ r) (sym turn)
+    (subst (λ (done : Connection × List Output). fold (other_takes (exchange n ticks) ticks) (turned done.0, outs ++ done.1) rest ≡ r) (ap (λ (acting : End × Acted). exchange n ticks acting c.this) at_place ∙ given)
+    (subst (λ hs. fold (other_takes (exchange n ticks) ticks) (c, outs) hs ≡ r) (drop_more hands i h within) k)))
+
+pub hands-left : (hands : List Hand) (i : ℕ) (h : Hand) → i < length hands → SoundHands (drop i hands) → SoundHands (drop (i + 1) hands)
+hands-left hands i h within k = let all = subst SoundHands (drop_more hands i h within) k in (all.0.1, all.1.1)
+
+pub rest-left : (n : ℕ) (ticks : Ticks) (one two : List Hand) (c : Connection) (outs : List Output) (r : Connection × List Output) → AreOfWhatCame c.this (one ++ two) c.that
+    → fold (other_takes (exchange n ticks) ticks) (c, outs) one ≡ r → AreOfWhatCame r.0.this two r.0.that
+rest-left n ticks one two c outs r k taken = subst (λ (done : Connection × List Output). AreOfWhatCame done.0.this two done.0.that) taken (rest-come n ticks one two (c, outs) k)
