@@ -1,5 +1,5 @@
 -- Editions after changes.
-use Rattle.std.proofs.Common.{◌≡◌, ◌+◌, List, [], ◌∷◌, ◌++◌, length, refl, sym, ap, ◌∙◌, length-append, arith}
+use Rattle.std.proofs.Common.{◌≡◌, ◌+◌, List, [], ◌∷◌, ◌++◌, length, refl, length-append, arith}
 use Rattle.plant_core.specs.Plant.{RoutingData}
 use Rattle.plant_core.specs.Changes.{plant_after, plant_after_all}
 use Rattle.plant_core.specs.declared.change.Change.{Change}

@@ -5,7 +5,7 @@ use Rattle.plant_core.specs.declared.change.Change.{Change}
 use Rattle.gtt_editions.specs.declared.step.Step.{Step}
 use Rattle.gtt_editions.specs.declared.step.Step.TheVariants.{Open, Change as Changed, End}
 use Rattle.gtt_editions.specs.Shown.{Shown}
-use Rattle.gtt_editions.specs.Published.{Published, published, Begins}
+use Rattle.gtt_editions.specs.Published.{Published, Begins}
 use Rattle.gtt_editions.specs.Marked.{list_of, marked}
 
 pub begins_refl : (list : Published) → Begins list list

@@ -1,5 +1,5 @@
 -- Each step keeps the rule.
-use Rattle.std.proofs.Common.{◌≡◌, ◌≢◌, ◌⊎◌, ℕ, Bool, true, false, Option, Some, None, List, [], ◌∷◌, ◌++◌, set, refl, sym, ap, ◌∙◌, subst, ⊎_elim, fold, Result, Ok, Err, MatchResult, OnOk, OnErr}
+use Rattle.std.proofs.Common.{◌≡◌, ◌≢◌, ℕ, true, false, Option, Some, None, List, [], ◌∷◌, ◌++◌, set, refl, sym, ap, ◌∙◌, subst, ⊎_elim, fold, Result, Ok, Err, MatchResult, OnOk, OnErr}
 use mathlib.Core.Option.{some}
 use lib.ListN.{get_elem?}
 use Rattle.atomic_table.proofs.Lists.{at_set, at_snoc}
@@ -13,8 +13,7 @@ use Rattle.gtt_editions.specs.declared.store.Store.{Store}
 use Rattle.gtt_editions.specs.Shown.{Shown, View, newcomer}
 use Rattle.gtt_editions.specs.Published.{Published, published, nothing, Begins}
 use Rattle.gtt_editions.specs.Marked.{shown_by, list_of, marked}
-use Rattle.gtt_editions.specs.Standing.{with_change}
-use Rattle.gtt_editions.specs.Rule.{publishing, IsGoing, HasOpened, HasPublished, first_of, informed, Agrees, Knows, Kept, Keeps, edition_or, IsOpened, Opened, Seen, IsCurrent}
+use Rattle.gtt_editions.specs.Rule.{HasOpened, HasPublished, first_of, informed, Agrees, Knows, Kept, Keeps, edition_or, Opened, Seen, IsCurrent}
 use Rattle.gtt_editions.proofs.PublishedLemmas.{begins_refl, begins_trans, marked_begins}
 
 pub nothing_begins : (list : Published) → Begins list nothing

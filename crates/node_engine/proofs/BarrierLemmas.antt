@@ -34,7 +34,7 @@ use Rattle.node_engine.specs.Editions.{changes_of, edition_of, editions_before, 
 use Rattle.node_engine.specs.Lanes.{LaneKind, LanesFrom, IsRouted, conn_kind, data_kind}
 use Rattle.node_engine.specs.Running.{PairsFrom, IsConnLaneOf, IsDataLaneOf, IsOf, IsRightSoFar, IsCounted, AreRightSoFar, HasRoom, Took, Went, book_of, conn_journals, data_journals}
 use Rattle.node_engine.specs.Seats.{SeatState, Seated, SeatKind, IsSeen, IsSeenRouting, IsSeenEntry, WentOn, conn_seat, conn_seated, data_seat, data_seated}
-use Rattle.node_engine.specs.Phases.{PhaseState, GoesOn, IsFresh, IsAtOpening, AreSeated, IsOpening, HaveSeen, HasRoomFor, IsClosing, conns_seated, units_seated}
+use Rattle.node_engine.specs.Phases.{PhaseState, GoesOn, IsAtOpening, IsOpening, HaveSeen, HasRoomFor, IsClosing, conns_seated}
 use Rattle.node_engine.proofs.ListLemmas.{weaker, weaker-two, all-append, all-filter, all-map, all-mapped, map-twice, any-lanes, lanes-all, lanes-weaker, lanes-map, lanes-mapped, pairs-length, pairs-lanes, pairs-map, pairs-all}
 use Rattle.node_engine.proofs.EditionLemmas.{Grows, before-all, before-more, upto-whole}
 use Rattle.node_engine.proofs.LaneLemmas.{stands-kept, known-editions}

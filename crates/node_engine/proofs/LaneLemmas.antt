@@ -1,27 +1,15 @@
 -- A lane takes an event.
-use Rattle.std.proofs.Common.{◌≡◌, ℕ, ◌-◌, ◌≤◌, Bool, true, false, cond, List, [], ◌∷◌, ◌++◌, length, Option, Some, None, sym, ap, ◌∙◌, subst, arith, append-nil}
-use Rattle.std.proofs.lemmas.List.{map-append}
-use Rattle.std.proofs.lemmas.List.Elements.{All-from_recursion}
-use Rattle.std.proofs.lemmas.List.Sorted.{IsNonDecreasingBy-push}
-use Rattle.std.proofs.lemmas.Grind.{flat_map-append}
+use Rattle.std.proofs.Common.{ℕ, ◌≤◌, List, [], ◌∷◌, length, Option}
 use Rattle.std.specs.List.{AllByRecursion}
-use Rattle.std.specs.List.Sorted.{IsNonDecreasing}
 use Rattle.relay_base.specs.declared.words.Event.{Event}
-use Rattle.relay_base.specs.declared.words.Stamp.{Stamp}
-use Rattle.plant_core.specs.Asking.{Question, asked_at}
-use Rattle.plant_core.specs.declared.entry.Asked.{Asked}
+use Rattle.plant_core.specs.Asking.{Question}
 use Rattle.plant_core.specs.declared.entry.Entry.{Entry}
 use Rattle.plant_core.specs.declared.entry.ControlEntry.{ControlEntry}
-use Rattle.plant_core.specs.declared.entry.ControlEvent.TheVariants.{Plain}
-use Rattle.plant_core.specs.Plant.{RoutingData}
 use Rattle.node_head.specs.declared.head.Head.{Head}
-use Rattle.scmg.specs.Control.{routing_after}
-use Rattle.node_engine.specs.Own.{pairs_of}
-use Rattle.node_engine.specs.Heads.{routing_of}
-use Rattle.node_engine.specs.Editions.{changes_of, editions_in, named, IsRouting}
+use Rattle.node_engine.specs.Editions.{changes_of, editions_in, named}
 use Rattle.node_engine.specs.Lanes.{IsRouted}
 use Rattle.node_engine.specs.Running.{IsRightSoFar, IsCounted}
-use Rattle.node_engine.proofs.ListLemmas.{weaker-two, all-append, all-push}
+use Rattle.node_engine.proofs.ListLemmas.{weaker-two, all-append}
 use Rattle.node_engine.proofs.EditionLemmas.{Grows, routing-kept, routing-known}
 
 -- ---- the control journal grew

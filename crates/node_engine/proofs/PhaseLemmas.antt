@@ -5,7 +5,6 @@ use Rattle.std.proofs.lemmas.List.Elements.{recursion_from_All}
 use Rattle.std.specs.declared.vec.Vec.{Vec}
 use Rattle.std.specs.declared.alloc.Global.{Global}
 use Rattle.std.specs.List.{AllByRecursion, flat_map}
-use Rattle.relay_base.specs.declared.words.Event.{Event}
 use Rattle.relay_base.specs.declared.words.Stamp.{Stamp}
 use Rattle.plant_core.specs.Plant.{PlantState}
 use Rattle.plant_core.specs.declared.change.Change.{Change}
@@ -23,8 +22,8 @@ use Rattle.capture_form.specs.declared.lane_place.LanePlace.{LanePlace}
 use Rattle.scmg.specs.Control.{routing_after}
 use Rattle.scmg.specs.Lane.{ControlState}
 use Rattle.scmg.specs.Lane.{changes_of as changes_by}
-use Rattle.node_engine.specs.Own.{pairs_of, control_pairs_of}
-use Rattle.node_engine.specs.Placed.{in_control, in_conn, in_data, taken}
+use Rattle.node_engine.specs.Own.{control_pairs_of}
+use Rattle.node_engine.specs.Placed.{in_control, in_conn, in_data}
 use Rattle.node_engine.specs.Running.{PairsFrom, ControlExtendsIf}
 use Rattle.node_engine.specs.Seats.{SeatState, Seated, SeatKind, TakesIf, WentOn, conn_seat, conn_seated, data_seat, data_seated}
 use Rattle.node_engine.specs.Phases.{PhaseState, SeatsTake, ControlTakes, IsOpen, GoesOn, HasRoomFor, IsAtOpening, conns_seated, units_seated}

@@ -2,7 +2,6 @@
 use Rattle.std.proofs.Common.{◌≡◌, ℕ, zero, suc, ◌+◌, ◌<◌, ◌≤◌, Bool, List, [], ◌∷◌, ◌++◌, length, take, drop, get_or, sym, ap, ◌∙◌, subst, append_assoc, append-nil, add-one, add-zero, arith, length-append}
 use Rattle.std.proofs.lemmas.List.{length-take}
 use Rattle.std.proofs.lemmas.List.{length-map, take-append-drop}
-use Rattle.std.proofs.lemmas.List.Elements.{filter-append}
 use Rattle.std.proofs.Math.Seq.{take-suc}
 use Rattle.std.proofs.lemmas.Grind.{flat_map-append}
 use Rattle.std.specs.List.{AllByRecursion, flat_map}
@@ -12,7 +11,6 @@ use Rattle.plant_core.specs.declared.entry.Entry.{Entry}
 use Rattle.plant_core.specs.declared.entry.ControlEntry.{ControlEntry}
 use Rattle.plant_core.specs.declared.entry.ControlEvent.{ControlEvent}
 use Rattle.plant_core.specs.declared.entry.ControlEvent.TheVariants.{Plain}
-use Rattle.conn_lane.specs.Lanes.{ConnLaneState}
 use Rattle.node_head.specs.declared.head.Head.{Head}
 use Rattle.capture_form.specs.Events.{Stamped, AreOfLinks, AreOfPhases}
 use Rattle.capture_form.specs.Place.{place_of}
@@ -23,7 +21,7 @@ use Rattle.node_engine.specs.Placed.{in_control, taken}
 use Rattle.node_engine.specs.Lanes.{LaneKind, conn_kind, data_kind}
 use Rattle.node_engine.specs.Running.{PairsFrom, CanTake, HasRoom, IsOf, Took, Went, conn_journals, data_journals}
 use Rattle.node_engine.proofs.SeatLemmas.{taken-append}
-use Rattle.node_engine.proofs.ListLemmas.{weaker, all-mapped, all-first, all-rest, pairs-refl, pairs-join, pairs-all}
+use Rattle.node_engine.proofs.ListLemmas.{all-first, all-rest, pairs-refl, pairs-join, pairs-all}
 
 pub taken-length : (in_lane : LanePlace → Bool) (head : Head) (events : Stamped) → length (taken in_lane head events) ≤ length events
 taken-length in_lane head events = length_filter (λ e. in_lane (place_of head e.1)) events

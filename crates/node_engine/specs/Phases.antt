@@ -1,7 +1,6 @@
 -- What the lanes of a phase do with a list of events.
 use Rattle.std.specs.Prelude.{◌≡◌, ◌+◌, ◌++◌, ◌<◌, ℕ, true, List, length, map}
 use Rattle.std.specs.List.{AllByRecursion}
-use Rattle.relay_base.specs.declared.words.Event.{Event}
 use Rattle.relay_base.specs.declared.words.Stamp.{Stamp}
 use Rattle.plant_core.specs.declared.change.Change.{Change}
 use Rattle.plant_core.specs.declared.entry.ControlEntry.{ControlEntry}

@@ -6,29 +6,23 @@ use Rattle.relay_base.specs.declared.words.Event.{Event}
 use Rattle.relay_base.specs.declared.words.Stamp.{Stamp}
 use Rattle.plant_core.specs.Asking.{Question, asked_at}
 use Rattle.plant_core.specs.Plant.{RoutingData}
-use Rattle.plant_core.specs.declared.change.Change.{Change}
 use Rattle.plant_core.specs.declared.entry.Entry.{Entry}
 use Rattle.plant_core.specs.declared.entry.ControlEntry.{ControlEntry}
 use Rattle.plant_core.specs.declared.entry.ControlEvent.{ControlEvent}
-use Rattle.plant_core.specs.declared.entry.ControlEvent.TheVariants.{Plain, Change as Changing}
 use Rattle.data_lane.specs.Legal.{LaneState, IsDataJournal}
-use Rattle.data_lane.specs.Legal.{question_of as question_of_unit}
 use Rattle.conn_lane.specs.Journals.{IsConnJournal}
 use Rattle.conn_lane.specs.Lanes.{ConnLaneState}
 use Rattle.node_head.specs.declared.head.Head.{Head}
 use Rattle.node_head.specs.Ranges.{IsHead}
-use Rattle.capture_form.specs.declared.lane_place.LanePlace.{LanePlace}
 use Rattle.journal_text.specs.declared.book.Book.{Book}
-use Rattle.scmg.specs.Control.{IsControlJournal, routing_after}
-use Rattle.scmg.specs.Lane.{ControlState}
-use Rattle.scmg.specs.Lane.{changes_of as changes_by}
+use Rattle.scmg.specs.Control.{IsControlJournal}
 use Rattle.node_engine.specs.declared.node.Node.{Node}
 use Rattle.capture_form.specs.Events.{Stamped}
 use Rattle.node_engine.specs.Own.{pairs_of, control_pairs_of}
 use Rattle.node_engine.specs.Heads.{routing_of, lane_head_of, control_head_of}
-use Rattle.node_engine.specs.Placed.{in_control, in_conn, in_data, taken}
+use Rattle.node_engine.specs.Placed.{in_control, taken}
 use Rattle.node_engine.specs.Editions.{changes_of, editions_in}
-use Rattle.node_engine.specs.Lanes.{LaneKind, LanesFrom, IsRouted, conn_question, conn_kind, data_kind}
+use Rattle.node_engine.specs.Lanes.{LaneKind, LanesFrom, IsRouted, conn_kind, data_kind}
 
 -- this is said of each two lanes of one number, of which the first is this one
 abbrev pub PairsFrom : {A : Type 0} → (ℕ → A → A → Type 0) → ℕ → List A → List A → Type 0

@@ -19,7 +19,7 @@ use Rattle.capture_form.specs.Events.{Stamped}
 use Rattle.node_engine.specs.Own.{pairs_of}
 use Rattle.node_engine.specs.Placed.{in_conn, in_data, taken}
 use Rattle.node_engine.specs.Editions.{editions_in}
-use Rattle.node_engine.specs.Lanes.{LaneKind, conn_question}
+use Rattle.node_engine.specs.Lanes.{conn_question}
 use Rattle.node_engine.specs.Running.{Extends}
 
 -- a lane of a kind, and its place

@@ -36,7 +36,11 @@ impl<'r, R: Wait> Model for PhaseLanes<'r, R> {
 
     ghost Value = { PhaseState };
 
-    ghost view = { λ l. record { publisher = l.publisher.publisher; conns = l.conns.items; units = l.units.items } };
+    ghost view = { λ l. record {
+      publisher = l.publisher.publisher;
+      conns = l.conns.items;
+      units = l.units.items;
+    } };
 }
 
 impl<'r, R: Wait> Drop for PhaseLanes<'r, R> {

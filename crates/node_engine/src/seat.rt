@@ -68,7 +68,8 @@ fn conn_looks<'r, R: Wait>(
     event: &Event,
 ) -> (Seat<'r, R, ConnLane>, Result<(), Memory>)
     requires { length seat.lane.journal < 2 ^ 32 }
-    ensures { OnOk result.1 (Takes conn_seat stamp event.now (conn_seated seat.entry) (conn_seated result.0)) }
+    ensures { let old = conn_seated seat.entry in let new = conn_seated result.0 in
+        OnOk result.1 (Takes conn_seat stamp event.now old new) }
 {
     let (mut lane, place) = seat.into_parts();
     let looking = place.look();
@@ -82,7 +83,8 @@ fn unit_looks<'r, R: Wait>(
     stamp: Stamp,
     event: &Event,
 ) -> (Seat<'r, R, DataLane>, Result<(), Memory>)
-    ensures { OnOk result.1 (Takes data_seat stamp event.now (data_seated seat.entry) (data_seated result.0)) }
+    ensures { let old = data_seated seat.entry in let new = data_seated result.0 in
+        OnOk result.1 (Takes data_seat stamp event.now old new) }
 {
     let (mut lane, place) = seat.into_parts();
     let looking = place.look();

@@ -90,8 +90,9 @@ impl Turn<'_> {
     /// The connection lanes in which the event is placed take it.
     pub fn conns_take<R: Wait>(&self, seats: &mut [Seat<'_, R, ConnLane>]) -> Result<(), Memory>
         requires { AllByRecursion (λ s. length s.lane.journal < 2 ^ 32) seats.old }
-        ensures { let event = Plain self.now.event.now in
-            OnOk result (SeatsTake conn_seated conn_seat self.now.place self.now.stamp event seats.old seats.new) }
+        ensures { let place = self.now.place in let stamp = self.now.stamp in
+            let event = Plain self.now.event.now in
+            OnOk result (SeatsTake conn_seated conn_seat place stamp event seats.old seats.new) }
     {
         for (number, seat) in seats.iter_mut().enumerate() {
             self.conn_takes(number, seat)?;
@@ -101,8 +102,9 @@ impl Turn<'_> {
 
     /// The data lanes in which the event is placed take it.
     pub fn units_take<R: Wait>(&self, seats: &mut [Seat<'_, R, DataLane>]) -> Result<(), Memory>
-        ensures { let event = Plain self.now.event.now in
-            OnOk result (SeatsTake data_seated data_seat self.now.place self.now.stamp event seats.old seats.new) }
+        ensures { let place = self.now.place in let stamp = self.now.stamp in
+            let event = Plain self.now.event.now in
+            OnOk result (SeatsTake data_seated data_seat place stamp event seats.old seats.new) }
     {
         for (number, seat) in seats.iter_mut().enumerate() {
             self.unit_takes(number, seat)?;

@@ -1,4 +1,4 @@
-use Rattle.std.proofs.Common.{◌≡◌, [], ◌∷◌, ◌++◌, true, false, drop, ap, ◌∙◌}
+use Rattle.std.proofs.Common.{◌≡◌, [], ◌∷◌, ◌++◌, drop, ap, ◌∙◌}
 use Rattle.left_right.specs.Sides.{view}
 use Rattle.gtt_editions.specs.Marked.{shown_by}
 use Rattle.gtt_editions.specs.Rule.{IsCurrent, IsGoing}

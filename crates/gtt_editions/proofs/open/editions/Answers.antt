@@ -1,4 +1,4 @@
-use Rattle.std.proofs.Common.{[], ◌∷◌, ◌++◌, All, ◌∙◌, sym, subst, arith}
+use Rattle.std.proofs.Common.{[], ◌∷◌, ◌++◌, All, ◌∙◌, arith}
 use Rattle.std.proofs.lemmas.Grind.{common_steps}
 use Rattle.std.proofs.lemmas.List.Elements.{All-push}
 use Rattle.gtt_editions.specs.Standing.{IsNewPlace}

@@ -1,4 +1,4 @@
-use Rattle.std.proofs.Common.{◌≡◌, [], All, length}
+use Rattle.std.proofs.Common.{◌≡◌, All, length}
 use Rattle.gtt_editions.specs.Standing.{IsNewPlace}
 use Rattle.gtt_editions.proofs.open.editions.Given as goal
 

@@ -1,8 +1,7 @@
-use Rattle.std.proofs.Common.{length, OnOk, sym, subst}
+use Rattle.std.proofs.Common.{length, sym, subst}
 use Rattle.capture_form.specs.Events.{phase_events}
 use Rattle.scmg.specs.Lane.{ControlState}
 use Rattle.node_engine.specs.declared.node.Node.{Node}
-use Rattle.node_engine.specs.Running.{Went}
 use Rattle.node_engine.specs.Phases.{GoesOn, HasRoomFor}
 use Rattle.node_engine.proofs.BarrierLemmas.{legal-here, room-open, went-closed}
 use Rattle.node_engine.proofs.RightLemmas.{served-done}

@@ -1,4 +1,4 @@
-use Rattle.std.proofs.Common.{◌≡◌, true, map}
+use Rattle.std.proofs.Common.{◌≡◌, map}
 use Rattle.std.specs.List.{AllByRecursion}
 use Rattle.gtt_editions.specs.Published.{Begins}
 use Rattle.node_engine.proofs.phase_lanes.all_unseated.Given as goal

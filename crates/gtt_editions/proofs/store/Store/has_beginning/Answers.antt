@@ -1,4 +1,4 @@
-use Rattle.std.proofs.Common.{◌≡◌, true, sym, ◌∙◌}
+use Rattle.std.proofs.Common.{sym, ◌∙◌}
 use Rattle.gtt_editions.proofs.SameChanges.{begins_by}
 use Rattle.gtt_editions.proofs.store.Store.has_beginning.Goals as goal
 

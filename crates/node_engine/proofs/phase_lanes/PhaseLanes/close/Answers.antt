@@ -1,5 +1,5 @@
-use Rattle.std.proofs.Common.{true, refl, sym, subst}
-use Rattle.gtt_editions.specs.Published.{Published, published}
+use Rattle.std.proofs.Common.{refl, subst}
+use Rattle.gtt_editions.specs.Published.{Published}
 use Rattle.gtt_editions.specs.Standing.{IsEndOf}
 use Rattle.std.specs.List.{AllByRecursion}
 use Rattle.gtt_editions.specs.Published.{Begins}
