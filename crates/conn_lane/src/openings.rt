@@ -234,6 +234,7 @@ impl Openings {
         ensures openings { OnOk result (self.new ≡ changed change self.old) }
         ensures err { OnErr result ((journal.new ≡ journal.old) × (self.new ≡ self.old)) }
     {
+        // Room for an opening is taken here, so that the journal grows last of what may lack memory.
         self.kept.reserve(1)?;
         journal.push(entry)?;
         match change {
