@@ -1,5 +1,5 @@
 -- An act of a section: by its windows where the cell is one of class 3, else by its line.
-use Rattle.std.specs.Prelude.{◌≡◌, ◌==◌, ◌&&◌, not, Bool, true, false, [], if◌then◌else◌}
+use Rattle.std.specs.Prelude.{◌≡◌, ◌&&◌, not, Bool, false, [], if◌then◌else◌}
 use Rattle.section_model.specs.declared.hand.Came.{Came}
 use Rattle.section_model.specs.declared.cell.Cell.{Cell}
 use Rattle.section_model.specs.Views.{section_of}
