@@ -1,4 +1,5 @@
--- The laws of connections side by side in a lane (Q.714, 3): what each of them does is its own, and an entry's outputs are their parts.
+-- The laws of connections side by side in a lane (Q.714, 3): what each of them does is its own, and the outputs of
+-- an entry are their parts.
 use Rattle.std.specs.Prelude.{◌≡◌, ℕ, ◌<◌, true, false, List, [], ◌∷◌, ◌++◌, map, Some, slice_get, flat_map}
 use Rattle.relay_base.specs.declared.limits.TheConstants.{MOST_LANES}
 use Rattle.relay_base.specs.declared.words.Event.{Event}
@@ -30,19 +31,22 @@ openings_at m = openings_of m.lane m.before
 abbrev pub IsLegal : Moment → Type 0
 IsLegal m = IsConnectionJournal m.lane (m.before ++ m.entry ∷ m.since)
 
--- The parts of an entry. A message or a request that a connection hears has the outputs of that connection alone; a tick has those of all
--- connections, in the order in which they were opened. The lane's number has its place in the last four bits of a reference.
+-- The parts of an entry. A message or a request that a connection hears has the outputs of that connection alone; a
+-- tick has those of all connections, in the order in which they were opened. The lane's number has its place in the
+-- last four bits of a reference.
 
 pub record HasItsParts (m : Moment) : Type 0 where
   pub heard :
       (i : ℕ) (o : Opening) → slice_get (openings_at m) i ≡ Some o → is_tick m.entry.event ≡ false
-      → hears (connection_of (ticks_of m) o) m.entry.event ≡ true → m.entry.outs ≡ part_of (ticks_of m) m.entry.event o
-  pub ticked : m.entry.event ≡ Tick → m.entry.outs ≡ flat_map (part_of (ticks_of m) Tick) (openings_at m)
+      → hears (connection_of (ticks_of m) o) m.entry.event ≡ true
+      → m.entry.outs ≡ part_of (ticks_of m) m.entry.event o
+  pub ticked :
+      m.entry.event ≡ Tick → m.entry.outs ≡ flat_map (part_of (ticks_of m) Tick) (openings_at m)
 
 abbrev pub PartsStand : Type 0
 PartsStand = (m : Moment) → m.lane.number < MOST_LANES → IsLegal m → HasItsParts m
 
--- Two worlds. The entry opens a connection, and the references that are free for that are the lowest ones of the lane.
+-- Two worlds. The entry opens a connection, and takes the lowest references of the lane that are free.
 
 abbrev pub wish_at : Moment → Wish
 wish_at m = wish_of m.lane.terms m.entry.event
@@ -64,7 +68,10 @@ heard_since m c = heard (ticks_of m) c (events_since m)
 unfoldable pub parts_of : Ticks → Connection → List Event → List (List Output)
 parts_of ticks c [] = []
 parts_of ticks c (event ∷ events) =
-    elim (hears c event) [ true ↦ (connection_step ticks c event).1 ∷ parts_of ticks (next ticks c event) events | false ↦ parts_of ticks c events ]
+    elim (hears c event) [
+      | true ↦ (connection_step ticks c event).1 ∷ parts_of ticks (next ticks c event) events
+      | false ↦ parts_of ticks c events
+    ]
 
 abbrev pub parts_since : Moment → Connection → List (List Output)
 parts_since m c = parts_of (ticks_of m) c (events_since m)

@@ -1,4 +1,3 @@
 pub mod Acts
 pub mod Comings
-pub mod Resting
 pub mod Sizes

@@ -35,7 +35,7 @@ use Rattle.timer_law.proofs.Quiet.{quiet}
 
 -- A connection that is opened: no section of it is up, and its timers are those of its state.
 
-abbrev pub IsNew : Ticks → End → Type 0
+abbrev IsNew : Ticks → End → Type 0
 IsNew ticks (wire x) = (is_up x.head.state ≡ false) × (x.timers ≡ entered ticks x.head.state no_timers)
 IsNew ticks (owner u) = Unit {0}
 
@@ -62,13 +62,28 @@ by_user_new terms ssn tag w (Local ssn') references = tt
 by_user_new terms ssn tag w (Forward point rewrite hop) [] = tt
 by_user_new terms ssn tag w (Forward point rewrite hop) (mine ∷ references) = (tt, (refl, refl))
 
-pub opened_new : (terms : Terms) (wish : Wish) (answer : Option Answer) (references : List ℕ) → NewIfAny terms.ticks (opened terms wish answer references)
+opened_new : (terms : Terms) (wish : Wish) (answer : Option Answer) (references : List ℕ) → NewIfAny terms.ticks (opened terms wish answer references)
 unfolding opened
 opened_new terms (by_cr w) (Some answer) references = by_cr_new terms w answer references
 opened_new terms (by_cr w) None references = tt
 opened_new terms (by_user ssn tag w) (Some answer) references = by_user_new terms ssn tag w answer references
 opened_new terms (by_user ssn tag w) None references = tt
 opened_new terms no_wish answer references = tt
+
+new_at : (terms : Terms) (event : Event) (answer : Option Answer) (references : List ℕ) (c : Connection)
+    → (opened terms (wish_of terms event) answer references).connection ≡ Some c → AreNew terms.ticks c
+new_at terms event answer references c e =
+    subst (λ connection. IfSome connection (AreNew terms.ticks)) e (opened_new terms (wish_of terms event) answer references)
+
+-- so nothing waits in it
+new_rests : (ticks : Ticks) (e : End) → IsNew ticks e → EndRests e
+new_rests ticks (wire x) new = λ up. absurd (false≢true (sym new.0 ∙ (and_parts (is_up x.head.state) (x.head.class == 3) up).0))
+new_rests ticks (owner u) new = tt
+
+pub opened_rests : (terms : Terms) (event : Event) (answer : Option Answer) (references : List ℕ) (c : Connection)
+    → (opened terms (wish_of terms event) answer references).connection ≡ Some c → Rests c
+opened_rests terms event answer references c e =
+    let new = new_at terms event answer references c e in (new_rests terms.ticks c.this new.0, new_rests terms.ticks c.that new.1)
 
 -- Each opening began so.
 
@@ -149,14 +164,11 @@ end_runs : (ticks : Ticks) (e : End) → AllWithin ticks e → EndRuns ticks e
 end_runs ticks (wire x) all = record { left = all.1; state = all.0.state; after_rel = all.0.after_rel }
 end_runs ticks (owner u) all = tt
 
-first_new : (terms : Terms) (o : Opening) → Began terms o → AreNew terms.ticks o.first
-first_new terms o began =
-    subst (λ connection. IfSome connection (AreNew terms.ticks)) began.3 (opened_new terms (wish_of terms began.0) began.1 began.2)
-
 pub timers_run : TimersRun
 timers_run lane journal i o set here =
     let ticks = lane.terms.ticks in
-    let new = first_new lane.terms o (began_at lane journal i o here) in
+    let began = began_at lane journal i o here in
+    let new = new_at lane.terms began.0 began.1 began.2 o.first began.3 in
     let all = followed (BothWithin ticks) ticks (step_within ticks set) o.first (heard ticks o.first o.since)
     (new_within ticks set o.first.this new.0, new_within ticks set o.first.that new.1) in
     (end_runs ticks _ all.0, end_runs ticks _ all.1)
@@ -171,10 +183,6 @@ unfolding connection_step
 step_steady ticks c event steady =
     (step_keeps ticks c event steady.0, after_event_rests ticks (event_step ticks c event) (event_kept ticks event c steady.0))
 
-new_rests : (ticks : Ticks) (e : End) → IsNew ticks e → EndRests e
-new_rests ticks (wire x) new = λ up. absurd (false≢true (sym new.0 ∙ (and_parts (is_up x.head.state) (x.head.class == 3) up).0))
-new_rests ticks (owner u) new = tt
-
 ticked_rests : (e : End) → EndRests e → EndRests (ticked e)
 ticked_rests (wire x) rests = rests
 ticked_rests (owner u) rests = rests
@@ -183,8 +191,9 @@ pub quiet_tick : QuietTick
 quiet_tick lane journal i o within here this that =
     let ticks = lane.terms.ticks in
     let began = began_at lane journal i o here in
-    let new = first_new lane.terms o began in
-    let steady = followed Steady ticks (step_steady ticks) o.first (heard ticks o.first o.since)
-    (opening_keeps lane.terms began.0 began.1 began.2 o.first within began.3, (new_rests ticks o.first.this new.0, new_rests ticks o.first.that new.1)) in
+    let steady = followed Steady ticks (step_steady ticks) o.first (heard ticks o.first o.since) (
+      opening_keeps lane.terms began.0 began.1 began.2 o.first within began.3,
+      opened_rests lane.terms began.0 began.1 began.2 o.first began.3,
+    ) in
     let c = follow ticks o.first (heard ticks o.first o.since) in
     quiet ticks c (record { this = ticked c.this; that = ticked c.that }) refl this that (ticked_rests c.this steady.1.0, ticked_rests c.that steady.1.1)

@@ -1,5 +1,5 @@
--- The laws of the timers of a connection (Q.714, 3.1, 3.3, 3.4 and 3.7), over the openings that the entries of a lane leave, whatever these are,
--- and so of a legal journal.
+-- The laws of the timers of a connection (Q.714, 3.1, 3.3, 3.4 and 3.7), over the openings that the entries of a lane
+-- leave, whatever these are, and so of a legal journal.
 use Rattle.std.specs.Prelude.{◌≡◌, ℕ, ◌≤◌, Bool, true, false, List, [], Some, None, IfSome, slice_get}
 use Rattle.relay_base.specs.declared.limits.TheConstants.{GREATEST_CREDIT}
 use Rattle.relay_base.specs.declared.words.Event.TheVariants.{Tick}
@@ -50,34 +50,45 @@ may_run Rel s = is_ending s
 may_run Int s = is_ending s
 may_run Repeat s = is_ending s
 
--- Between events a timer that runs has a tick left at least, and no more than it was set to, and the section is in a state of it. While T(rel)
--- runs, T(int) and T(repeat rel) do not.
+-- Between events a timer that runs has a tick left at least, and no more than it is set to, and its section is in a
+-- state that has it. While T(rel) runs, T(int) and T(repeat rel) do not (Q.714, 3.3).
 pub record SectionRuns (ticks : Ticks) (x : Section) : Type 0 where
-  pub left : (timer : Timer) → IfSome (timer_in timer x.timers) (λ left. (1 ≤ left) × (left ≤ set_to ticks timer))
-  pub state : (timer : Timer) → IfSome (timer_in timer x.timers) (λ left. may_run timer x.head.state ≡ true)
+  pub left :
+      (timer : Timer) → IfSome (timer_in timer x.timers) (λ left. (1 ≤ left) × (left ≤ set_to ticks timer))
+  pub state :
+      (timer : Timer) → IfSome (timer_in timer x.timers) (λ left. may_run timer x.head.state ≡ true)
   pub after_rel : IfSome x.timers.rel (λ left. (x.timers.int ≡ None) × (x.timers.repeat ≡ None))
 
 abbrev pub EndRuns : Ticks → End → Type 0
 EndRuns ticks (wire x) = SectionRuns ticks x
 EndRuns ticks (owner u) = Unit {0}
 
+abbrev pub BothRun : Ticks → Connection → Type 0
+BothRun ticks c = EndRuns ticks c.this × EndRuns ticks c.that
+
 -- The law, where each timer is set to one tick at least.
 abbrev pub TimersRun : Type 0
 TimersRun =
-    (lane : Lane) (journal : List Entry) (i : ℕ) (o : Opening) → ((timer : Timer) → 1 ≤ set_to lane.terms.ticks timer)
+    (lane : Lane) (journal : List Entry) (i : ℕ) (o : Opening)
+    → ((timer : Timer) → 1 ≤ set_to lane.terms.ticks timer)
     → slice_get (openings_from lane [] journal) i ≡ Some o
-    → EndRuns lane.terms.ticks (connection_of lane.terms.ticks o).this × EndRuns lane.terms.ticks (connection_of lane.terms.ticks o).that
+    → BothRun lane.terms.ticks (connection_of lane.terms.ticks o)
 
--- A quiet tick: where no timer of a connection fires, each that runs has a tick fewer left, nothing else changes, and nothing leaves.
+-- A quiet tick: where no timer of a connection fires, each that runs has a tick fewer left, nothing else changes, and
+-- nothing leaves.
 
--- no timer has its last tick
+-- at the next tick no timer of the end fires
 abbrev pub NoneFires : End → Type 0
 NoneFires e = (timer : Timer) → is_due_at timer (ticked e) ≡ false
+
+abbrev pub all_ticked : Connection → Connection
+all_ticked c = record { this = ticked c.this; that = ticked c.that }
+
+abbrev pub IsQuiet : Ticks → Connection → Type 0
+IsQuiet ticks c = NoneFires c.this → NoneFires c.that → connection_step ticks c Tick ≡ (all_ticked c, [])
 
 abbrev pub QuietTick : Type 0
 QuietTick =
     (lane : Lane) (journal : List Entry) (i : ℕ) (o : Opening) → lane.terms.credit ≤ GREATEST_CREDIT
-    → slice_get (openings_from lane [] journal) i ≡ Some o → Passes lane.terms.ticks (connection_of lane.terms.ticks o)
-  where
-    Passes : Ticks → Connection → Type 0
-    Passes ticks c = NoneFires c.this → NoneFires c.that → connection_step ticks c Tick ≡ (record { this = ticked c.this; that = ticked c.that }, [])
+    → slice_get (openings_from lane [] journal) i ≡ Some o
+    → IsQuiet lane.terms.ticks (connection_of lane.terms.ticks o)
