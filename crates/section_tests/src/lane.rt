@@ -49,8 +49,8 @@ impl Scene {
     fn assert_outcome(
         &mut self,
         rt: &impl Abort,
-        event: &Event,
-        wanted: &Outs,
+        event: Event,
+        wanted: Outs,
     ) -> Result<(), Memory> {
         if self.lane.journal().len() >= MOST_EVENTS {
             return Err(Memory);
@@ -60,10 +60,28 @@ impl Scene {
             link: 1,
             line: 4,
         };
-        self.lane.step(&self.plant, stamp, event)?;
+        self.lane.step(&self.plant, stamp, &event)?;
         let entry = self.lane.journal().as_slice().last().ok_or(Memory)?;
-        assert_outs(rt, &entry.outs, wanted);
+        assert_outs(rt, &entry.outs, &wanted);
         Ok(())
+    }
+
+    /// A connection of point 200 is offered, and accepted.
+    fn assert_opening(&mut self, rt: &impl Abort, alloc: Global) -> Result<(), Memory> {
+        let request = message(alloc, b"\x01\x01\x00\x00\x02\x02\x00\x02\x42\x08")?;
+        self.assert_outcome(rt, request, offered(alloc)?)?;
+        let confirmation = sent(alloc, b"\x02\x01\x00\x00\x10\x00\x00\x02\x00")?;
+        self.assert_outcome(rt, acceptance(alloc), confirmation)
+    }
+
+    /// A release that names no reference of the lane is answered, and data that name none are lost.
+    fn assert_strays(&mut self, rt: &impl Abort, alloc: Global) -> Result<(), Memory> {
+        let release = message(alloc, b"\x04\x07\x00\x00\x05\x00\x00\x00\x00")?;
+        let complete = sent(alloc, b"\x05\x05\x00\x00\x07\x00\x00")?;
+        self.assert_outcome(rt, release, complete)?;
+        let data = message(alloc, b"\x06\x09\x00\x00\x00\x01\x01\x61")?;
+        let stray = single(alloc, Output::Lost(Lost::Stray))?;
+        self.assert_outcome(rt, data, stray)
     }
 }
 
@@ -130,23 +148,9 @@ fn offered(alloc: Global) -> Result<Outs, Memory> {
 fn carries_a_connection(rt: HostRuntime) -> Result<(), Fail> {
     let alloc = rt.alloc();
     let mut scene = Scene::new(alloc)?;
-
-    let request = message(alloc, b"\x01\x01\x00\x00\x02\x02\x00\x02\x42\x08")?;
-    scene.assert_outcome(&rt, &request, &offered(alloc)?)?;
-
-    let confirmation = sent(alloc, b"\x02\x01\x00\x00\x10\x00\x00\x02\x00")?;
-    scene.assert_outcome(&rt, &acceptance(alloc), &confirmation)?;
-
-    scene.assert_outcome(&rt, &Event::Tick, &Outs::new(alloc))?;
-
-    let release = message(alloc, b"\x04\x07\x00\x00\x05\x00\x00\x00\x00")?;
-    let complete = sent(alloc, b"\x05\x05\x00\x00\x07\x00\x00")?;
-    scene.assert_outcome(&rt, &release, &complete)?;
-
-    let data = message(alloc, b"\x06\x09\x00\x00\x00\x01\x01\x61")?;
-    let stray = single(alloc, Output::Lost(Lost::Stray))?;
-    scene.assert_outcome(&rt, &data, &stray)?;
-
+    scene.assert_opening(&rt, alloc)?;
+    scene.assert_outcome(&rt, Event::Tick, Outs::new(alloc))?;
+    scene.assert_strays(&rt, alloc)?;
     let Scene { lane, .. } = scene;
     assert_eq!(rt; lane.into_journal().len(), 5);
     Ok(())
