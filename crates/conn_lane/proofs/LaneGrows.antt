@@ -36,7 +36,7 @@ use Rattle.conn_lane.proofs.NewSeats.{orderly_keeps}
 use Rattle.conn_lane.proofs.HeardAt.{nobody_named}
 use Rattle.relay_base.specs.declared.words.Request.{Request}
 use Rattle.relay_base.specs.declared.words.Request.TheVariants as request
-use Rattle.q713_codec.specs.declared.message.Message.{Message}
+use Rattle.q713_codec.specs.Names.{Message}
 use Rattle.q713_codec.specs.declared.message.Message.TheVariants.{Cr, Cc}
 use Rattle.relay_base.specs.declared.words.ReadFault.{ReadFault}
 use Rattle.q713_codec.specs.Reading.{reading_of}
