@@ -3,7 +3,7 @@ use Rattle.std.proofs.Common.{◌≡◌, List, length, true, false, [], ◌∷�
 use Rattle.std.proofs.lemmas.List.{append-nil, nil_from_length}
 use Rattle.plant_core.specs.declared.change.Change.{Change}
 use Rattle.gtt_editions.specs.declared.step.Step.{Step}
-use Rattle.gtt_editions.specs.declared.step.Step.TheVariants.{Open, Change as Changed, End}
+use Rattle.gtt_editions.specs.declared.step.Step.TheVariants.{Open, Room, Change as Changed, End}
 use Rattle.gtt_editions.specs.Shown.{Shown}
 use Rattle.gtt_editions.specs.Published.{Published, Begins}
 use Rattle.gtt_editions.specs.Marked.{list_of, marked}
@@ -20,6 +20,7 @@ begins_trans a b c ab bc = record {
 
 pub marked_begins : (x : Shown) (step : Step) → x.ended ≡ false → Begins (list_of (marked x step)) (list_of x)
 marked_begins x Open going = begins_refl (list_of x)
+marked_begins x Room going = begins_refl (list_of x)
 marked_begins x (Changed change) going = record { rest = change ∷ []; longer = refl; closed = λ e. cc }
 marked_begins x End going = record { rest = []; longer = sym (append-nil x.changes); closed = λ e. cc }
 

@@ -8,7 +8,7 @@ use Rattle.gtt_editions.specs.Editions.{Edition, edition_of, edition_after, edit
 use Rattle.gtt_editions.proofs.EditionLemmas.{after_none, after_one_more}
 use Rattle.plant_core.specs.declared.change.Change.{Change}
 use Rattle.gtt_editions.specs.declared.step.Step.{Step}
-use Rattle.gtt_editions.specs.declared.step.Step.TheVariants.{Open, Change as Changed, End}
+use Rattle.gtt_editions.specs.declared.step.Step.TheVariants.{Open, Room, Change as Changed, End}
 use Rattle.gtt_editions.specs.declared.store.Store.{Store}
 use Rattle.gtt_editions.specs.Shown.{Shown, View, newcomer}
 use Rattle.gtt_editions.specs.Published.{Published, published, nothing, Begins}
@@ -68,11 +68,13 @@ sees seat v s views h at =
 
 pub marked-edition : (x : Shown) (opened : Edition) (step : Step) → x.edition ≡ edition_after_all opened x.changes → (marked x step).edition ≡ edition_after_all opened (marked x step).changes
 marked-edition x opened Open is = is
+marked-edition x opened Room is = is
 marked-edition x opened (Changed change) is = ap (λ z. edition_after z change) is ∙ sym (after_one_more opened x.changes change)
 marked-edition x opened End is = is
 
 pub marked-open : (x : Shown) (step : Step) → x.opened ≡ true → (marked x step).opened ≡ true
 marked-open x Open is = refl
+marked-open x Room is = is
 marked-open x (Changed change) is = is
 marked-open x End is = is
 

@@ -1,7 +1,7 @@
 -- What a step does to a copy.
 use Rattle.std.specs.Prelude.{true, [], ◌∷◌, ◌++◌}
 use Rattle.gtt_editions.specs.declared.step.Step.{Step}
-use Rattle.gtt_editions.specs.declared.step.Step.TheVariants.{Open, Change as Changed, End}
+use Rattle.gtt_editions.specs.declared.step.Step.TheVariants.{Open, Room, Change as Changed, End}
 use Rattle.gtt_editions.specs.declared.store.Store.{Store}
 use Rattle.gtt_editions.specs.Shown.{Shown}
 use Rattle.gtt_editions.specs.Editions.{edition_of, edition_after}
@@ -15,5 +15,6 @@ list_of x = published x.changes x.ended
 
 abbrev pub marked : Shown → Step → Shown
 marked x Open = record x { opened = true }
+marked x Room = x
 marked x (Changed change) = record x { edition = edition_after x.edition change; changes = x.changes ++ change ∷ [] }
 marked x End = record x { ended = true }

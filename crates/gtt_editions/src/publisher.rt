@@ -132,6 +132,8 @@ impl<'r, R: Wait> Publisher<'r, R> {
             return Err(Memory);
         }
         self.spent = true;
+        // Either copy has room for the change before the first one has it.
+        publish(self.rt, &mut self.writer, Step::Room)?;
         publish(self.rt, &mut self.writer, Step::Change(*change))?;
         self.spent = false;
         Ok(self.writer.published().plant.edition())

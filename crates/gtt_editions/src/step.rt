@@ -6,6 +6,8 @@ use plant_core::Change;
 pub enum Step {
     /// From now on the publisher knows the edition at the opening.
     Open,
+    /// Each copy takes memory for the next change.
+    Room,
     Change(Change),
     /// Nothing is published after it.
     End,

@@ -35,6 +35,7 @@ impl Absorb<Step> for Store {
                 self.opened = true;
                 Ok(())
             }
+            Step::Room => self.make_room(),
             Step::Change(change) => self.absorb_change(change),
             Step::End => {
                 self.ended = true;
@@ -56,6 +57,17 @@ impl Store {
     ghost use Rattle.std.specs.Prelude.{[], ◌∷◌, MatchResult};
     ghost use Rattle.gtt_editions.specs.Marked.{marked};
     ghost use Rattle.gtt_editions.specs.declared.step.Step.TheVariants as step;
+
+    /// Takes memory for the next change, which changes nothing that is shown.
+    fn make_room(&mut self) -> Result<(), AllocError>
+        ensures { shown_by self.new ≡ shown_by self.old }
+    {
+        self.changes.reserve(1)?;
+        match self.plant.make_room() {
+            Ok(()) => Ok(()),
+            Err(_) => Err(AllocError),
+        }
+    }
 
     fn absorb_change(&mut self, change: &Change) -> Result<(), AllocError>
         ensures { MatchResult result
