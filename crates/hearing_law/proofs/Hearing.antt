@@ -10,8 +10,8 @@ use Rattle.section_model.specs.Step.{hears, names, named, is_named, is_in_range,
 use Rattle.relay_base.specs.References.{slot_of}
 use Rattle.section_model.specs.Lane.{Opening, next, fed, heard, follow, connection_of, gone_for, is_tick, is_at, is_kept_by, reference_of, holds, holds_by}
 use Rattle.section_model.specs.Laws.{openings_from}
-use Rattle.reference_law.specs.ReferenceLaw.{Stays}
-use Rattle.reference_law.proofs.Following.{following_stays}
+use Rattle.connection_law.specs.ReferenceLaw.{Stays}
+use Rattle.connection_law.proofs.Reference.Following.{following_stays}
 use Rattle.hearing_law.specs.HearingLaw.{OneHears}
 use Rattle.hearing_law.proofs.Standing.{apart_from, one_place}
 

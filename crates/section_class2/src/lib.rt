@@ -8,4 +8,3 @@ mod sending;
 mod taking;
 
 pub use line::Line;
-pub use sending::{copied, copied_octets, sent_on};

@@ -6,10 +6,10 @@ ghost use Rattle.section_model.specs.Line.{released, rlsd, breaks};
 ghost use Rattle.section_model.specs.Lengths.{ActedWithin, InputWithin, KeptWithin};
 ghost use Rattle.section_class2.specs.Lines.{line_of, TakesDataOfDt1, line_acts};
 
-use crate::sending::{copied, rlsd};
+use crate::sending::rlsd;
 use mark::Mark;
 use relay_base::Memory;
-use section_model::{Acted, Came, Cell, Hand, Input, KeptRelease, SectionState, WireHead};
+use section_model::{Acted, Came, Cell, Hand, Input, KeptRelease, SectionState, WireHead, copied};
 use std::alloc::Global;
 
 /// What a connection section keeps beside its head: what its release says when it is sent again, and the units that came in, which clauses

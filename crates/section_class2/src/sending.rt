@@ -1,44 +1,14 @@
 //! The messages that a section sends.
 ghost use Rattle.std.specs.Prelude.{◌≡◌, [], ◌∷◌, IfOk, if◌then◌else◌};
-ghost use Rattle.q713_codec.specs.Writing.{InRange};
 ghost use Rattle.q713_codec.specs.declared.message.Message.TheVariants.{Cc, Cref, Dt1, It};
 ghost use Rattle.section_model.specs.Views.{section_of};
 ghost use Rattle.section_model.specs.Line.{sent_on, credit_of, rlsd, rlc};
 ghost use Rattle.section_model.specs.Lengths.{IsAddress, IsData, IsUnitData, KeptWithin};
 
-use q713_codec::{Message, write};
+use q713_codec::Message;
 use relay_base::{Memory, Octets, Output};
-use section_model::{KeptRelease, WireHead};
+use section_model::{KeptRelease, WireHead, copied, copied_octets, sent_on};
 use std::alloc::Global;
-
-/// A copy of octets.
-pub fn copied_octets(octets: &Octets) -> Result<Octets, Memory>
-    ensures { IfOk result (λ copy. copy ≡ octets.now) }
-{
-    Ok(octets.clone()?)
-}
-
-/// A copy of an optional address or of optional data.
-pub fn copied(octets: &Option<Octets>) -> Result<Option<Octets>, Memory>
-    ensures { IfOk result (λ copy. copy ≡ octets.now) }
-{
-    match octets {
-        Some(octets) => Ok(Some(copied_octets(octets)?)),
-        None => Ok(None),
-    }
-}
-
-/// A message on a section.
-pub fn sent_on(alloc: Global, wire: &WireHead, message: Message) -> Result<Output, Memory>
-    requires { InRange message }
-    ensures { IfOk result (λ output. output ≡ sent_on (section_of wire.now) message) }
-{
-    Ok(Output::Sent {
-        point: wire.point,
-        sls: wire.sls,
-        bytes: write(alloc, &message)?,
-    })
-}
 
 /// RLSD with what a release says.
 pub fn rlsd(alloc: Global, wire: &WireHead, kept: &KeptRelease) -> Result<Output, Memory>

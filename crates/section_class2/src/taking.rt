@@ -7,10 +7,10 @@ ghost use Rattle.section_class2.specs.Inner.Heads.{ActsOnHead};
 ghost use Rattle.section_class2.specs.Lines.{line_of};
 
 use crate::line::Line;
-use crate::sending::{confirmation, copied, data, refusal, rlsd};
+use crate::sending::{confirmation, data, refusal, rlsd};
 use mark::Mark;
 use relay_base::Memory;
-use section_model::{Acted, Cell, Hand, KeptRelease, SectionState, WireHead};
+use section_model::{Acted, Cell, Hand, KeptRelease, SectionState, WireHead, copied};
 use std::alloc::Global;
 
 /// The other end accepts: CC, and the section is set up.

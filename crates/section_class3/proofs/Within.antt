@@ -11,14 +11,15 @@ use Rattle.section_model.specs.declared.cell.Occasion.TheVariants as on
 use Rattle.section_model.specs.declared.hand.Acted.{Acted}
 use Rattle.section_model.specs.declared.hand.Hand.{Hand}
 use Rattle.section_model.specs.declared.hand.Hand.TheVariants as hand
-use Rattle.section_model.specs.declared.hand.Unit.{Unit as DataUnit}
+use Rattle.section_flow.specs.declared.unit.Unit.{Unit as DataUnit}
 use Rattle.section_model.specs.declared.input.Input.{Input}
 use Rattle.section_model.specs.declared.input.Input.TheVariants as input
 use Rattle.section_model.specs.declared.wire.WireHead.{WireHead}
 use Rattle.section_model.specs.Ends.{no_effect, is_up}
 use Rattle.section_model.specs.Lengths.{IsWithin, IsDataOf, HandWithin, HandsWithin, ActedWithin, UnitsWithin, ExpeditedWithin, WindowsWithin, ArrivalWithin, InputWithin}
 use Rattle.section_model.specs.Parameters.{Parameters, Arrival, arrival_in}
-use Rattle.section_model.specs.Windowed.{Windowed, windowed_hears, windowed_fires, windowed_takes, leaves, acknowledges, is_next, is_used_up, is_valid, wrong_number, resets, accepts_unit, takes_data, takes_answer, sends_expedited, queues_unit, passes_expedited, passes_reset, counts_left, may_leave}
+use Rattle.section_model.specs.Windowed.{Windowed, windowed_hears, windowed_fires, windowed_takes, leaves, acknowledges, is_next, is_used_up, wrong_number, resets, accepts_unit, takes_data, takes_answer, sends_expedited, queues_unit, passes_expedited, passes_reset, counts_left}
+use Rattle.section_flow.specs.Windows.{is_valid, may_leave}
 use Rattle.section_model.proofs.ArriveWithin.{arrives_within}
 use Rattle.section_class3.specs.Windows.{WindowsState, windowed_of, IsDt2, IsEd, TakesItsData, windows_act, windows_hear_event, windows_hear_arrival}
 

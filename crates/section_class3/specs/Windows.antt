@@ -10,7 +10,8 @@ use Rattle.section_model.specs.declared.wire.WireHead.{WireHead}
 use Rattle.relay_base.specs.declared.words.Event.{Event}
 use Rattle.relay_base.specs.declared.words.Event.TheVariants.{Message as Arrived, Asked as Requested, Tick}
 use Rattle.section_model.specs.declared.hand.Acted.{Acted}
-use Rattle.section_model.specs.Ends.{Windows as SectionWindows, no_effect}
+use Rattle.section_model.specs.Ends.{no_effect}
+use Rattle.section_flow.specs.Windows.{Windows as SectionWindows}
 use Rattle.section_model.specs.Parameters.{Arrival, arrival_in}
 use Rattle.section_model.specs.Windowed.{Windowed, HasCome, windowed_hears, windowed_fires, windowed_takes, leaves, acknowledges}
 use Rattle.section_flow.specs.declared.counts.Counts.{Counts}

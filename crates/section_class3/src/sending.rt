@@ -4,13 +4,13 @@ ghost use Rattle.q713_codec.specs.declared.message.Message.TheVariants.{Ak, Ed, 
 ghost use Rattle.section_model.specs.Views.{section_of};
 ghost use Rattle.section_model.specs.Line.{sent_on};
 ghost use Rattle.section_model.specs.Lengths.{IsExpeditedData, IsUnitData};
-ghost use Rattle.section_model.specs.declared.limits.TheConstants.{SEQUENCE_NUMBERS};
+ghost use Rattle.section_flow.specs.declared.limits.TheConstants.{SEQUENCE_NUMBERS};
 ghost use Rattle.section_class3.specs.Inner.Sending.{numbered_output, test_output};
 
 use q713_codec::Message;
 use relay_base::{Memory, Octets, Output};
-use section_class2::{copied_octets, sent_on};
-use section_model::{Unit, WireHead};
+use section_flow::Unit;
+use section_model::{WireHead, copied_octets, sent_on};
 use std::alloc::Global;
 
 /// DT2 with a unit of data, and with P(S) and P(R) below 128.

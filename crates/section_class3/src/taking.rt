@@ -7,8 +7,8 @@ ghost use Rattle.section_class3.specs.Windows.{windowed_of};
 use crate::sending::{expedited, expedited_acknowledgement, reset_request};
 use crate::windows::Windows;
 use relay_base::{Memory, Octets};
-use section_class2::copied_octets;
-use section_model::{Acted, Cell, Hand, SectionState, Unit, WireHead};
+use section_flow::Unit;
+use section_model::{Acted, Cell, Hand, SectionState, WireHead, copied_octets};
 use std::alloc::Global;
 
 impl Windows {

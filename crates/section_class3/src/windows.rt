@@ -9,9 +9,8 @@ ghost use Rattle.section_class3.specs.Windows.{windowed_of, counts_of, InputHasC
 
 use crate::sending::test;
 use relay_base::{Memory, Octets};
-use section_class2::copied;
 use section_flow::Flow;
-use section_model::{Acted, Cell, Input, WireHead};
+use section_model::{Acted, Cell, Input, WireHead, copied};
 use std::alloc::Global;
 use std::marker::Model;
 

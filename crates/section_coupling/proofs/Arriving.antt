@@ -25,7 +25,7 @@ use Rattle.section_coupling.specs.Sound.{came_in}
 use Rattle.section_coupling.specs.Inner.Acts.{is_set_up, windows_begun, came_begun}
 use Rattle.section_model.specs.Timing.{timers_after}
 use Rattle.std.specs.List.{list_any}
-use Rattle.flow_law.proofs.Flowing.{either}
+use Rattle.connection_law.proofs.Flow.Flowing.{either}
 use Rattle.section_model.specs.Parameters.{Arrival}
 use Rattle.section_model.specs.Acting.{timed, is_sent, windows_after, by_line, by_windows, in_windows, section_hears}
 use Rattle.relay_base.specs.declared.words.Output.TheVariants.{Lost as Dropped}

@@ -11,21 +11,22 @@ use Rattle.section_model.specs.declared.cell.Cell.{Cell}
 use Rattle.section_model.specs.declared.cell.Cell.TheVariants as cell
 use Rattle.section_model.specs.declared.hand.Hand.{Hand}
 use Rattle.section_model.specs.declared.hand.Hand.TheVariants as hand
-use Rattle.section_model.specs.declared.hand.Unit.{Unit as DataUnit}
+use Rattle.section_flow.specs.declared.unit.Unit.{Unit as DataUnit}
 use Rattle.section_model.specs.declared.hand.Acted.{Acted}
 use Rattle.section_model.specs.Parameters.{Parameters}
 use Rattle.section_model.specs.Laws.{hands_of}
 use Rattle.section_model.specs.Ends.{End, wire, owner, Line, Section, User, Connection, turned, is_up}
 use Rattle.section_model.specs.Line.{agreed, agreed_credit, reached, line_hears, line_fires, line_takes}
-use Rattle.section_model.specs.Windowed.{Windowed, windowed_hears, windowed_fires, windowed_takes, resets, is_next, is_used_up, is_valid, wrong_number, takes_data, sends_expedited, may_leave, leaves, acknowledges}
+use Rattle.section_model.specs.Windowed.{Windowed, windowed_hears, windowed_fires, windowed_takes, resets, is_next, is_used_up, wrong_number, takes_data, sends_expedited, leaves, acknowledges}
+use Rattle.section_flow.specs.Windows.{is_valid, may_leave}
 use Rattle.section_model.specs.UserEnd.{given, user_takes, user_asks, handed, units_of}
 use Rattle.section_model.specs.Acting.{timed, by_windows, by_line, line_in, is_by_class, in_windows, section_hears, section_fires, section_takes, section_takes_by, user_takes_by, end_takes}
 use Rattle.section_model.specs.Coupling.{other_takes, exchange}
-use Rattle.flow_law.specs.InStep.{AreInStep}
-use Rattle.flow_law.proofs.Flowing.{either}
-use Rattle.flow_law.proofs.Growing.{StaysAs}
-use Rattle.flow_law.proofs.Going.{exchange_goes, offered_goes}
-use Rattle.flow_law.proofs.Leaving.{few_leave}
+use Rattle.connection_law.specs.InStep.{AreInStep}
+use Rattle.connection_law.proofs.Flow.Flowing.{either}
+use Rattle.connection_law.proofs.Flow.Growing.{StaysAs}
+use Rattle.connection_law.proofs.Flow.Going.{exchange_goes, offered_goes}
+use Rattle.connection_law.proofs.Flow.Leaving.{few_leave}
 use Rattle.section_model.specs.declared.hand.Came.{Came}
 use Rattle.section_model.specs.Ends.{no_effect}
 use Rattle.section_model.specs.Windowed.{HasCome}
@@ -33,9 +34,9 @@ use Rattle.section_model.specs.Views.{seen_parameters}
 use Rattle.section_model.specs.Table.{section_cell}
 use Rattle.section_model.specs.Step.{checked, hears_checked, on_windows}
 use Rattle.section_class3.specs.Windows.{windows_turn}
-use Rattle.flow_law.specs.InStep.{Meets, connected, section_stage, IsInStep}
-use Rattle.flow_law.proofs.Acting.{ActsWindowed, acts_alone}
-use Rattle.flow_law.proofs.Leaving.{leaves_kept, acknowledges_kept, on_windows_kept}
+use Rattle.connection_law.specs.InStep.{Meets, connected, section_stage, IsInStep}
+use Rattle.connection_law.proofs.Flow.Acting.{ActsWindowed, acts_alone}
+use Rattle.connection_law.proofs.Flow.Leaving.{leaves_kept, acknowledges_kept, on_windows_kept}
 use Rattle.section_coupling.specs.declared.clock.Clock.{Clock}
 use Rattle.section_coupling.specs.declared.coming.Coming.{Coming}
 use Rattle.section_coupling.specs.declared.wire.Wire.{Wire}

@@ -8,12 +8,12 @@ use Rattle.plant_core.specs.declared.answer.Answer.{Answer}
 use Rattle.plant_core.specs.declared.terms.Terms.{Terms}
 use Rattle.section_model.specs.Step.{after_event, connection_step, event_step, hears}
 use Rattle.section_model.specs.Opening.{wish_of, opened}
-use Rattle.flow_law.specs.InStep.{AreInStep, IsInStep}
-use Rattle.flow_law.proofs.Step.{step_keeps}
-use Rattle.flow_law.proofs.Opening.{opening_keeps}
-use Rattle.message_law.specs.DataSent.{SendsData}
-use Rattle.message_law.specs.ExpeditedSent.{SendsExpedited}
-use Rattle.message_law.proofs.Sent.{data_sent, expedited_sent}
+use Rattle.connection_law.specs.InStep.{AreInStep, IsInStep}
+use Rattle.connection_law.proofs.Flow.Step.{step_keeps}
+use Rattle.connection_law.proofs.Flow.Opening.{opening_keeps}
+use Rattle.connection_law.specs.DataSent.{SendsData}
+use Rattle.connection_law.specs.ExpeditedSent.{SendsExpedited}
+use Rattle.connection_law.proofs.Message.Sent.{data_sent, expedited_sent}
 use Rattle.section_coupling.specs.declared.side.Side.{Side}
 use Rattle.section_coupling.specs.declared.side.Side.TheVariants as side
 use Rattle.section_coupling.specs.declared.pair.Pair.{Pair}

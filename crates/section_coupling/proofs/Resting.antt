@@ -8,11 +8,11 @@ use Rattle.plant_core.specs.declared.terms.Terms.{Terms}
 use Rattle.plant_core.specs.declared.terms.Ticks.{Ticks}
 use Rattle.section_model.specs.Step.{event_step, after_event}
 use Rattle.section_model.specs.Opening.{wish_of, opened}
-use Rattle.flow_law.specs.InStep.{IsInStep}
-use Rattle.flow_law.proofs.Step.{event_kept}
-use Rattle.timer_law.specs.Resting.{EndRests, Rests}
-use Rattle.timer_law.proofs.Resting.{after_event_rests}
-use Rattle.timer_law.proofs.Openings.{opened_rests}
+use Rattle.connection_law.specs.InStep.{IsInStep}
+use Rattle.connection_law.proofs.Flow.Step.{event_kept}
+use Rattle.connection_law.specs.Resting.{EndRests, Rests}
+use Rattle.connection_law.proofs.Timer.Resting.{after_event_rests}
+use Rattle.connection_law.proofs.Timer.Openings.{opened_rests}
 use Rattle.section_coupling.specs.declared.side.Side.{Side}
 use Rattle.section_coupling.specs.declared.side.Side.TheVariants as side
 use Rattle.section_coupling.specs.declared.pair.Pair.{Pair}

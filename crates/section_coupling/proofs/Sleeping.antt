@@ -5,8 +5,8 @@ use Rattle.relay_base.specs.declared.words.Event.TheVariants.{Tick}
 use Rattle.plant_core.specs.declared.terms.Ticks.{Ticks}
 use Rattle.section_model.specs.declared.cell.Timer.TheVariants.{Connect, Reset, Iar, Ias, Rel, Int, Repeat}
 use Rattle.section_model.specs.Step.{is_due_at, connection_step}
-use Rattle.timer_law.specs.Resting.{Rests}
-use Rattle.timer_law.proofs.Quiet.{NoneDue, quiet}
+use Rattle.connection_law.specs.Resting.{Rests}
+use Rattle.connection_law.proofs.Timer.Quiet.{NoneDue, quiet}
 use Rattle.section_coupling.specs.declared.side.Side.{Side}
 use Rattle.section_coupling.specs.declared.side.Side.TheVariants as side
 use Rattle.section_coupling.specs.declared.pair.Pair.{Pair}

@@ -12,7 +12,7 @@ use Rattle.section_model.specs.declared.cell.Cell.TheVariants as cell
 use Rattle.section_model.specs.declared.hand.Acted.{Acted}
 use Rattle.section_model.specs.declared.hand.Hand.{Hand}
 use Rattle.section_model.specs.declared.hand.Hand.TheVariants as hand
-use Rattle.section_model.specs.declared.hand.Unit.{Unit as DataUnit}
+use Rattle.section_flow.specs.declared.unit.Unit.{Unit as DataUnit}
 use Rattle.section_model.specs.Ends.{User, no_effect, gives_then}
 use Rattle.section_model.specs.UserEnd.{user_asks, user_takes, accepts, refuses, sends, expedites, disconnects, units_of, handed, tells_confirm, tells_disconnect, collects, tells_expedited, tells_reset, user_counts_left, taken}
 use Rattle.section_user.specs.Side.{ActsAs, user_of, user_side_of, user_hears_event}

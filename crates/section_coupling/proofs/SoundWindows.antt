@@ -12,7 +12,8 @@ use Rattle.relay_base.specs.declared.words.Event.{Event}
 use Rattle.relay_base.specs.declared.words.Event.TheVariants.{Message as Arrived, Asked as Requested, Tick}
 use Rattle.section_model.specs.Parameters.{Parameters, Arrival, arrival_in}
 use Rattle.relay_base.specs.declared.words.Output.{Output}
-use Rattle.section_model.specs.Ends.{Windows, no_effect, gives, gives_then}
+use Rattle.section_model.specs.Ends.{no_effect, gives, gives_then}
+use Rattle.section_flow.specs.Windows.{Windows}
 use Rattle.section_model.specs.Windowed.{Windowed, resets, wrong_number, windowed_hears, windowed_fires, windowed_takes, takes_data, takes_acknowledgement, takes_expedited, takes_answer, sends_expedited, queues_unit, passes_expedited, passes_reset, counts_left, leaves, acknowledges}
 use Rattle.section_model.specs.declared.wire.WireHead.{WireHead}
 use Rattle.section_class3.specs.Windows.{WindowsState, windowed_of, windows_act, windows_hear_arrival, windows_hear_event, windows_turn}

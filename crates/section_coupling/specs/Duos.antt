@@ -7,8 +7,8 @@ use Rattle.section_model.specs.declared.cell.Timer.{Timer}
 use Rattle.section_model.specs.declared.cell.Timer.TheVariants.{Repeat}
 use Rattle.section_model.specs.Ends.{End, wire, owner, Connection}
 use Rattle.section_model.specs.Timing.{firing_order, timer_in}
-use Rattle.flow_law.specs.InStep.{IsInStep}
-use Rattle.timer_law.specs.Resting.{Rests}
+use Rattle.connection_law.specs.InStep.{IsInStep}
+use Rattle.connection_law.specs.Resting.{Rests}
 use Rattle.section_coupling.specs.declared.pair.EndName.{EndName}
 use Rattle.section_coupling.specs.declared.pair.EndName.TheVariants.{This, That}
 use Rattle.section_coupling.specs.declared.pair.Pair.{Pair}

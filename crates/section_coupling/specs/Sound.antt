@@ -7,7 +7,8 @@ use Rattle.section_model.specs.declared.input.Input.{Input}
 use Rattle.section_model.specs.declared.input.Input.TheVariants as input
 use Rattle.relay_base.specs.declared.limits.TheConstants.{GREATEST_CREDIT}
 use Rattle.section_model.specs.declared.hand.Came.{Came}
-use Rattle.section_model.specs.Ends.{Windows as SectionWindows, End, wire, owner}
+use Rattle.section_model.specs.Ends.{End, wire, owner}
+use Rattle.section_flow.specs.Windows.{Windows as SectionWindows}
 use Rattle.section_model.specs.Windowed.{HasCome}
 use Rattle.section_model.specs.Lengths.{HandsWithin, InputWithin, KeptWithin, WindowsWithin}
 use Rattle.section_coupling.specs.declared.wire.Wire.{Wire}

@@ -8,10 +8,10 @@ ghost use Rattle.section_coupling.specs.Openings.{IsAnswered};
 ghost use Rattle.section_model.specs.Parameters.{arrival_in};
 ghost use Rattle.section_coupling.specs.Views.{connection_at, left_at, IsStep};
 ghost use Rattle.section_coupling.specs.Sound.{IsCredit, SoundPair};
-ghost use Rattle.flow_law.specs.InStep.{IsInStep};
-ghost use Rattle.flow_law.specs.FlowLaw.{FlowKept};
-ghost use Rattle.message_law.specs.DataSent.{SendsData};
-ghost use Rattle.message_law.specs.ExpeditedSent.{SendsExpedited};
+ghost use Rattle.connection_law.specs.InStep.{IsInStep};
+ghost use Rattle.connection_law.specs.FlowLaw.{FlowKept};
+ghost use Rattle.connection_law.specs.DataSent.{SendsData};
+ghost use Rattle.connection_law.specs.ExpeditedSent.{SendsExpedited};
 ghost use Rattle.relay_base.specs.declared.words.Event.TheVariants.{Tick};
 ghost use Rattle.section_coupling.specs.Duos.{duo_at, taken_after, end_numbered, end_named, left_of_timer, ticks_left, fewest_left};
 

@@ -6,7 +6,7 @@ ghost use Rattle.section_class3.specs.Windows.{windows_turn};
 ghost use Rattle.section_model.specs.Views.{section_of};
 ghost use Rattle.section_model.specs.Coupling.{and_then};
 ghost use Rattle.section_model.specs.Step.{on_windows, on_each, after_event};
-ghost use Rattle.flow_law.specs.InStep.{AreInStep, IsInStep};
+ghost use Rattle.connection_law.specs.InStep.{AreInStep, IsInStep};
 ghost use Rattle.section_coupling.specs.Views.{section_by, end_by, connection_by, IsStep};
 ghost use Rattle.section_coupling.specs.Sound.{SoundWire, SoundSide, SoundPair};
 

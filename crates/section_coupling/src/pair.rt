@@ -3,7 +3,7 @@ ghost use Rattle.std.specs.Prelude.{◌≡◌, ◌<◌, ℕ, Some, IfOk};
 ghost use Rattle.section_model.specs.Ends.{Connection, turned};
 ghost use Rattle.section_model.specs.Step.{names};
 ghost use Rattle.section_coupling.specs.Duos.{end_named, end_numbered};
-ghost use Rattle.flow_law.specs.InStep.{IsInStep};
+ghost use Rattle.connection_law.specs.InStep.{IsInStep};
 ghost use Rattle.section_coupling.specs.Views.{connection_at};
 ghost use Rattle.section_coupling.specs.Sound.{SoundPair};
 

@@ -1,10 +1,9 @@
 -- The flow control of a section (Q.714, 3.5.2): its counts as whole numbers, its credits, and the units that wait.
 use Rattle.std.specs.Prelude.{ℕ, suc, ◌+◌, ◌-◌, ◌%◌, ◌==◌, Bool, false, not, List, [], ◌∷◌, ◌++◌, length, if◌then◌else◌, Option, Some, None, unwrap_or}
 use Rattle.relay_base.specs.declared.causes.TheConstants.{RESET_INCORRECT_FIRST_NUMBER, RESET_INCORRECT_RECEIVE_NUMBER, RESET_INCORRECT_SEND_NUMBER, RESET_OUT_OF_WINDOW}
-use Rattle.section_model.specs.declared.hand.Unit.{Unit as DataUnit}
-use Rattle.section_model.specs.declared.limits.TheConstants.{SEQUENCE_NUMBERS}
-use Rattle.section_model.specs.Ends.{Windows}
-use Rattle.section_model.specs.Windowed.{count_of, is_valid}
+use Rattle.section_flow.specs.declared.unit.Unit.{Unit as DataUnit}
+use Rattle.section_flow.specs.declared.limits.TheConstants.{SEQUENCE_NUMBERS}
+use Rattle.section_flow.specs.Windows.{Windows, count_of, is_valid}
 use Rattle.section_flow.specs.declared.counts.Counts.{Counts}
 pub use Rattle.section_flow.specs.Held.{IsWithinWindows}
 

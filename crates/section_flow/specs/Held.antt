@@ -1,7 +1,7 @@
 -- What the code holds of the counts of a section.
 use Rattle.std.specs.Prelude.{ℕ, ◌≡◌, ◌≤◌, ◌+◌, ◌%◌, ◌==◌, not, length}
 use Rattle.relay_base.specs.declared.limits.TheConstants.{GREATEST_CREDIT}
-use Rattle.section_model.specs.declared.limits.TheConstants.{SEQUENCE_NUMBERS}
+use Rattle.section_flow.specs.declared.limits.TheConstants.{SEQUENCE_NUMBERS}
 use Rattle.section_flow.specs.declared.counts.Counts.{Counts}
 use Rattle.section_flow.specs.declared.counts.Remainders.{Remainders}
 

@@ -1,2 +1,3 @@
+pub mod Windows
 pub mod Flow
 pub mod Held

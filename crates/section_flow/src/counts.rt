@@ -1,9 +1,9 @@
 //! The counts of a section, as whole numbers and as the code holds them.
 ghost use Rattle.std.specs.Prelude.{◌≡◌, ◌≤◌, ◌<◌, ◌+◌, ◌-◌, ◌%◌, true, false};
 
+use crate::limits::SEQUENCE_NUMBERS;
+use crate::unit::Unit;
 use relay_base::PlainList;
-use section_model::Unit;
-use section_model::limits::SEQUENCE_NUMBERS;
 
 /// Units of data, in order.
 pub type UnitList = PlainList<Unit>;

@@ -1,10 +1,12 @@
 //! The flow control of a section.
 ghost use Rattle.std.specs.Prelude.{◌≡◌, true, false, ◌≤◌, ◌<◌, ◌+◌, ◌-◌, ◌%◌, ◌++◌, [], ◌∷◌, Some, None, drop, length, min, suc, IfOk, IfErr, IfSome, IfNone, OnOk, OnErr};
 ghost use Rattle.std.specs.Option.{option_map};
-ghost use Rattle.section_model.specs.Windowed.{count_of, is_valid, may_leave};
+ghost use Rattle.section_flow.specs.Windows.{count_of, is_valid, may_leave};
 ghost use Rattle.section_flow.specs.Flow.{cleared_flow, no_counts, windows_of, wrong_number, unit_refusal, counts_after_unit, counts_after_acknowledgement, counts_after_sending, counts_after_leaving, counts_after_telling, due_of, IsWithinWindows};
 
 use crate::counts::{Counts, Remainders};
+use crate::limits::SEQUENCE_NUMBERS;
+use crate::unit::Unit;
 use mark::Mark;
 use relay_base::Memory;
 use relay_base::causes::{
@@ -12,8 +14,6 @@ use relay_base::causes::{
     RESET_OUT_OF_WINDOW,
 };
 use relay_base::limits::GREATEST_CREDIT;
-use section_model::Unit;
-use section_model::limits::SEQUENCE_NUMBERS;
 use std::alloc::Global;
 use std::collections::VecDeque;
 use std::marker::Model;

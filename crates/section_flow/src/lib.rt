@@ -4,7 +4,9 @@
 
 mod counts;
 mod flow;
+pub mod limits;
+mod unit;
 
 pub use counts::{Counts, UnitList};
 pub use flow::Flow;
-pub use section_model::Unit;
+pub use unit::Unit;

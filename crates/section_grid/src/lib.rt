@@ -8,9 +8,10 @@ mod section_table;
 mod user_table;
 
 pub use grid::Grid;
+pub use section_flow::Unit;
 pub use section_model::{
-    Acted, Cell, Hand, HandList, Input, KeptRelease, Occasion, SectionState, Timer, Unit,
-    UserOccasion, UserState, WireHead,
+    Acted, Cell, Hand, HandList, Input, KeptRelease, Occasion, SectionState, Timer, UserOccasion,
+    UserState, WireHead,
 };
 pub use section_table::{section_cell, wire_grid};
 pub use user_table::{user_cell, user_grid};

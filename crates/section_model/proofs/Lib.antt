@@ -4,4 +4,3 @@ pub mod ReadLengths
 pub mod ReadWithin
 pub mod InRanges
 pub mod ArriveWithin
-pub mod Counting

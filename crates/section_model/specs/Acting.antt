@@ -15,7 +15,8 @@ use Rattle.section_model.specs.declared.hand.Acted.{Acted}
 use Rattle.section_model.specs.declared.hand.Hand.{Hand}
 use Rattle.plant_core.specs.declared.terms.Ticks.{Ticks}
 use Rattle.relay_base.specs.declared.words.Output.{Output}
-use Rattle.section_model.specs.Ends.{Line, Windows, Section, End, wire, owner, cleared, is_up, is_connected}
+use Rattle.section_model.specs.Ends.{Line, Section, End, wire, owner, cleared, is_up, is_connected}
+use Rattle.section_flow.specs.Windows.{Windows}
 use Rattle.section_model.specs.Line.{line_hears, line_fires, line_takes}
 use Rattle.section_model.specs.Windowed.{Windowed, windowed_hears, windowed_fires, windowed_takes}
 use Rattle.section_model.specs.UserEnd.{user_takes}

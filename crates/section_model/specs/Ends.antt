@@ -6,7 +6,8 @@ pub use Rattle.section_model.specs.declared.cell.SectionState.{SectionState}
 pub use Rattle.section_model.specs.declared.cell.UserState.{UserState}
 pub use Rattle.section_model.specs.declared.cell.SectionState.TheVariants as section
 pub use Rattle.section_model.specs.declared.cell.UserState.TheVariants as user
-pub use Rattle.section_model.specs.declared.hand.Unit.{Unit as DataUnit}
+pub use Rattle.section_flow.specs.declared.unit.Unit.{Unit as DataUnit}
+use Rattle.section_flow.specs.Windows.{Windows}
 pub use Rattle.section_model.specs.declared.hand.Hand.{Hand}
 pub use Rattle.section_model.specs.declared.hand.Acted.{Acted}
 pub use Rattle.section_model.specs.declared.hand.KeptRelease.{KeptRelease}
@@ -40,19 +41,6 @@ pub record Line : Type 0 where
   pub kept : KeptRelease
   pub got : List DataUnit  -- the units that came in on this section
   pub passed : ℕ  -- how many of them left on the other end
-
--- The counts, as whole numbers since they were last cleared, and what waits. In class 2 there are the first two alone.
-pub record Windows : Type 0 where
-  pub got : List DataUnit  -- in both classes, the units that came in on this section
-  pub passed : ℕ  -- in both classes, how many of them left on the other end
-  pub told : ℕ  -- the last P(R) sent
-  pub sent : ℕ  -- the units sent on this section
-  pub acked : ℕ  -- the last P(R) received
-  pub credit : ℕ  -- how many units may be sent beyond it
-  pub waits : List DataUnit  -- the units of the other end that have not left
-  pub waiting : Option (List ℕ)  -- expedited data that has not left
-  pub unanswered : Bool  -- expedited data left, and its EA has not come
-  pub owed : Bool  -- expedited data came, and its EA has not left
 
 pub record Section : Type 0 where
   pub head : SectionHead

@@ -14,7 +14,8 @@ use Rattle.section_model.specs.declared.input.Input.TheVariants as input
 use Rattle.relay_base.specs.declared.limits.TheConstants.{LONGEST_DATA, LONGEST_EXPEDITED}
 use Rattle.section_model.specs.declared.limits.TheConstants.{LONGEST_ADDRESS, LONGEST_UNIT}
 use Rattle.section_model.specs.Parameters.{Arrival, arrival_in}
-use Rattle.section_model.specs.Ends.{DataUnit, Windows}
+use Rattle.section_model.specs.Ends.{DataUnit}
+use Rattle.section_flow.specs.Windows.{Windows}
 use Rattle.q713_codec.specs.Writing.{InRange}
 
 -- at least so many octets, and at most so many

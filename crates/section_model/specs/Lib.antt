@@ -13,3 +13,4 @@ pub mod Opening
 pub mod Lane
 pub mod Lengths
 pub mod Laws
+pub mod Journals

@@ -88,7 +88,9 @@ wish_of_reading terms point sls (Err fault) = no_wish
 -- a request for a connection in its ranges
 abbrev pub may_be_wanted : ℕ → ℕ → List ℕ → List ℕ → Bool
 may_be_wanted class credit called body =
-    (class == 2 || class == 3) && nat_le credit GREATEST_CREDIT && nat_le (length called) LONGEST_GIVEN_ADDRESS && is_ok (address_of called) && nat_le (length body) LONGEST_DATA
+    (class == 2 || class == 3) && nat_le credit GREATEST_CREDIT
+    && nat_le (length called) LONGEST_GIVEN_ADDRESS && is_ok (address_of called)
+    && nat_le (length body) LONGEST_DATA
 
 -- A user's connection: the calling address is its subsystem, the hop counter is the greatest, and the link selection comes of its tag.
 abbrev pub wanted_by_user : Terms → ℕ → ℕ → ℕ → ℕ → List ℕ → List ℕ → Wanted

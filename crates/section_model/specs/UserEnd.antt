@@ -13,7 +13,7 @@ use Rattle.section_model.specs.declared.cell.Cell.TheVariants as cell
 use Rattle.relay_base.specs.declared.limits.TheConstants.{LONGEST_TEXT}
 use Rattle.section_model.specs.declared.limits.TheConstants.{LONGEST_UNIT}
 use Rattle.section_model.specs.declared.cell.UserState.TheVariants.{Ready, Renewing, Gone}
-use Rattle.section_model.specs.declared.hand.Unit.{Unit as DataUnit}
+use Rattle.section_flow.specs.declared.unit.Unit.{Unit as DataUnit}
 use Rattle.section_model.specs.declared.hand.Acted.{Acted}
 use Rattle.section_model.specs.declared.hand.Hand.{Hand}
 use Rattle.relay_base.specs.declared.words.Output.{Output}

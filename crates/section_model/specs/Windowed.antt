@@ -1,6 +1,5 @@
 -- What a connection section does in class 3 alone: numbered data and its windows (Q.714, 3.5.2), expedited data (3.6), and the reset (3.7).
-use Rattle.std.specs.Prelude.{ℕ, suc, ◌+◌, ◌-◌, ◌*◌, ◌%◌, ◌≤◌, ◌==◌, ◌||◌, ◌&&◌, nat_lt, not, Bool, true, false, List, [], ◌∷◌, ◌++◌, length, take, drop, find, if◌then◌else◌, Option, Some, None, unwrap_or, is_some, min}
-use Rattle.std.specs.List.{range_with_len}
+use Rattle.std.specs.Prelude.{ℕ, suc, ◌+◌, ◌-◌, ◌*◌, ◌%◌, ◌≤◌, ◌==◌, ◌||◌, ◌&&◌, nat_lt, not, Bool, true, false, List, [], ◌∷◌, ◌++◌, length, take, drop, if◌then◌else◌, Option, Some, None, unwrap_or, is_some, min}
 use Rattle.relay_base.specs.declared.causes.TheConstants.{RESET_INCORRECT_FIRST_NUMBER, RESET_INCORRECT_RECEIVE_NUMBER, RESET_INCORRECT_SEND_NUMBER, RESET_OUT_OF_WINDOW, RESET_REMOTE_PROCEDURE_ERROR}
 use Rattle.relay_base.specs.declared.words.Output.TheVariants.{Lost as Dropped}
 use Rattle.relay_base.specs.declared.words.Lost.TheVariants as lost
@@ -8,15 +7,16 @@ use Rattle.section_model.specs.declared.hand.Hand.TheVariants as hand
 use Rattle.section_model.specs.declared.cell.Cell.{Cell}
 use Rattle.section_model.specs.declared.cell.Cell.TheVariants as cell
 use Rattle.relay_base.specs.declared.limits.TheConstants.{GREATEST_CREDIT}
-use Rattle.section_model.specs.declared.limits.TheConstants.{SEQUENCE_NUMBERS}
+use Rattle.section_flow.specs.declared.limits.TheConstants.{SEQUENCE_NUMBERS}
 use Rattle.section_model.specs.declared.cell.SectionState.TheVariants.{Up, Resetting}
 use Rattle.q713_codec.specs.declared.message.Message.TheVariants.{Dt2, Ak, Ed, Ea, Rsr, Rsc, It}
 use Rattle.section_model.specs.Parameters.{Parameters}
-use Rattle.section_model.specs.declared.hand.Unit.{Unit as DataUnit}
+use Rattle.section_flow.specs.declared.unit.Unit.{Unit as DataUnit}
 use Rattle.section_model.specs.declared.hand.Acted.{Acted}
 use Rattle.section_model.specs.declared.hand.Hand.{Hand}
 use Rattle.relay_base.specs.declared.words.Output.{Output}
-use Rattle.section_model.specs.Ends.{SectionHead, Windows, no_effect, gives, gives_then, cleared, is_up}
+use Rattle.section_model.specs.Ends.{SectionHead, no_effect, gives, gives_then, cleared, is_up}
+use Rattle.section_flow.specs.Windows.{Windows, is_valid, acknowledged, may_leave}
 use Rattle.section_model.specs.Line.{sent_on}
 
 -- A section with its counts.
@@ -27,18 +27,6 @@ pub record Windowed : Type 0 where
 -- a count as the messages of class 3 carry it, from bit 2 on (Q.713, 3.8 and 3.9)
 abbrev pub sequence : ℕ → ℕ
 sequence n = 2 * (n % SEQUENCE_NUMBERS)
-
--- The count that a P(R) stands for (Q.714, 3.5.2): of those from the last P(R) received up to the units sent, the one with that remainder.
-abbrev pub count_of : ℕ → ℕ → ℕ → Option ℕ
-count_of pr acked sent =
-    find (λ count. count % SEQUENCE_NUMBERS == pr % SEQUENCE_NUMBERS) (range_with_len acked ((sent - acked) + 1))
-
--- a P(R) is valid where it stands for one, and is taken as that
-abbrev pub is_valid : ℕ → Windows → Bool
-is_valid pr w = is_some (count_of pr w.acked w.sent)
-
-abbrev pub acknowledged : ℕ → Windows → Windows
-acknowledged pr w = record w { acked = unwrap_or (count_of pr w.acked w.sent) w.acked }
 
 -- RSR with a cause here (Q.714, 3.7), the counts of both ends cleared, and the reset for the other end.
 abbrev pub resets : ℕ → Windowed → Windowed × Acted
@@ -158,10 +146,6 @@ abbrev pub numbered : SectionHead → ℕ → ℕ → List DataUnit → List Out
 numbered x ps pr [] = []
 numbered x ps pr (u ∷ units) =
     sent_on x (Dt2 x.other (sequence ps ∷ (sequence pr + (if u.more then 1 else 0)) ∷ []) u.body) ∷ numbered x (suc ps) pr units
-
--- how many waiting units may leave now
-abbrev pub may_leave : Windows → ℕ
-may_leave w = min (length w.waits) (w.credit - (w.sent - w.acked))
 
 -- After each event, on a section that is up: units leave as far as the window goes (Q.714, 3.5.2), and then expedited data (3.6).
 unfoldable pub leaves : Windowed → Windowed × Acted

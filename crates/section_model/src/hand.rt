@@ -3,14 +3,8 @@ ghost use Rattle.std.specs.Prelude.{◌≡◌, [], ◌∷◌, IfOk};
 ghost use Rattle.section_model.specs.Ends.{no_effect, gives, gives_then, only_cause};
 
 use relay_base::{Memory, Octets, Output, Outs, PlainList};
+use section_flow::Unit;
 use std::alloc::Global;
-
-/// A unit of data of 1 to 255 octets, and whether more of its text follows.
-#[derive(Drop)]
-pub struct Unit {
-    pub more: bool,
-    pub body: Octets,
-}
 
 /// The units that came in at an end since its counts were last cleared, in both classes, and how many of them left on the other end. Where the
 /// code doesn't hold them, clauses alone count them.

@@ -1,9 +1,6 @@
 //! The sizes and the limits of connections.
 use relay_base::limits::LONGEST_PARAMETER;
 
-/// What sequence numbers are counted modulo (Q.713, 3.8 and 3.9).
-pub const SEQUENCE_NUMBERS: u8 = 128;
-
 /// The most units of a text that wait in class 3, with those that are to wait.
 pub const MOST_WAITING: usize = 127;
 

@@ -5,7 +5,7 @@ use Rattle.relay_base.specs.declared.words.Event.TheVariants.{Message as Arrived
 use Rattle.section_model.specs.declared.cell.Cell.{Cell}
 use Rattle.section_model.specs.declared.input.Input.{Input}
 use Rattle.section_model.specs.declared.input.Input.TheVariants as input
-use Rattle.section_model.specs.declared.hand.Unit.{Unit as DataUnit}
+use Rattle.section_flow.specs.declared.unit.Unit.{Unit as DataUnit}
 use Rattle.section_model.specs.declared.hand.Acted.{Acted}
 use Rattle.section_model.specs.Ends.{User, no_effect}
 use Rattle.section_model.specs.UserEnd.{user_asks, user_takes}

@@ -2,7 +2,7 @@
 use Rattle.std.specs.Prelude.{◌≡◌, ℕ, List}
 use Rattle.section_model.specs.declared.hand.Acted.{Acted}
 use Rattle.section_model.specs.declared.hand.KeptRelease.{KeptRelease}
-use Rattle.section_model.specs.declared.hand.Unit.{Unit as DataUnit}
+use Rattle.section_flow.specs.declared.unit.Unit.{Unit as DataUnit}
 use Rattle.section_model.specs.declared.wire.WireHead.{WireHead}
 use Rattle.section_model.specs.Ends.{Line as SectionLine}
 use Rattle.section_model.specs.Views.{section_of}

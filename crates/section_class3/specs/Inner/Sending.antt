@@ -2,10 +2,11 @@
 use Rattle.std.specs.Prelude.{ℕ, ◌+◌, ◌*◌, ◌==◌, List, [], ◌∷◌, take, drop, if◌then◌else◌, Option, Some, None}
 use Rattle.q713_codec.specs.declared.message.Message.TheVariants.{Dt2, Ed, It}
 use Rattle.relay_base.specs.declared.words.Output.{Output}
-use Rattle.section_model.specs.declared.hand.Unit.{Unit as DataUnit}
-use Rattle.section_model.specs.Ends.{SectionHead, Windows}
+use Rattle.section_flow.specs.declared.unit.Unit.{Unit as DataUnit}
+use Rattle.section_model.specs.Ends.{SectionHead}
+use Rattle.section_flow.specs.Windows.{Windows, may_leave}
 use Rattle.section_model.specs.Line.{sent_on}
-use Rattle.section_model.specs.Windowed.{may_leave, numbered}
+use Rattle.section_model.specs.Windowed.{numbered}
 use Rattle.section_flow.specs.Flow.{FlowState, windows_of}
 
 -- DT2 with a unit of data, P(S) and P(R), and IT with P(S) and P(R)

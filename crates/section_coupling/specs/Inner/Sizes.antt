@@ -27,4 +27,6 @@ part_size options = if options == 0 then 0 else options + 1
 -- CR has a called address of so many octets, and optional parameters of so many
 abbrev pub are_fitting : ℕ → ℕ → Bool
 are_fitting called options =
-    nat_le called LONGEST_PARAMETER && nat_le (if options == 0 then 0 else 2 + called) GREATEST_OCTET && nat_le (8 + called + part_size options) LONGEST
+    nat_le called LONGEST_PARAMETER
+    && nat_le (if options == 0 then 0 else 2 + called) GREATEST_OCTET
+    && nat_le (8 + called + part_size options) LONGEST

@@ -1,7 +1,7 @@
 use Rattle.std.proofs.Common.{List, subst}
 use Rattle.relay_base.specs.declared.words.Output.{Output}
 use Rattle.section_model.specs.Ends.{Connection, wire as end}
-use Rattle.flow_law.specs.InStep.{AreInStep, IsInStep}
+use Rattle.connection_law.specs.InStep.{AreInStep, IsInStep}
 use Rattle.section_coupling.specs.declared.side.Side.{Side}
 use Rattle.section_coupling.specs.Views.{section_by, end_by}
 use Rattle.section_coupling.proofs.Composed.{if-ok}

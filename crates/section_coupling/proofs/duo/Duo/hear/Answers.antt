@@ -3,13 +3,13 @@ use Rattle.std.specs.Prelude.{IsTrue}
 use Rattle.std.specs.Prelude.{List}
 use Rattle.relay_base.specs.declared.words.Output.{Output}
 use Rattle.section_model.specs.Ends.{Connection}
-use Rattle.flow_law.specs.InStep.{IsInStep}
-use Rattle.flow_law.proofs.Step.{event_kept}
-use Rattle.flow_law.proofs.Following.{flow_kept}
+use Rattle.connection_law.specs.InStep.{IsInStep}
+use Rattle.connection_law.proofs.Flow.Step.{event_kept}
+use Rattle.connection_law.proofs.Flow.Following.{flow_kept}
 use Rattle.section_coupling.specs.Views.{connection_at}
 use Rattle.section_model.specs.Step.{hears}
-use Rattle.message_law.specs.DataSent.{SendsData}
-use Rattle.message_law.specs.ExpeditedSent.{SendsExpedited}
+use Rattle.connection_law.specs.DataSent.{SendsData}
+use Rattle.connection_law.specs.ExpeditedSent.{SendsExpedited}
 use Rattle.section_coupling.specs.Duos.{DuoState, duo_at, taken_after}
 use Rattle.section_coupling.proofs.Keeping.{at-any, kept-step, data-step, expedited-step}
 use Rattle.section_coupling.proofs.Resting.{rests_step}

@@ -1,4 +1,4 @@
-use Rattle.flow_law.proofs.Ends.{kept_back}
+use Rattle.connection_law.proofs.Flow.Ends.{kept_back}
 use Rattle.section_coupling.specs.Views.{connection_at}
 use Rattle.section_coupling.proofs.pair.Pair.turned.Goals as goal
 

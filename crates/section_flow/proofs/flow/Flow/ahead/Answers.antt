@@ -1,5 +1,5 @@
 use Rattle.std.proofs.Common.{◌≡◌, ℕ, ◌+◌, ◌-◌, ◌%◌, sym, subst, arith}
-use Rattle.section_model.proofs.Counting.{count-ahead, count-beyond}
+use Rattle.section_flow.proofs.Counting.{count-ahead, count-beyond}
 use Rattle.section_flow.specs.Flow.{FlowState}
 use Rattle.section_flow.proofs.flow.Flow.ahead.Goals as goal
 

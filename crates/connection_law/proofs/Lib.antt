@@ -1,0 +1,4 @@
+pub mod Reference
+pub mod Flow
+pub mod Message
+pub mod Timer

@@ -1,0 +1,10 @@
+pub mod ReferenceLaw
+pub mod InStep
+pub mod SentUnits
+pub mod FlowLaw
+pub mod Messages
+pub mod DataSent
+pub mod DataAlong
+pub mod ExpeditedSent
+pub mod Resting
+pub mod TimerLaw

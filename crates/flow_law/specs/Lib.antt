@@ -1,3 +1,0 @@
-pub mod InStep
-pub mod SentUnits
-pub mod FlowLaw

@@ -1,4 +1,0 @@
-pub mod Messages
-pub mod DataSent
-pub mod DataAlong
-pub mod ExpeditedSent

@@ -1,5 +1,0 @@
-pub mod Ends
-pub mod Acting
-pub mod Settling
-pub mod Step
-pub mod Following
