@@ -25,7 +25,8 @@ use Rattle.capture_form.specs.declared.steps.TheConstants.{MOST_LINES, MOST_TICK
 use Rattle.capture_form.specs.Events.{Stamped, phase_lists, phase_events, all_events, AreOfPhases, IsStamped}
 use Rattle.capture_form.proofs.PhaseLemmas.{phases-stamped}
 use Rattle.capture_form.proofs.ReaderLemmas.{reader-agrees}
-use Rattle.node_head.proofs.Given.{IfGiven, bound, bound_if, either, by_test}
+use Rattle.relay_base.proofs.GivingLemmas.{bound}
+use Rattle.node_head.proofs.Given.{after_any, either, by_test}
 
 -- ---- all events
 
@@ -84,38 +85,38 @@ record Counted (r : Reading) : Type 0 where
 is-less : (n : ℕ) → nat_le MOST_LINES n ≡ false → n < 200000
 is-less n h = grind (arith, nat_tests)
 
-tick-counted : (r : Reading) → Counted r → IfGiven Counted (tick_counted r)
+tick-counted : (r : Reading) → Counted r → IfOk (tick_counted r) Counted
 tick-counted r h =
     either Counted (nat_le MOST_TICKS r.ticks) (Err (refused.TooLong limit.Ticks)) (Ok (record r { ticks = r.ticks + 1 })) tt
     (record { fine = fine-same r (record r { ticks = r.ticks + 1 }) refl refl h.fine; less = h.less })
 
-line-counted : (r : Reading) (ws : List (List ℕ)) → Fine r → IfGiven Counted (line_counted r ws)
+line-counted : (r : Reading) (ws : List (List ℕ)) → Fine r → IfOk (line_counted r ws) Counted
 line-counted r ws h =
     by_test Counted (nat_le MOST_LINES r.events) (Err (refused.TooLong limit.Lines)) (cond (begins (codes "t") ws) (tick_counted r) (Ok r)) (λ e. tt)
     (λ e. either Counted (begins (codes "t") ws) (tick_counted r) (Ok r) (tick-counted r (record { fine = h; less = is-less r.events e })) (record { fine = h; less = is-less r.events e }))
 
-event-put : (head : Head) (ws : List (List ℕ)) (r : Reading) → Counted r → IfGiven Fine (event_put head ws r)
-event-put head ws r h = bound Fine (at_line r.line (event_of head ws)) (λ e. Ok (event_added r e)) (λ e. fine-added r e h.less h.fine)
+event-put : (head : Head) (ws : List (List ℕ)) (r : Reading) → Counted r → IfOk (event_put head ws r) Fine
+event-put head ws r h = after_any Fine (at_line r.line (event_of head ws)) (λ e. Ok (event_added r e)) (λ e. fine-added r e h.less h.fine)
 
-event-taken : (head : Head) (r : Reading) (ws : List (List ℕ)) → Fine r → IfGiven Fine (event_taken head r ws)
-event-taken head r ws h = bound_if Counted Fine (line_counted r ws) (event_put head ws) (line-counted r ws h) (λ s. event-put head ws s)
+event-taken : (head : Head) (r : Reading) (ws : List (List ℕ)) → Fine r → IfOk (event_taken head r ws) Fine
+event-taken head r ws h = bound Counted Fine (line_counted r ws) (event_put head ws) (line-counted r ws h) (λ s. event-put head ws s)
 
-barrier-taken : (head : Head) (r : Reading) (ws : List (List ℕ)) → Fine r → IfGiven Fine (barrier_taken head r ws)
+barrier-taken : (head : Head) (r : Reading) (ws : List (List ℕ)) → Fine r → IfOk (barrier_taken head r ws) Fine
 barrier-taken head r ws h =
     let words_fault : Result Reading CaptureFault = Err (refused.Line record { line = r.line; kind = kind.Words }) in
     either Fine (nat_lt MOST_BARRIERS r.phase) (Err (refused.TooLong limit.Barriers)) (cond (length ws == 1) (Ok (phase_ended head r)) words_fault) tt
     (either Fine (length ws == 1) (Ok (phase_ended head r)) words_fault (fine-ended head r h) tt)
 
-line-taken : (head : Head) (r : Reading) (line : List ℕ) → Fine r → IfGiven Fine (line_taken head r line)
+line-taken : (head : Head) (r : Reading) (line : List ℕ) → Fine r → IfOk (line_taken head r line) Fine
 unfolding line_taken
 line-taken head r line h =
     either Fine (is_skipped line) (Ok (record r { line = r.line + 1 })) (words_taken head r (words line)) (fine-same r (record r { line = r.line + 1 }) refl refl h)
     (either Fine (begins (codes "w") (words line)) (barrier_taken head r (words line)) (event_taken head r (words line)) (barrier-taken head r (words line) h) (event-taken head r (words line) h))
 
-lines-taken : (head : Head) (ls : List (List ℕ)) (r : Reading) → Fine r → IfGiven Fine (lines_taken head r ls)
+lines-taken : (head : Head) (ls : List (List ℕ)) (r : Reading) → Fine r → IfOk (lines_taken head r ls) Fine
 unfolding lines_taken
 lines-taken head [] r h = h
-lines-taken head (line ∷ more) r h = bound_if Fine Fine (line_taken head r line) (λ s. lines_taken head s more) (line-taken head r line h) (λ s. lines-taken head more s)
+lines-taken head (line ∷ more) r h = bound Fine Fine (line_taken head r line) (λ s. lines_taken head s more) (line-taken head r line h) (λ s. lines-taken head more s)
 
 -- ---- a capture
 
@@ -138,9 +139,9 @@ few-choice : (r : Reading) (t : Bool) → Fine r → AreFew (cond t [] (r.phases
 few-choice r true h = omega arith
 few-choice r false h = few-events (r.phases ++ r.current ∷ []) r (ended-events r) h
 
-read-few : (head : Head) (number : ℕ) (ls : List (List ℕ)) → IfGiven (λ c. AreFew c.phases) (capture_read head number ls)
+read-few : (head : Head) (number : ℕ) (ls : List (List ℕ)) → IfOk (capture_read head number ls) (λ c. AreFew c.phases)
 read-few head number ls =
-    bound_if Fine (λ (c : Capture). AreFew c.phases) (lines_taken head (reading_from head number) ls) (λ r. Ok (record { head = head; phases = phases_read r }))
+    bound Fine (λ (c : Capture). AreFew c.phases) (lines_taken head (reading_from head number) ls) (λ r. Ok (record { head = head; phases = phases_read r }))
     (lines-taken head ls (reading_from head number) (fine-from head number)) (λ r h. few-choice r (r.events == 0) h)
 
 -- ---- stamps
@@ -149,7 +150,7 @@ stamped-choice : (links n : ℕ) (events : Stamped) (t : Bool) → AreOfPhases l
 stamped-choice links n events true = tt
 stamped-choice links n events false = phases-stamped links 1 n events
 
-stamped-unless : (faults : List CaptureFault) (c : Capture) → IsStamped c.head c.phases → IfGiven (λ c. IsStamped c.head c.phases) (unless_faulty faults c)
+stamped-unless : (faults : List CaptureFault) (c : Capture) → IsStamped c.head c.phases → IfOk (unless_faulty faults c) (λ c. IsStamped c.head c.phases)
 stamped-unless [] c h = h
 stamped-unless (f ∷ fs) c h = tt
 
@@ -159,11 +160,11 @@ record IsGood (c : Capture) : Type 0 where
   stamped : IsStamped c.head c.phases
   few : AreFew c.phases
 
-both-given : (r : Result Capture CaptureFault) → IfGiven (λ c. IsStamped c.head c.phases) r → IfGiven (λ c. AreFew c.phases) r → IfGiven IsGood r
+both-given : (r : Result Capture CaptureFault) → IfOk r (λ c. IsStamped c.head c.phases) → IfOk r (λ c. AreFew c.phases) → IfOk r IsGood
 both-given (Ok c) s f = record { stamped = s; few = f }
 both-given (Err e) s f = tt
 
-stamped-after : (head : Head) (number : ℕ) (ls : List (List ℕ)) → IfGiven (λ c. IsStamped c.head c.phases) (capture_after head number ls)
+stamped-after : (head : Head) (number : ℕ) (ls : List (List ℕ)) → IfOk (capture_after head number ls) (λ c. IsStamped c.head c.phases)
 unfolding capture_after
 stamped-after head number ls =
     let stated = lines_from number ls in
@@ -171,16 +172,16 @@ stamped-after head number ls =
     stamped-unless (filter_map (fault_at head) (with_above stated)) (record { head = head; phases = phases_of head.links stated events })
     (stamped-choice head.links (barriers stated + 1) events (length events == 0))
 
-good-after : (parts : Head × ℕ × List (List ℕ)) → IfGiven IsGood (capture_from parts)
+good-after : (parts : Head × ℕ × List (List ℕ)) → IfOk (capture_from parts) IsGood
 good-after parts =
     both-given (capture_from parts) (stamped-after parts.0 (parts.1 + 2) parts.2)
-    (subst (IfGiven (λ (c : Capture). AreFew c.phases)) (reader-agrees parts.0 (parts.1 + 2) parts.2) (read-few parts.0 (parts.1 + 2) parts.2))
+    (subst (λ r. IfOk r (λ (c : Capture). AreFew c.phases)) (reader-agrees parts.0 (parts.1 + 2) parts.2) (read-few parts.0 (parts.1 + 2) parts.2))
 
-good-within : (bytes : List ℕ) → IfGiven IsGood (capture_within bytes)
-good-within bytes = bound IsGood (at_head (begun (halves (lines bytes)))) capture_from good-after
+good-within : (bytes : List ℕ) → IfOk (capture_within bytes) IsGood
+good-within bytes = after_any IsGood (at_head (begun (halves (lines bytes)))) capture_from good-after
 
 good-read : (r : Result Capture CaptureFault) (bytes : List ℕ) → Reads r (capture_within bytes) → IfOk r IsGood
-good-read (Ok capture) bytes e = subst (IfGiven IsGood) e (good-within bytes)
+good-read (Ok capture) bytes e = subst (λ r. IfOk r IsGood) e (good-within bytes)
 good-read (Err fault) bytes e = tt
 
 pub read-stamped : (r : Result Capture CaptureFault) (bytes : List ℕ) → Reads r (capture_within bytes) → IfOk r (λ c. IsStamped c.head c.phases)

@@ -8,7 +8,8 @@ use Rattle.plant_core.specs.declared.entry.ControlEvent.{ControlEvent}
 use Rattle.node_head.specs.Lines.{lines, halves}
 use Rattle.node_head.specs.Head.{begun}
 use Rattle.node_head.specs.declared.head.Head.{Head}
-use Rattle.node_head.proofs.Given.{IfGiven, bound, bound_if, either, by_test}
+use Rattle.relay_base.proofs.GivingLemmas.{bound}
+use Rattle.node_head.proofs.Given.{after_any, either, by_test}
 use Rattle.capture_form.specs.Text.{same}
 use Rattle.capture_form.specs.Words.{below, link_in, link_of, user_of, octets_of}
 use Rattle.capture_form.specs.Changes.{change_of}
@@ -39,45 +40,45 @@ LinkAgrees e = Agrees e.0 e.1
 from-one : (n links : ℕ) → (nat_le 1 n && nat_le n links) ≡ true → 1 ≤ n
 from-one n links h = leb-true 1 n (both-left (nat_le 1 n) (nat_le n links) h)
 
-link-in : (links : ℕ) (n : Option ℕ) → IfGiven (λ k. 1 ≤ k) (link_in links n)
+link-in : (links : ℕ) (n : Option ℕ) → IfOk (link_in links n) (λ k. 1 ≤ k)
 link-in links None = tt
 link-in links (Some n) = by_test (λ k. 1 ≤ k) (nat_le 1 n && nat_le n links) (Ok n) (Err Number) (from-one n links) (λ e. tt)
 
-message-agrees : (head : Head) (ws : List (List ℕ)) → IfGiven LinkAgrees (message_form head ws)
+message-agrees : (head : Head) (ws : List (List ℕ)) → IfOk (message_form head ws) LinkAgrees
 message-agrees head (link ∷ opc ∷ sls ∷ hex ∷ []) =
-    bound_if (λ k. 1 ≤ k) LinkAgrees (link_of head.links link) _ (link-in head.links (number_of link)) (λ k h.
-    bound LinkAgrees (below 16384 opc) _ (λ point.
-    bound LinkAgrees (below 16 sls) _ (λ selection.
-    bound LinkAgrees (octets_of hex) _ (λ octets. sym (lt-ltb 0 k h)))))
+    bound (λ k. 1 ≤ k) LinkAgrees (link_of head.links link) _ (link-in head.links (number_of link)) (λ k h.
+    after_any LinkAgrees (below 16384 opc) _ (λ point.
+    after_any LinkAgrees (below 16 sls) _ (λ selection.
+    after_any LinkAgrees (octets_of hex) _ (λ octets. sym (lt-ltb 0 k h)))))
 message-agrees head [] = tt
 message-agrees head (a ∷ []) = tt
 message-agrees head (a ∷ b ∷ []) = tt
 message-agrees head (a ∷ b ∷ c ∷ []) = tt
 message-agrees head (a ∷ b ∷ c ∷ d ∷ e ∷ more) = tt
 
-asked-agrees : (head : Head) (link ssn : List ℕ) (form : Option RequestForm) (more : List (List ℕ)) → IfGiven LinkAgrees (asked_form head link ssn form more)
+asked-agrees : (head : Head) (link ssn : List ℕ) (form : Option RequestForm) (more : List (List ℕ)) → IfOk (asked_form head link ssn form more) LinkAgrees
 asked-agrees head link ssn None more = tt
 asked-agrees head link ssn (Some form) more =
     either LinkAgrees (has_form form more) _ (Err Words)
-    (bound_if (λ k. 1 ≤ k) LinkAgrees (link_of head.links link) _ (link-in head.links (number_of link)) (λ k h.
-    bound LinkAgrees (user_of head.users ssn) _ (λ user.
-    bound LinkAgrees (request_of form more) _ (λ asked. sym (lt-ltb 0 k h)))))
+    (bound (λ k. 1 ≤ k) LinkAgrees (link_of head.links link) _ (link-in head.links (number_of link)) (λ k h.
+    after_any LinkAgrees (user_of head.users ssn) _ (λ user.
+    after_any LinkAgrees (request_of form more) _ (λ asked. sym (lt-ltb 0 k h)))))
     tt
 
-request-agrees : (head : Head) (ws : List (List ℕ)) → IfGiven LinkAgrees (request_form head ws)
+request-agrees : (head : Head) (ws : List (List ℕ)) → IfOk (request_form head ws) LinkAgrees
 request-agrees head (link ∷ ssn ∷ word ∷ more) = asked-agrees head link ssn (form_of word) more
 request-agrees head [] = tt
 request-agrees head (a ∷ []) = tt
 request-agrees head (a ∷ b ∷ []) = tt
 
-tick-agrees : (ws : List (List ℕ)) → IfGiven LinkAgrees (tick_form ws)
+tick-agrees : (ws : List (List ℕ)) → IfOk (tick_form ws) LinkAgrees
 tick-agrees [] = refl
 tick-agrees (a ∷ more) = tt
 
-change-agrees : (head : Head) (first : List ℕ) (more : List (List ℕ)) → IfGiven LinkAgrees (change_form head first more)
-change-agrees head first more = bound LinkAgrees (change_of head first more) _ (λ change. refl)
+change-agrees : (head : Head) (first : List ℕ) (more : List (List ℕ)) → IfOk (change_form head first more) LinkAgrees
+change-agrees head first more = after_any LinkAgrees (change_of head first more) _ (λ change. refl)
 
-event-agrees : (head : Head) (ws : List (List ℕ)) → IfGiven LinkAgrees (event_of head ws)
+event-agrees : (head : Head) (ws : List (List ℕ)) → IfOk (event_of head ws) LinkAgrees
 event-agrees head [] = tt
 event-agrees head (first ∷ more) =
     either LinkAgrees (same first (codes "m")) (message_form head more) _ (message-agrees head more)
@@ -93,7 +94,7 @@ abbrev IfThere : Option (Stamp × ControlEvent) → Type 0
 IfThere None = Unit {0}
 IfThere (Some e) = StampAgrees e
 
-of-line : (number phase : ℕ) (r : Result Linked LineKind) → IfGiven LinkAgrees r
+of-line : (number phase : ℕ) (r : Result Linked LineKind) → IfOk r LinkAgrees
     → IfThere (option_map (λ e. (record { phase = phase; link = e.0; line = number }, e.1)) (result_ok r))
 of-line number phase (Ok e) h = h
 of-line number phase (Err kind) h = tt
@@ -155,11 +156,11 @@ linked-choice links n events false h = phases-linked links 1 n events h
 abbrev IsLinked : Capture → Type 0
 IsLinked capture = AreLinked capture.phases
 
-linked-unless : (faults : List CaptureFault) (c : Capture) → IsLinked c → IfGiven IsLinked (unless_faulty faults c)
+linked-unless : (faults : List CaptureFault) (c : Capture) → IsLinked c → IfOk (unless_faulty faults c) IsLinked
 linked-unless [] c h = h
 linked-unless (f ∷ fs) c h = tt
 
-linked-after : (head : Head) (number : ℕ) (ls : List (List ℕ)) → IfGiven IsLinked (capture_after head number ls)
+linked-after : (head : Head) (number : ℕ) (ls : List (List ℕ)) → IfOk (capture_after head number ls) IsLinked
 unfolding capture_after
 linked-after head number ls =
     let stated = lines_from number ls in
@@ -167,15 +168,15 @@ linked-after head number ls =
     linked-unless (filter_map (fault_at head) (with_above stated)) (record { head = head; phases = phases_of head.links stated events })
     (linked-choice head.links (barriers stated + 1) events (length events == 0) (events-agree head (with_above stated)))
 
-pub linked-within : (bytes : List ℕ) → IfGiven IsLinked (capture_within bytes)
-linked-within bytes = bound IsLinked (at_head (begun (halves (lines bytes)))) capture_from (λ parts. linked-after parts.0 (parts.1 + 2) parts.2)
+pub linked-within : (bytes : List ℕ) → IfOk (capture_within bytes) IsLinked
+linked-within bytes = after_any IsLinked (at_head (begun (halves (lines bytes)))) capture_from (λ parts. linked-after parts.0 (parts.1 + 2) parts.2)
 
 pub read-linked : (r : Result Capture CaptureFault) (bytes : List ℕ) → Reads r (capture_within bytes) → IfOk r (λ c. AreLinked c.phases)
-read-linked (Ok capture) bytes e = subst (IfGiven IsLinked) e (linked-within bytes)
+read-linked (Ok capture) bytes e = subst (λ r. IfOk r IsLinked) e (linked-within bytes)
 read-linked (Err fault) bytes e = tt
 
 -- the capture that an input is
 pub linked-capture : (bytes : List ℕ) (capture : Capture) → capture_of bytes ≡ Ok capture → AreLinked capture.phases
 unfolding capture_of
 linked-capture bytes capture e =
-    subst (IfGiven IsLinked) e (either IsLinked (nat_lt MOST_BYTES (length bytes)) (Err (refused.TooLong limit.Bytes)) (capture_within bytes) tt (linked-within bytes))
+    subst (λ r. IfOk r IsLinked) e (either IsLinked (nat_lt MOST_BYTES (length bytes)) (Err (refused.TooLong limit.Bytes)) (capture_within bytes) tt (linked-within bytes))

@@ -1,24 +1,17 @@
 -- What holds of the value that a definition gives, if it gives one.
-use Rattle.std.proofs.Common.{◌≡◌, Bool, true, false, cond, Result, Ok, Err, refl}
+use Rattle.std.proofs.Common.{◌≡◌, Bool, true, false, cond, Result, Ok, Err, IfOk, refl}
 use Rattle.relay_base.specs.Giving.{◌>>=◌}
 
-abbrev pub IfGiven : {A E : Type 0} → (A → Type 0) → Result A E → Type 0
-IfGiven P (Ok x) = P x
-IfGiven P (Err e) = Unit {0}
+-- after a step whatever that gives
+pub after_any : {A B E : Type 0} (P : B → Type 0) (r : Result A E) (f : A → Result B E) → ((a : A) → IfOk (f a) P) → IfOk (r >>= f) P
+after_any P (Ok a) f h = h a
+after_any P (Err fault) f h = tt
 
-pub bound : {A B E : Type 0} (P : B → Type 0) (r : Result A E) (f : A → Result B E) → ((a : A) → IfGiven P (f a)) → IfGiven P (r >>= f)
-bound P (Ok a) f h = h a
-bound P (Err fault) f h = tt
-
-pub bound_if : {A B E : Type 0} (P : A → Type 0) (Q : B → Type 0) (r : Result A E) (f : A → Result B E) → IfGiven P r → ((a : A) → P a → IfGiven Q (f a)) → IfGiven Q (r >>= f)
-bound_if P Q (Ok a) f h g = g a h
-bound_if P Q (Err fault) f h g = tt
-
-pub either : {A E : Type 0} (P : A → Type 0) (t : Bool) (a b : Result A E) → IfGiven P a → IfGiven P b → IfGiven P (cond t a b)
+pub either : {A E : Type 0} (P : A → Type 0) (t : Bool) (a b : Result A E) → IfOk a P → IfOk b P → IfOk (cond t a b) P
 either P true a b f g = f
 either P false a b f g = g
 
 -- by a test that is known in its arms
-pub by_test : {A E : Type 0} (P : A → Type 0) (t : Bool) (a b : Result A E) → (t ≡ true → IfGiven P a) → (t ≡ false → IfGiven P b) → IfGiven P (cond t a b)
+pub by_test : {A E : Type 0} (P : A → Type 0) (t : Bool) (a b : Result A E) → (t ≡ true → IfOk a P) → (t ≡ false → IfOk b P) → IfOk (cond t a b) P
 by_test P true a b f g = f refl
 by_test P false a b f g = g refl

@@ -35,11 +35,12 @@ use Rattle.node_head.specs.Refusals.{Reads, fault, or_fault}
 use Rattle.node_head.specs.Head.{counts_of, values_of}
 use Rattle.node_head.specs.Ranges.{AreNumbers, IsReplicate, AreReplicates, IsHead}
 use Rattle.node_head.proofs.AddableLemmas.{addable_more}
-use Rattle.node_head.proofs.Given.{IfGiven, bound, bound_if, by_test}
+use Rattle.relay_base.proofs.GivingLemmas.{bound}
+use Rattle.node_head.proofs.Given.{after_any, by_test}
 
 -- ---- what holds of a value that may be none
 
-given-some : {A : Type 0} (P : A → Type 0) (o : Option A) (f : HeadFault) → IfSome o P → IfGiven P (or_fault o f)
+given-some : {A : Type 0} (P : A → Type 0) (o : Option A) (f : HeadFault) → IfSome o P → IfOk (or_fault o f) P
 given-some P None f h = tt
 given-some P (Some a) f h = h
 
@@ -68,14 +69,14 @@ within-in : (least most : ℕ) (z : ℤ) → IfSome (number_in least most z) (λ
 within-in least most (pos n) = within-choice least n most (nat_le least n && nat_le n most) (within-test least n most)
 within-in least most (negsuc n) = tt
 
-within-value : (key : List ℕ) (b : Bounds) (d : Option Data) → IfSome b.default (λ n. IsWithin b.least n b.most) → IfGiven (λ m. IsWithin b.least m b.most) (number_value key b d)
+within-value : (key : List ℕ) (b : Bounds) (d : Option Data) → IfSome b.default (λ n. IsWithin b.least n b.most) → IfOk (number_value key b d) (λ m. IsWithin b.least m b.most)
 within-value key b None h = given-some (λ m. IsWithin b.least m b.most) b.default (fault kind.Missing key) h
 within-value key b (Some d) h =
-    bound (λ m. IsWithin b.least m b.most) (or_fault (as_integer d) (fault kind.Kind key)) (λ z. or_fault (number_in b.least b.most z) (fault kind.Range key))
+    after_any (λ m. IsWithin b.least m b.most) (or_fault (as_integer d) (fault kind.Kind key)) (λ z. or_fault (number_in b.least b.most z) (fault kind.Range key))
     (λ z. given-some (λ m. IsWithin b.least m b.most) (number_in b.least b.most z) (fault kind.Range key) (within-in b.least b.most z))
 
 within-at : (place : Place) (ms : Members) (key : List ℕ) (b : Bounds) → IfSome b.default (λ n. IsWithin b.least n b.most)
-    → IfGiven (λ m. IsWithin b.least m b.most) (number_at place ms key b)
+    → IfOk (number_at place ms key b) (λ m. IsWithin b.least m b.most)
 unfolding number_at
 within-at place ms key b h = within-value (path place key) b (get_member key ms) h
 
@@ -87,58 +88,58 @@ record AreCounts (c : Counts) : Type 0 where
   links : IsWithin 1 c.links 8
   credit : IsWithin 1 c.credit 127
 
-counts-within : (ms : Members) → IfGiven AreCounts (counts_of ms)
+counts-within : (ms : Members) → IfOk (counts_of ms) AreCounts
 unfolding counts_of
 counts-within ms =
-    bound_if (λ n. IsWithin 1 n 16) AreCounts (number_at Top ms (codes "conn_lanes") (usual 1 1 16)) _ (within-at Top ms (codes "conn_lanes") (usual 1 1 16) (omega arith, omega arith)) (λ conn_lanes h.
-    bound_if (λ n. IsWithin 1 n 16) AreCounts (number_at Top ms (codes "data_lanes") (usual 1 1 16)) _ (within-at Top ms (codes "data_lanes") (usual 1 1 16) (omega arith, omega arith)) (λ data_lanes i.
-    bound_if (λ n. IsWithin 1 n 8) AreCounts (number_at Top ms (codes "links") (usual 1 1 8)) _ (within-at Top ms (codes "links") (usual 1 1 8) (omega arith, omega arith)) (λ links j.
-    bound_if (λ n. IsWithin 1 n 127) AreCounts (number_at Top ms (codes "credit") (usual 7 1 127)) _ (within-at Top ms (codes "credit") (usual 7 1 127) (omega arith, omega arith)) (λ credit k.
+    bound (λ n. IsWithin 1 n 16) AreCounts (number_at Top ms (codes "conn_lanes") (usual 1 1 16)) _ (within-at Top ms (codes "conn_lanes") (usual 1 1 16) (omega arith, omega arith)) (λ conn_lanes h.
+    bound (λ n. IsWithin 1 n 16) AreCounts (number_at Top ms (codes "data_lanes") (usual 1 1 16)) _ (within-at Top ms (codes "data_lanes") (usual 1 1 16) (omega arith, omega arith)) (λ data_lanes i.
+    bound (λ n. IsWithin 1 n 8) AreCounts (number_at Top ms (codes "links") (usual 1 1 8)) _ (within-at Top ms (codes "links") (usual 1 1 8) (omega arith, omega arith)) (λ links j.
+    bound (λ n. IsWithin 1 n 127) AreCounts (number_at Top ms (codes "credit") (usual 7 1 127)) _ (within-at Top ms (codes "credit") (usual 7 1 127) (omega arith, omega arith)) (λ credit k.
     record { conn_lanes = h; data_lanes = i; links = j; credit = k }))))
 
 -- ---- timers
 
-ticks-within : (place : Place) (ms : Members) (key : List ℕ) (default least : ℕ) → IsWithin least default 65535 → IfGiven (λ n. IsWithin least n 65535) (ticks_at place ms key default least)
+ticks-within : (place : Place) (ms : Members) (key : List ℕ) (default least : ℕ) → IsWithin least default 65535 → IfOk (ticks_at place ms key default least) (λ n. IsWithin least n 65535)
 unfolding ticks_at
 ticks-within place ms key default least h = within-at place ms key (usual default least 65535) h
 
 three-ticks : (place : Place) (ms : Members) (one two three : List ℕ) (d e f least : ℕ) → IsWithin 1 d 65535 → IsWithin least e 65535 → IsWithin 1 f 65535
-    → IfGiven (λ (t : ℕ × ℕ × ℕ). IsWithin 1 t.0 65535 × IsWithin least t.1 65535 × IsWithin 1 t.2 65535)
-    (ticks_at place ms one d 1 >>= (λ a. ticks_at place ms two e least >>= (λ b. ticks_at place ms three f 1 >>= (λ c. Ok (a, b, c)))))
+    → IfOk (ticks_at place ms one d 1 >>= (λ a. ticks_at place ms two e least >>= (λ b. ticks_at place ms three f 1 >>= (λ c. Ok (a, b, c)))))
+    (λ (t : ℕ × ℕ × ℕ). IsWithin 1 t.0 65535 × IsWithin least t.1 65535 × IsWithin 1 t.2 65535)
 three-ticks place ms one two three d e f least g h i =
-    bound_if (λ n. IsWithin 1 n 65535) _ (ticks_at place ms one d 1) _ (ticks-within place ms one d 1 g) (λ a j.
-    bound_if (λ n. IsWithin least n 65535) _ (ticks_at place ms two e least) _ (ticks-within place ms two e least h) (λ b k.
-    bound_if (λ n. IsWithin 1 n 65535) _ (ticks_at place ms three f 1) _ (ticks-within place ms three f 1 i) (λ c l. (j, k, l))))
+    bound (λ n. IsWithin 1 n 65535) _ (ticks_at place ms one d 1) _ (ticks-within place ms one d 1 g) (λ a j.
+    bound (λ n. IsWithin least n 65535) _ (ticks_at place ms two e least) _ (ticks-within place ms two e least h) (λ b k.
+    bound (λ n. IsWithin 1 n 65535) _ (ticks_at place ms three f 1) _ (ticks-within place ms three f 1 i) (λ c l. (j, k, l))))
 
-connection-within : (place : Place) (ms : Members) → IfGiven (λ (t : ℕ × ℕ × ℕ). IsWithin 1 t.0 65535 × IsWithin 60 t.1 65535 × IsWithin 1 t.2 65535) (connection_ticks place ms)
+connection-within : (place : Place) (ms : Members) → IfOk (connection_ticks place ms) (λ (t : ℕ × ℕ × ℕ). IsWithin 1 t.0 65535 × IsWithin 60 t.1 65535 × IsWithin 1 t.2 65535)
 unfolding connection_ticks
 connection-within place ms = three-ticks place ms (codes "connect") (codes "ias") (codes "iar") 90 420 900 60 (omega arith, omega arith) (omega arith, omega arith) (omega arith, omega arith)
 
-release-within : (place : Place) (ms : Members) → IfGiven (λ (t : ℕ × ℕ × ℕ). IsWithin 1 t.0 65535 × IsWithin 5 t.1 65535 × IsWithin 1 t.2 65535) (release_ticks place ms)
+release-within : (place : Place) (ms : Members) → IfOk (release_ticks place ms) (λ (t : ℕ × ℕ × ℕ). IsWithin 1 t.0 65535 × IsWithin 5 t.1 65535 × IsWithin 1 t.2 65535)
 unfolding release_ticks
 release-within place ms = three-ticks place ms (codes "rel") (codes "repeat") (codes "int") 15 15 60 5 (omega arith, omega arith) (omega arith, omega arith) (omega arith, omega arith)
 
-waiting-within : (place : Place) (ms : Members) → IfGiven (λ (t : ℕ × ℕ × ℕ). IsWithin 1 t.0 65535 × IsWithin 1 t.1 65535 × IsWithin 1 t.2 65535) (waiting_ticks place ms)
+waiting-within : (place : Place) (ms : Members) → IfOk (waiting_ticks place ms) (λ (t : ℕ × ℕ × ℕ). IsWithin 1 t.0 65535 × IsWithin 1 t.1 65535 × IsWithin 1 t.2 65535)
 unfolding waiting_ticks
 waiting-within place ms = three-ticks place ms (codes "reset") (codes "reassembly") (codes "freeze") 15 15 60 1 (omega arith, omega arith) (omega arith, omega arith) (omega arith, omega arith)
 
 longest : (status : ℕ) → IsWithin 1 status 65535 → IsWithin status (max 600 status) 65535
 longest status h = (grind (arith, nat_tests), grind (arith, nat_tests))
 
-management-within : (place : Place) (ms : Members) → IfGiven (λ (t : ℕ × ℕ × ℕ). IsWithin 1 t.0 65535 × IsWithin t.0 t.1 65535 × IsWithin 1 t.2 65535) (management_ticks place ms)
+management-within : (place : Place) (ms : Members) → IfOk (management_ticks place ms) (λ (t : ℕ × ℕ × ℕ). IsWithin 1 t.0 65535 × IsWithin t.0 t.1 65535 × IsWithin 1 t.2 65535)
 unfolding management_ticks
 management-within place ms =
-    bound_if (λ n. IsWithin 1 n 65535) _ (ticks_at place ms (codes "status") 30 1) _ (ticks-within place ms (codes "status") 30 1 (omega arith, omega arith)) (λ status h.
-    bound_if (λ n. IsWithin status n 65535) _ (ticks_at place ms (codes "status_max") (max 600 status) status) _ (ticks-within place ms (codes "status_max") (max 600 status) status (longest status h)) (λ status_max i.
-    bound_if (λ n. IsWithin 1 n 65535) _ (ticks_at place ms (codes "coord") 90 1) _ (ticks-within place ms (codes "coord") 90 1 (omega arith, omega arith)) (λ coord j. (h, i, j))))
+    bound (λ n. IsWithin 1 n 65535) _ (ticks_at place ms (codes "status") 30 1) _ (ticks-within place ms (codes "status") 30 1 (omega arith, omega arith)) (λ status h.
+    bound (λ n. IsWithin status n 65535) _ (ticks_at place ms (codes "status_max") (max 600 status) status) _ (ticks-within place ms (codes "status_max") (max 600 status) status (longest status h)) (λ status_max i.
+    bound (λ n. IsWithin 1 n 65535) _ (ticks_at place ms (codes "coord") 90 1) _ (ticks-within place ms (codes "coord") 90 1 (omega arith, omega arith)) (λ coord j. (h, i, j))))
 
-grouped-within : (place : Place) (ms : Members) → IfGiven AreTicks (grouped_ticks place ms)
+grouped-within : (place : Place) (ms : Members) → IfOk (grouped_ticks place ms) AreTicks
 unfolding grouped_ticks
 grouped-within place ms =
-    bound_if (λ (t : ℕ × ℕ × ℕ). IsWithin 1 t.0 65535 × IsWithin 60 t.1 65535 × IsWithin 1 t.2 65535) AreTicks (connection_ticks place ms) _ (connection-within place ms) (λ connection h.
-    bound_if (λ (t : ℕ × ℕ × ℕ). IsWithin 1 t.0 65535 × IsWithin 5 t.1 65535 × IsWithin 1 t.2 65535) AreTicks (release_ticks place ms) _ (release-within place ms) (λ release i.
-    bound_if (λ (t : ℕ × ℕ × ℕ). IsWithin 1 t.0 65535 × IsWithin 1 t.1 65535 × IsWithin 1 t.2 65535) AreTicks (waiting_ticks place ms) _ (waiting-within place ms) (λ waiting j.
-    bound_if (λ (t : ℕ × ℕ × ℕ). IsWithin 1 t.0 65535 × IsWithin t.0 t.1 65535 × IsWithin 1 t.2 65535) AreTicks (management_ticks place ms) _ (management-within place ms) (λ management k.
+    bound (λ (t : ℕ × ℕ × ℕ). IsWithin 1 t.0 65535 × IsWithin 60 t.1 65535 × IsWithin 1 t.2 65535) AreTicks (connection_ticks place ms) _ (connection-within place ms) (λ connection h.
+    bound (λ (t : ℕ × ℕ × ℕ). IsWithin 1 t.0 65535 × IsWithin 5 t.1 65535 × IsWithin 1 t.2 65535) AreTicks (release_ticks place ms) _ (release-within place ms) (λ release i.
+    bound (λ (t : ℕ × ℕ × ℕ). IsWithin 1 t.0 65535 × IsWithin 1 t.1 65535 × IsWithin 1 t.2 65535) AreTicks (waiting_ticks place ms) _ (waiting-within place ms) (λ waiting j.
+    bound (λ (t : ℕ × ℕ × ℕ). IsWithin 1 t.0 65535 × IsWithin t.0 t.1 65535 × IsWithin 1 t.2 65535) AreTicks (management_ticks place ms) _ (management-within place ms) (λ management k.
     record {
       connect = h.0;
       ias = h.1;
@@ -154,13 +155,13 @@ grouped-within place ms =
       coord = k.2;
     }))))
 
-all-within : (place : Place) (ms : Members) → IfGiven AreTicks (ticks_of place ms)
-all-within place ms = subst (IfGiven AreTicks) (grouped-flat place ms) (grouped-within place ms)
+all-within : (place : Place) (ms : Members) → IfOk (ticks_of place ms) AreTicks
+all-within place ms = subst (λ r. IfOk r AreTicks) (grouped-flat place ms) (grouped-within place ms)
 
-timers-within : (d : Option Data) → IfGiven AreTicks (timers_value d)
+timers-within : (d : Option Data) → IfOk (timers_value d) AreTicks
 unfolding timers_value
 timers-within None = all-within Timers no_members
-timers-within (Some d) = bound AreTicks (or_fault (as_table d) (fault kind.Kind (codes "timers"))) (ticks_of Timers) (all-within Timers)
+timers-within (Some d) = after_any AreTicks (or_fault (as_table d) (fault kind.Kind (codes "timers"))) (ticks_of Timers) (all-within Timers)
 
 -- ---- lists of different numbers
 
@@ -214,21 +215,21 @@ few-numbers b zs false e =
     some_map (λ ns. AreFound b ns × (length ns ≡ 0 + length zs)) _ (numbers_after b [] zs) (numbers-some b zs [] (none-found b))
     (λ ns h. record { each = h.0.each; distinct = h.0.distinct; few = omega (arith, h.1, few-test (length zs) e) })
 
-numbers-are : (key : List ℕ) (b : Bounds) (d : Option Data) → IfGiven (λ ns. AreNumbers b.least ns b.most) (numbers_value key b d)
+numbers-are : (key : List ℕ) (b : Bounds) (d : Option Data) → IfOk (numbers_value key b d) (λ ns. AreNumbers b.least ns b.most)
 unfolding numbers_value
 numbers-are key b None = record { each = tt; distinct = (none-found b).distinct; few = omega arith }
 numbers-are key b (Some d) =
-    bound (λ ns. AreNumbers b.least ns b.most) (or_fault (as_array d) (fault kind.Kind key)) _ (λ items.
-    bound (λ ns. AreNumbers b.least ns b.most) (or_fault (integers_after [] items) (fault kind.Kind key)) _ (λ zs.
+    after_any (λ ns. AreNumbers b.least ns b.most) (or_fault (as_array d) (fault kind.Kind key)) _ (λ items.
+    after_any (λ ns. AreNumbers b.least ns b.most) (or_fault (integers_after [] items) (fault kind.Kind key)) _ (λ zs.
     given-some (λ ns. AreNumbers b.least ns b.most) (cond (nat_lt 16 (length zs)) None (numbers_after b [] zs)) (fault kind.Range key) (few-numbers b zs (nat_lt 16 (length zs)) refl)))
 
 abbrev AreConcerned : ℕ → List ℕ → Type 0
 AreConcerned own points = AreNumbers 0 points 16383 × (list_any (λ point. point == own) points ≡ false)
 
-concerned-are : (own : ℕ) (d : Option Data) → IfGiven (AreConcerned own) (concerned_value own d)
+concerned-are : (own : ℕ) (d : Option Data) → IfOk (concerned_value own d) (AreConcerned own)
 unfolding concerned_value
 concerned-are own d =
-    bound_if (λ ns. AreNumbers 0 ns 16383) (AreConcerned own) (numbers_value (codes "concerned") (required 0 16383) d) (other_points own) (numbers-are (codes "concerned") (required 0 16383) d)
+    bound (λ ns. AreNumbers 0 ns 16383) (AreConcerned own) (numbers_value (codes "concerned") (required 0 16383) d) (other_points own) (numbers-are (codes "concerned") (required 0 16383) d)
     (λ ns h. by_test (AreConcerned own) (list_any (λ point. point == own) ns) (Err (fault kind.Range (codes "concerned"))) (Ok ns) (λ e. tt) (λ e. (h, e)))
 
 -- ---- rows
@@ -245,38 +246,38 @@ prefix-new found selector text =
     some_all (IsApart found selector) (digits_of text) (λ digits. cond (has_row selector digits found) None (Some digits))
     (λ digits. apart-test found selector digits (has_row selector digits found) refl)
 
-prefix-apart : (found : List Row) (selector : Selector) (place : Place) (ms : Members) → IfGiven (IsApart found selector) (prefix_at found selector place ms)
+prefix-apart : (found : List Row) (selector : Selector) (place : Place) (ms : Members) → IfOk (prefix_at found selector place ms) (IsApart found selector)
 unfolding prefix_at
 prefix-apart found selector place ms =
-    bound (IsApart found selector) (text_at place ms (codes "digits")) _ (λ text.
+    after_any (IsApart found selector) (text_at place ms (codes "digits")) _ (λ text.
     given-some (IsApart found selector) (new_prefix found selector text) (fault kind.Range (path place (codes "digits"))) (prefix-new found selector text))
 
 abbrev IsNewRow : List Row → Row → Type 0
 IsNewRow found row = has_row row.selector row.prefix found ≡ false
 
-row-new : (own : ℕ) (found : List Row) (place : Place) (ms : Members) → IfGiven (IsNewRow found) (row_of own found place ms)
+row-new : (own : ℕ) (found : List Row) (place : Place) (ms : Members) → IfOk (row_of own found place ms) (IsNewRow found)
 unfolding row_of
 row-new own found place ms =
-    bound (IsNewRow found) (selector_at place ms) _ (λ selector.
-    bound_if (IsApart found selector) (IsNewRow found) (prefix_at found selector place ms) _ (prefix-apart found selector place ms) (λ prefix h.
-    bound (IsNewRow found) (entity_at own place ms (codes "first")) _ (λ first.
-    bound (IsNewRow found) (second_at own place ms) _ (λ second. h))))
+    after_any (IsNewRow found) (selector_at place ms) _ (λ selector.
+    bound (IsApart found selector) (IsNewRow found) (prefix_at found selector place ms) _ (prefix-apart found selector place ms) (λ prefix h.
+    after_any (IsNewRow found) (entity_at own place ms (codes "first")) _ (λ first.
+    after_any (IsNewRow found) (second_at own place ms) _ (λ second. h))))
 
 rows-addable : (own : ℕ) (tables : List Members) (found : List Row) → IsTrue (are_addable [] found) → length found + length tables ≤ 4096
-    → IfGiven (λ rows. IsTrue (are_addable [] rows)) (rows_after own found tables)
+    → IfOk (rows_after own found tables) (λ rows. IsTrue (are_addable [] rows))
 rows-addable own [] found h few = h
 rows-addable own (ms ∷ more) found h few =
-    bound_if (IsNewRow found) (λ rows. IsTrue (are_addable [] rows)) (row_of own found (Nth Rows (length found + 1)) ms) (λ row. rows_after own (found ++ row ∷ []) more)
+    bound (IsNewRow found) (λ rows. IsTrue (are_addable [] rows)) (row_of own found (Nth Rows (length found + 1)) ms) (λ row. rows_after own (found ++ row ∷ []) more)
     (row-new own found (Nth Rows (length found + 1)) ms)
     (λ row apart. rows-addable own more (found ++ row ∷ []) (addable_more found row h (omega (arith, few)) apart) (omega (arith, few, length-append found (row ∷ []))))
 
 few-rows : (n : ℕ) → nat_lt MOST n ≡ false → 0 + n ≤ 4096
 few-rows n h = grind (arith, nat_tests)
 
-rows-are : (own : ℕ) (d : Option Data) → IfGiven (λ rows. IsTrue (are_addable [] rows)) (rows_value own d)
+rows-are : (own : ℕ) (d : Option Data) → IfOk (rows_value own d) (λ rows. IsTrue (are_addable [] rows))
 unfolding rows_value
 rows-are own d =
-    bound (λ rows. IsTrue (are_addable [] rows)) (tables_value Rows d) _ (λ tables.
+    after_any (λ rows. IsTrue (are_addable [] rows)) (tables_value Rows d) _ (λ tables.
     by_test (λ rows. IsTrue (are_addable [] rows)) (nat_lt MOST (length tables)) (Err (fault kind.Range (codes "row"))) (rows_after own [] tables) (λ e. tt)
     (λ e. rows-addable own tables [] refl (few-rows (length tables) e)))
 
@@ -290,27 +291,27 @@ free-test true true h = cc
 free-test true false h = (refl, refl)
 free-test false b h = cc
 
-user-free : (users : List ℕ) (found : List Replicate) (place : Place) (ms : Members) → IfGiven (IsFree users found) (user_at users found place ms)
+user-free : (users : List ℕ) (found : List Replicate) (place : Place) (ms : Members) → IfOk (user_at users found place ms) (IsFree users found)
 unfolding user_at
 user-free users found place ms =
-    bound (IsFree users found) (number_at place ms (codes "ssn") (required 0 255)) _ (λ ssn.
+    after_any (IsFree users found) (number_at place ms (codes "ssn") (required 0 255)) _ (λ ssn.
     by_test (IsFree users found) (is_new_user users found ssn) (Ok ssn) (Err (fault kind.Range (path place (codes "ssn"))))
     (free-test (list_any (λ user. user == ssn) users) (has_replicate found ssn)) (λ e. tt))
 
-point-other : (own : ℕ) (place : Place) (ms : Members) → IfGiven (λ point. (point == own) ≡ false) (other_point_at own place ms)
+point-other : (own : ℕ) (place : Place) (ms : Members) → IfOk (other_point_at own place ms) (λ point. (point == own) ≡ false)
 unfolding other_point_at
 point-other own place ms =
-    bound (λ point. (point == own) ≡ false) (point_at place ms) _ (λ point.
+    after_any (λ point. (point == own) ≡ false) (point_at place ms) _ (λ point.
     by_test (λ point. (point == own) ≡ false) (point == own) (Err (fault kind.Range (path place (codes "point")))) (Ok point) (λ e. tt) (λ e. e))
 
 abbrev IsNewReplicate : ℕ → List ℕ → List Replicate → Replicate → Type 0
 IsNewReplicate own users found r = IsReplicate own users r × (has_replicate found r.ssn ≡ false)
 
-replicate-new : (own : ℕ) (users : List ℕ) (found : List Replicate) (place : Place) (ms : Members) → IfGiven (IsNewReplicate own users found) (replicate_of own users found place ms)
+replicate-new : (own : ℕ) (users : List ℕ) (found : List Replicate) (place : Place) (ms : Members) → IfOk (replicate_of own users found place ms) (IsNewReplicate own users found)
 unfolding replicate_of
 replicate-new own users found place ms =
-    bound_if (IsFree users found) (IsNewReplicate own users found) (user_at users found place ms) _ (user-free users found place ms) (λ ssn free.
-    bound_if (λ point. (point == own) ≡ false) (IsNewReplicate own users found) (other_point_at own place ms) _ (point-other own place ms) (λ point other.
+    bound (IsFree users found) (IsNewReplicate own users found) (user_at users found place ms) _ (user-free users found place ms) (λ ssn free.
+    bound (λ point. (point == own) ≡ false) (IsNewReplicate own users found) (other_point_at own place ms) _ (point-other own place ms) (λ point other.
     (record { user = free.0; point = other }, free.1)))
 
 abbrev ssns : List Replicate → List ℕ
@@ -330,10 +331,10 @@ replicates-push own users found r h new = record {
   distinct = subst (IsDistinct nat_eq) (sym (ssns-push found r)) (IsDistinct-push nat_eq_equiv (ssns found) r.ssn h.distinct (any-replicate r.ssn found ∙ new.1));
 }
 
-replicates-after : (own : ℕ) (users : List ℕ) (tables : List Members) (found : List Replicate) → AreReplicates own users found → IfGiven (AreReplicates own users) (replicates_after own users found tables)
+replicates-after : (own : ℕ) (users : List ℕ) (tables : List Members) (found : List Replicate) → AreReplicates own users found → IfOk (replicates_after own users found tables) (AreReplicates own users)
 replicates-after own users [] found h = h
 replicates-after own users (ms ∷ more) found h =
-    bound_if (IsNewReplicate own users found) (AreReplicates own users) (replicate_of own users found (Nth Replicates (length found + 1)) ms) (λ r. replicates_after own users (found ++ r ∷ []) more)
+    bound (IsNewReplicate own users found) (AreReplicates own users) (replicate_of own users found (Nth Replicates (length found + 1)) ms) (λ r. replicates_after own users (found ++ r ∷ []) more)
     (replicate-new own users found (Nth Replicates (length found + 1)) ms)
     (λ r new. replicates-after own users more (found ++ r ∷ []) (replicates-push own users found r h new))
 
@@ -341,23 +342,23 @@ no-replicates : (own : ℕ) (users : List ℕ) → AreReplicates own users []
 unfolding IsDistinct
 no-replicates own users = record { each = tt; distinct = tt }
 
-replicates-are : (own : ℕ) (users : List ℕ) (d : Option Data) → IfGiven (AreReplicates own users) (replicates_value own users d)
+replicates-are : (own : ℕ) (users : List ℕ) (d : Option Data) → IfOk (replicates_value own users d) (AreReplicates own users)
 unfolding replicates_value
 replicates-are own users d =
-    bound (AreReplicates own users) (tables_value Replicates d) (replicates_after own users []) (λ tables. replicates-after own users tables [] (no-replicates own users))
+    after_any (AreReplicates own users) (tables_value Replicates d) (replicates_after own users []) (λ tables. replicates-after own users tables [] (no-replicates own users))
 
 -- ---- the head
 
-head-in : (ms : Members) → IfGiven IsHead (values_of ms)
+head-in : (ms : Members) → IfOk (values_of ms) IsHead
 unfolding values_of
 head-in ms =
-    bound IsHead (point_at Top ms) _ (λ point.
-    bound_if (λ ns. AreNumbers 2 ns 254) IsHead (users_value (get_member (codes "users") ms)) _ (numbers-are (codes "users") (required 2 254) (get_member (codes "users") ms)) (λ users u.
-    bound_if AreCounts IsHead (counts_of ms) _ (counts-within ms) (λ counts c.
-    bound_if (AreConcerned point) IsHead (concerned_value point (get_member (codes "concerned") ms)) _ (concerned-are point (get_member (codes "concerned") ms)) (λ concerned o.
-    bound_if AreTicks IsHead (timers_value (get_member (codes "timers") ms)) _ (timers-within (get_member (codes "timers") ms)) (λ timers t.
-    bound_if (λ rows. IsTrue (are_addable [] rows)) IsHead (rows_value point (get_member (codes "row") ms)) _ (rows-are point (get_member (codes "row") ms)) (λ row r.
-    bound_if (AreReplicates point users) IsHead (replicates_value point users (get_member (codes "replicate") ms)) _ (replicates-are point users (get_member (codes "replicate") ms)) (λ replicates p.
+    after_any IsHead (point_at Top ms) _ (λ point.
+    bound (λ ns. AreNumbers 2 ns 254) IsHead (users_value (get_member (codes "users") ms)) _ (numbers-are (codes "users") (required 2 254) (get_member (codes "users") ms)) (λ users u.
+    bound AreCounts IsHead (counts_of ms) _ (counts-within ms) (λ counts c.
+    bound (AreConcerned point) IsHead (concerned_value point (get_member (codes "concerned") ms)) _ (concerned-are point (get_member (codes "concerned") ms)) (λ concerned o.
+    bound AreTicks IsHead (timers_value (get_member (codes "timers") ms)) _ (timers-within (get_member (codes "timers") ms)) (λ timers t.
+    bound (λ rows. IsTrue (are_addable [] rows)) IsHead (rows_value point (get_member (codes "row") ms)) _ (rows-are point (get_member (codes "row") ms)) (λ row r.
+    bound (AreReplicates point users) IsHead (replicates_value point users (get_member (codes "replicate") ms)) _ (replicates-are point users (get_member (codes "replicate") ms)) (λ replicates p.
     record {
       users = u;
       conn_lanes = c.conn_lanes;
@@ -373,5 +374,5 @@ head-in ms =
 
 -- a head that was read is in its ranges
 pub read_in_range : (r : Result Head HeadRefused) (ms : Members) → Reads r (values_of ms) → IfOk r IsHead
-read_in_range (Ok head) ms e = subst (IfGiven IsHead) e (head-in ms)
+read_in_range (Ok head) ms e = subst (λ r. IfOk r IsHead) e (head-in ms)
 read_in_range (Err f) ms e = tt
