@@ -1,5 +1,5 @@
 -- How many entries and outputs the journals of a book have, and the line that says so.
-use Rattle.std.specs.Prelude.{ℕ, ◌-◌, ◌^◌, ◌++◌, min, codes, true, false, Bool, List, [], ◌∷◌, length, map}
+use Rattle.std.specs.Prelude.{ℕ, ◌++◌, codes, true, false, Bool, List, [], ◌∷◌, length, map}
 use Rattle.std.specs.List.{flat_map, count_by, sum_by}
 use Rattle.std.specs.Fmt.{decimal}
 use Rattle.relay_base.specs.declared.words.Output.{Output}
@@ -28,13 +28,9 @@ outputs_in journal = map (λ e. e.outs) journal
 abbrev pub outputs_of : Book → List (List Output)
 outputs_of book = map (λ e. e.outs) book.control ++ flat_map outputs_in book.conns ++ flat_map outputs_in book.units
 
--- a number above 18,446,744,073,709,551,615 is written as that one
-abbrev pub counted : ℕ → ℕ
-counted n = min n (2 ^ 64 - 1)
-
 -- how many of the outputs are of a kind
 abbrev pub many : (Output → Bool) → List (List Output) → ℕ
-many is outputs = counted (sum_by (count_by is) outputs)
+many is outputs = sum_by (count_by is) outputs
 
 -- how many lines and entries there are, and how many of their outputs are messages that were sent, what users were told, and losses
 abbrev pub counts_line : ℕ → ℕ → ℕ → ℕ → ℕ → List ℕ
@@ -46,4 +42,4 @@ counts_line lines entries sent told lost = spaced (
 abbrev pub counts_text : ℕ → Book → List ℕ
 counts_text lines book =
     let outputs = outputs_of book in
-    counts_line lines (counted (length outputs)) (many is_sent outputs) (many is_told outputs) (many is_lost outputs)
+    counts_line lines (length outputs) (many is_sent outputs) (many is_told outputs) (many is_lost outputs)
