@@ -1,5 +1,5 @@
 -- No slot is taken by two openings, whatever happens: an opening takes no slot later that it doesn't take already.
-use Rattle.std.proofs.Common.{◌≡◌, ℕ, ◌-◌, ◌==◌, ◌||◌, not, Bool, true, false, cond, List, [], ◌∷◌, ◌++◌, map, Option, Some, None, refl, ◌∙◌, ⊎_elim, arith, eqb-true}
+use Rattle.std.proofs.Common.{◌≡◌, ℕ, ◌-◌, ◌==◌, ◌||◌, not, Bool, true, false, List, [], ◌∷◌, ◌++◌, map, Option, Some, None, refl, ◌∙◌, ⊎_elim, arith, eqb-true}
 use Rattle.std.specs.List.{list_any}
 use Rattle.std.proofs.lemmas.Bool.{both_ways, not-true, not_from_false, eq-eqb, and_parts, and_from, or_cases, or_parts, or_from, or_left, or_right, false_from_ne_true}
 use Rattle.std.proofs.lemmas.List.Folds.{list_any-append}
@@ -7,7 +7,7 @@ use Rattle.relay_base.specs.declared.words.Event.{Event}
 use Rattle.section_model.specs.Step.{end_is_gone}
 use Rattle.relay_base.specs.References.{slot_of}
 use Rattle.section_model.specs.Lane.{fed}
-use Rattle.conn_lane.specs.Inner.Remnants.{Live, Seat, Remnant, ticks_in, left_after, seat_after, remnant_after, is_frozen_out, sits, takes_slot, is_needed, needed}
+use Rattle.conn_lane.specs.Inner.Remnants.{Live, Seat, Remnant, ticks_in, left_after, seat_after, remnant_after, is_frozen_out, sits, takes_slot}
 use Rattle.conn_lane.specs.Inner.Seated.{AreApart}
 
 -- One opening.
@@ -23,7 +23,7 @@ left_before : (freeze : ℕ) (event : Event) (is_gone : Bool) (left : Option ℕ
 left_before freeze event is_gone None later = refl
 left_before freeze event is_gone (Some left) later = not_run_down left (ticks_in event) later
 
-sits_before : (slot freeze : ℕ) (event : Event) (is_gone : Bool) (seat : Option Seat)
+pub sits_before : (slot freeze : ℕ) (event : Event) (is_gone : Bool) (seat : Option Seat)
     → sits slot (seat_after freeze event is_gone seat) ≡ true → sits slot seat ≡ true
 sits_before slot freeze event is_gone None later = later
 sits_before slot freeze event is_gone (Some s) later =
@@ -68,27 +68,6 @@ pub apart_after : (event : Event) (keeps : List Remnant) → AreApart keeps → 
 apart_after event [] apart = tt
 apart_after event (k ∷ keeps) apart =
     (λ slot takes. free_after slot event keeps (apart.0 slot (takes_later slot event k takes)), apart_after event keeps apart.1)
-
--- What is dropped takes nothing.
-
-free_needed : (slot : ℕ) (keeps : List Remnant) → list_any (takes_slot slot) keeps ≡ false → list_any (takes_slot slot) (needed keeps) ≡ false
-free_needed slot [] free = refl
-free_needed slot (k ∷ keeps) free =
-    let parts = or_parts (takes_slot slot k) (list_any (takes_slot slot) keeps) free in
-    by_test (is_needed k) parts.0 (free_needed slot keeps parts.1)
-  where
-    by_test : (b : Bool) → takes_slot slot k ≡ false → list_any (takes_slot slot) (needed keeps) ≡ false
-        → list_any (takes_slot slot) (cond b (k ∷ needed keeps) (needed keeps)) ≡ false
-    by_test true first later = or_from (takes_slot slot k) (list_any (takes_slot slot) (needed keeps)) first later
-    by_test false first later = later
-
-pub apart_needed : (keeps : List Remnant) → AreApart keeps → AreApart (needed keeps)
-apart_needed [] apart = tt
-apart_needed (k ∷ keeps) apart = by_test (is_needed k) (apart_needed keeps apart.1)
-  where
-    by_test : (b : Bool) → AreApart (needed keeps) → AreApart (cond b (k ∷ needed keeps) (needed keeps))
-    by_test true later = (λ slot takes. free_needed slot keeps (apart.0 slot takes), later)
-    by_test false later = later
 
 -- One opening more, which takes no slot that another takes.
 

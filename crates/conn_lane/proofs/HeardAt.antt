@@ -1,7 +1,7 @@
--- The one opening that may hear an event is the one that takes the slot of the reference that the event names.
-use Rattle.std.proofs.Common.{◌≡◌, ℕ, zero, suc, ◌-◌, ◌==◌, ◌<◌, ◌≤◌, nat_lt, ◌&&◌, ◌||◌, not, Bool, true, false, List, [], ◌∷◌, length, cond, map, set, get_or, position, slice_index_or, slice_set, All, Option, Some, None, is_some, if◌then◌else◌, refl, sym, ap, ap₂, ◌∙◌, subst, ⊎_elim, arith, eqb-true}
+-- The one opening that may hear an event is the one that has the slot of the reference that the event names.
+use Rattle.std.proofs.Common.{◌≡◌, ℕ, zero, suc, ◌-◌, ◌==◌, ◌<◌, ◌≤◌, nat_lt, not, Bool, true, false, List, [], ◌∷◌, length, cond, map, set, get_or, position, slice_index_or, slice_set, All, Option, Some, None, is_some, if◌then◌else◌, refl, sym, ap, ap₂, ◌∙◌, subst, ⊎_elim, arith, eqb-true}
 use Rattle.std.specs.List.{list_any, position_or_len}
-use Rattle.std.proofs.lemmas.Bool.{both_ways, not-true, eq-eqb, ltb-false, and_parts, and_from, or_cases, or_parts, or_left, or_right}
+use Rattle.std.proofs.lemmas.Bool.{both_ways, not-true, eq-eqb, ltb-false, and_parts, and_from, or_cases, or_parts, or_left, or_right, or_from, false_from_ne_true}
 use Rattle.std.proofs.lemmas.Option.{same_Some}
 use Rattle.std.proofs.lemmas.List.Elements.{All-head, All-tail}
 use Rattle.std.proofs.lemmas.List.Folds.{list_any_none}
@@ -14,17 +14,45 @@ use Rattle.section_model.specs.Ends.{End, wire, owner, Connection, is_gone}
 use Rattle.section_model.specs.Step.{connection_step, hears, names, named, is_named, is_in_range, end_is_gone}
 use Rattle.relay_base.specs.References.{slot_of}
 use Rattle.section_model.specs.Lane.{fed, next, is_tick}
-use Rattle.conn_lane.specs.Inner.Remnants.{Live, Seat, Remnant, live_of, ticks_in, left_after, seat_after, remnant_after, part_at, first_of, first_part, is_frozen_out, sits, takes_slot}
+use Rattle.conn_lane.specs.Inner.Remnants.{Live, Seat, Remnant, live_of, ticks_in, left_after, seat_after, remnant_after, part_at, first_of, first_part, is_frozen_out, sits, takes_slot, has, has_slot}
 use Rattle.conn_lane.specs.Inner.Seated.{SeatIs, AreSeated, IsOn, IsInLane, IsSeated, AreApart, AreOrderly, reference_in}
 use Rattle.conn_lane.proofs.Seated.{kept_as}
 
--- Who hears an event takes the slot of the reference that it names.
+-- What has a slot takes it.
 
--- the reference that an event names, with a slot that this opening takes
+held_sits : (left : Option ℕ) → not (is_some left) ≡ true → not (is_frozen_out left) ≡ true
+held_sits None held = refl
+held_sits (Some left) held = absurd (cc)
+
+pub has_sits : (slot : ℕ) (seat : Option Seat) → has slot seat ≡ true → sits slot seat ≡ true
+has_sits slot None e = absurd (cc)
+has_sits slot (Some s) e =
+    let parts = and_parts (slot_of s.mine == slot) (not (is_some s.left)) e in
+    and_from (slot_of s.mine == slot) (not (is_frozen_out s.left)) parts.0 (held_sits s.left parts.1)
+
+pub has_takes : (slot : ℕ) (k : Remnant) → has_slot slot k ≡ true → takes_slot slot k ≡ true
+has_takes slot k e =
+    ⊎_elim
+    (λ (this : has slot k.this ≡ true). or_left (sits slot k.this) (sits slot k.that) (has_sits slot k.this this))
+    (λ (that : has slot k.that ≡ true). or_right (sits slot k.this) (sits slot k.that) (has_sits slot k.that that))
+    (or_cases (has slot k.this) (has slot k.that) e)
+
+pub hasnt : (slot : ℕ) (k : Remnant) → takes_slot slot k ≡ false → has_slot slot k ≡ false
+hasnt slot k free = false_from_ne_true (has_slot slot k) (λ e. both_ways (takes_slot slot k) free (has_takes slot k e))
+
+pub none_has : (slot : ℕ) (keeps : List Remnant) → list_any (takes_slot slot) keeps ≡ false → list_any (has_slot slot) keeps ≡ false
+none_has slot [] free = refl
+none_has slot (k ∷ keeps) free =
+    let parts = or_parts (takes_slot slot k) (list_any (takes_slot slot) keeps) free in
+    or_from (has_slot slot k) (list_any (has_slot slot) keeps) (hasnt slot k parts.0) (none_has slot keeps parts.1)
+
+-- Who hears an event has the slot of the reference that it names.
+
+-- the reference that an event names, with a slot that an end of this opening has
 pub record NamesSlot (event : Event) (k : Remnant) : Type 0 where
   pub reference : ℕ
   pub named : reference_in event ≡ Some reference
-  pub taken : takes_slot (slot_of reference) k ≡ true
+  pub taken : has_slot (slot_of reference) k ≡ true
   pub in_lane : slot_of reference < 4096
 
 names_end : (c : Connection) (event : Event) → is_tick event ≡ false → hears c event ≡ true → names (reference_in event) c ≡ true
@@ -33,19 +61,15 @@ names_end c (Arrived point sls bytes) untimed heard = heard
 names_end c (Requested ssn r) untimed heard = (and_parts (is_in_range r) (names (named r) c) heard).1
 names_end c Tick untimed heard = absurd (cc)
 
-not_frozen : (left : Option ℕ) → is_some left ≡ false → not (is_frozen_out left) ≡ true
-not_frozen None held = refl
-not_frozen (Some left) held = absurd (cc)
-
--- an end that a reference names sits in its slot
+-- an end that a reference names has its slot
 named_sits : (reference : ℕ) (end : End) (seat : Option Seat) → SeatIs end seat → IsInLane seat → is_named reference end ≡ true
-    → (sits (slot_of reference) seat ≡ true) × (slot_of reference < 4096)
+    → (has (slot_of reference) seat ≡ true) × (slot_of reference < 4096)
 named_sits reference (wire x) None is within names = absurd (cc)
 named_sits reference (wire x) (Some s) is within names =
     let parts = and_parts (x.head.mine == reference) (not (is_gone x.head.state)) names in
     let same : s.mine ≡ reference = same_Some s.mine x.head.mine is.0 ∙ eqb-true x.head.mine reference parts.0 in
     let held : is_some s.left ≡ false = is.1 ∙ not-true (is_gone x.head.state) parts.1 in (
-      and_from (slot_of s.mine == slot_of reference) (not (is_frozen_out s.left)) (eq-eqb (slot_of s.mine) (slot_of reference) (ap slot_of same)) (not_frozen s.left held),
+      and_from (slot_of s.mine == slot_of reference) (not (is_some s.left)) (eq-eqb (slot_of s.mine) (slot_of reference) (ap slot_of same)) (ap not held),
       subst (λ mine. slot_of mine < 4096) same within,
     )
 named_sits reference (owner u) seat is within names = absurd (cc)
@@ -57,10 +81,10 @@ names_slot event k l (Some reference) seated are is names =
     ⊎_elim
     (λ (e : is_named reference l.connection.this ≡ true).
     let found = named_sits reference l.connection.this k.this are.0 seated.this e in
-    record { reference = reference; named = is; taken = or_left (sits (slot_of reference) k.this) (sits (slot_of reference) k.that) found.0; in_lane = found.1 })
+    record { reference = reference; named = is; taken = or_left (has (slot_of reference) k.this) (has (slot_of reference) k.that) found.0; in_lane = found.1 })
     (λ (e : is_named reference l.connection.that ≡ true).
     let found = named_sits reference l.connection.that k.that are.1 seated.that e in
-    record { reference = reference; named = is; taken = or_right (sits (slot_of reference) k.this) (sits (slot_of reference) k.that) found.0; in_lane = found.1 })
+    record { reference = reference; named = is; taken = or_right (has (slot_of reference) k.this) (has (slot_of reference) k.that) found.0; in_lane = found.1 })
     (or_cases (is_named reference l.connection.this) (is_named reference l.connection.that) names)
 
 pub hears_takes : (event : Event) (k : Remnant) (l : Live) → is_tick event ≡ false → IsSeated k → k.live ≡ Some l → hears l.connection event ≡ true → NamesSlot event k
@@ -69,7 +93,7 @@ hears_takes event k l untimed seated live heard =
 
 -- Who doesn't hear an event, which is no tick, is as before.
 
-no_ticks : (event : Event) (left : ℕ) → is_tick event ≡ false → left - ticks_in event ≡ left
+pub no_ticks : (event : Event) (left : ℕ) → is_tick event ≡ false → left - ticks_in event ≡ left
 no_ticks event left untimed = ap (λ b. left - (if b then 1 else 0)) untimed ∙ less_none left
   where
     less_none : (n : ℕ) → n - 0 ≡ n
@@ -87,7 +111,7 @@ seat_same freeze event end None untimed is = refl
 seat_same freeze event end (Some s) untimed is =
     ap (λ left. Some (record { mine = s.mine; left = left })) (left_same freeze event (end_is_gone end) s.left untimed (λ held. sym is.1 ∙ held))
 
-seat_waits : (event : Event) (seat : Option Seat) → is_tick event ≡ false → seat_after 0 event false seat ≡ seat
+pub seat_waits : (event : Event) (seat : Option Seat) → is_tick event ≡ false → seat_after 0 event false seat ≡ seat
 seat_waits event None untimed = refl
 seat_waits event (Some s) untimed = ap (λ left. Some (record { mine = s.mine; left = left })) (left_same 0 event false s.left untimed (λ held. refl))
 
@@ -122,12 +146,12 @@ stays_by event (Some l) this that untimed on are none =
 pub deaf_stays : (event : Event) (k : Remnant) → is_tick event ≡ false → IsSeated k → part_at event k.live ≡ None → remnant_after event k ≡ k
 deaf_stays event k untimed seated none = stays_by event k.live k.this k.that untimed seated.on seated.live none
 
--- Nobody takes the slot.
+-- Nobody has the slot.
 
 abbrev OthersStay : Event → List Remnant → Type 0
 OthersStay event keeps = (first_part event keeps ≡ None) × (map (remnant_after event) keeps ≡ keeps)
 
--- what names no slot that this opening takes has no part of it
+-- what names no slot that an end of this opening has, has no part of it
 no_part_at : (event : Event) (k : Remnant) (live : Option Live) → is_tick event ≡ false → IsSeated k → k.live ≡ live → (NamesSlot event k → ⊥) → part_at event live ≡ None
 no_part_at event k None untimed seated is unnamed = refl
 no_part_at event k (Some l) untimed seated is unnamed = by_test (hears l.connection event) refl
@@ -142,12 +166,12 @@ others_more event k keeps untimed seated none later =
 
 -- each slot that the event names is free
 abbrev IsFreeAt : Event → List Remnant → Type 0
-IsFreeAt event keeps = (r : ℕ) → reference_in event ≡ Some r → slot_of r < 4096 → list_any (takes_slot (slot_of r)) keeps ≡ false
+IsFreeAt event keeps = (r : ℕ) → reference_in event ≡ Some r → slot_of r < 4096 → list_any (has_slot (slot_of r)) keeps ≡ false
 
 free_first : (event : Event) (k : Remnant) (keeps : List Remnant) → IsFreeAt event (k ∷ keeps) → NamesSlot event k → ⊥
 free_first event k keeps free names =
-    both_ways (takes_slot (slot_of names.reference) k)
-    (or_parts (takes_slot (slot_of names.reference) k) (list_any (takes_slot (slot_of names.reference)) keeps) (free names.reference names.named names.in_lane)).0
+    both_ways (has_slot (slot_of names.reference) k)
+    (or_parts (has_slot (slot_of names.reference) k) (list_any (has_slot (slot_of names.reference)) keeps) (free names.reference names.named names.in_lane)).0
     names.taken
 
 none_hear : (event : Event) (keeps : List Remnant) → is_tick event ≡ false → All IsSeated keeps → IsFreeAt event keeps → OthersStay event keeps
@@ -157,7 +181,7 @@ none_hear event (k ∷ keeps) untimed seated free =
     others_more event k keeps untimed this
     (no_part_at event k k.live untimed this refl (free_first event k keeps free))
     (none_hear event keeps untimed (All-tail IsSeated k keeps seated)
-    (λ r named within. (or_parts (takes_slot (slot_of r) k) (list_any (takes_slot (slot_of r)) keeps) (free r named within)).1))
+    (λ r named within. (or_parts (has_slot (slot_of r) k) (list_any (has_slot (slot_of r)) keeps) (free r named within)).1))
 
 -- a test that finds no place passes nowhere
 none_passes : {X : Type 0} (p : X → Bool) (xs : List X) → position p xs ≡ None → list_any p xs ≡ false
@@ -169,12 +193,12 @@ none_passes p xs none =
     past true e = cc
     past false e = refl
 
--- a reference whose slot nobody takes
+-- a reference whose slot nobody has
 pub nobody : (event : Event) (keeps : List Remnant) → is_tick event ≡ false → All IsSeated keeps
-    → ((r : ℕ) → reference_in event ≡ Some r → slot_of r < 4096 → position (takes_slot (slot_of r)) keeps ≡ None)
+    → ((r : ℕ) → reference_in event ≡ Some r → slot_of r < 4096 → position (has_slot (slot_of r)) keeps ≡ None)
     → (first_part event keeps ≡ None) × (map (remnant_after event) keeps ≡ keeps)
 nobody event keeps untimed seated nowhere =
-    none_hear event keeps untimed seated (λ r named within. none_passes (takes_slot (slot_of r)) keeps (nowhere r named within))
+    none_hear event keeps untimed seated (λ r named within. none_passes (has_slot (slot_of r)) keeps (nowhere r named within))
 
 -- no reference
 pub nobody_named : (event : Event) (keeps : List Remnant) → is_tick event ≡ false → All IsSeated keeps → reference_in event ≡ None
@@ -188,12 +212,12 @@ nobody_past event keeps r untimed seated is past =
     nobody event keeps untimed seated (λ q named within. absurd (omega (arith, past, within, ap slot_of (same_Some r q (sym is ∙ named)))))
 
 -- a reference whose slot is free
-pub nobody_there : (event : Event) (keeps : List Remnant) (r : ℕ) → is_tick event ≡ false → All IsSeated keeps → reference_in event ≡ Some r → position (takes_slot (slot_of r)) keeps ≡ None
+pub nobody_there : (event : Event) (keeps : List Remnant) (r : ℕ) → is_tick event ≡ false → All IsSeated keeps → reference_in event ≡ Some r → position (has_slot (slot_of r)) keeps ≡ None
     → (first_part event keeps ≡ None) × (map (remnant_after event) keeps ≡ keeps)
 nobody_there event keeps r untimed seated is none =
-    nobody event keeps untimed seated (λ q named within. ap (λ x. position (takes_slot (slot_of x)) keeps) (sym (same_Some r q (sym is ∙ named))) ∙ none)
+    nobody event keeps untimed seated (λ q named within. ap (λ x. position (has_slot (slot_of x)) keeps) (sym (same_Some r q (sym is ∙ named))) ∙ none)
 
--- Somebody takes the slot.
+-- Somebody has the slot.
 
 -- an event that names a reference is no tick
 named_untimed : (event : Event) (r : ℕ) → reference_in event ≡ Some r → is_tick event ≡ false
@@ -201,14 +225,14 @@ named_untimed (Arrived point sls bytes) r is = refl
 named_untimed (Requested ssn q) r is = refl
 named_untimed Tick r is = absurd (cc)
 
--- an opening that doesn't take the slot hears nothing
-other_names : (event : Event) (k : Remnant) (r : ℕ) → reference_in event ≡ Some r → takes_slot (slot_of r) k ≡ false → NamesSlot event k → ⊥
+-- an opening that doesn't have the slot hears nothing
+other_names : (event : Event) (k : Remnant) (r : ℕ) → reference_in event ≡ Some r → has_slot (slot_of r) k ≡ false → NamesSlot event k → ⊥
 other_names event k r is free names =
-    both_ways (takes_slot (slot_of r) k) free (ap (λ x. takes_slot (slot_of x) k) (same_Some r names.reference (sym is ∙ names.named)) ∙ names.taken)
+    both_ways (has_slot (slot_of r) k) free (ap (λ x. has_slot (slot_of x) k) (same_Some r names.reference (sym is ∙ names.named)) ∙ names.taken)
 
-others_stay : (event : Event) (keeps : List Remnant) (r : ℕ) → reference_in event ≡ Some r → All IsSeated keeps → list_any (takes_slot (slot_of r)) keeps ≡ false → OthersStay event keeps
+others_stay : (event : Event) (keeps : List Remnant) (r : ℕ) → reference_in event ≡ Some r → All IsSeated keeps → list_any (has_slot (slot_of r)) keeps ≡ false → OthersStay event keeps
 others_stay event keeps r is seated free =
-    none_hear event keeps (named_untimed event r is) seated (λ q named within. ap (λ x. list_any (takes_slot (slot_of x)) keeps) (sym (same_Some r q (sym is ∙ named))) ∙ free)
+    none_hear event keeps (named_untimed event r is) seated (λ q named within. ap (λ x. list_any (has_slot (slot_of x)) keeps) (sym (same_Some r q (sym is ∙ named))) ∙ free)
 
 first_or_none : (part later : Option (List Output)) → later ≡ None → first_of part later ≡ part
 first_or_none None later none = none
@@ -219,11 +243,11 @@ HeardAt event keeps place d =
     (first_part event keeps ≡ part_at event (get_or keeps place d).live) × (map (remnant_after event) keeps ≡ set keeps place (remnant_after event (get_or keeps place d)))
 
 heard_at : (event : Event) (keeps : List Remnant) (r place : ℕ) (d : Remnant) → reference_in event ≡ Some r → All IsSeated keeps → AreApart keeps
-    → place < length keeps → takes_slot (slot_of r) (get_or keeps place d) ≡ true → ((n : ℕ) → n < place → takes_slot (slot_of r) (get_or keeps n d) ≡ false)
+    → place < length keeps → has_slot (slot_of r) (get_or keeps place d) ≡ true → ((n : ℕ) → n < place → has_slot (slot_of r) (get_or keeps n d) ≡ false)
     → HeardAt event keeps place d
 heard_at event [] r place d is seated apart within takes first = absurd (omega arith)
 heard_at event (k ∷ keeps) r zero d is seated apart within takes first =
-    let later : OthersStay event keeps = others_stay event keeps r is (All-tail IsSeated k keeps seated) (apart.0 (slot_of r) takes) in
+    let later : OthersStay event keeps = others_stay event keeps r is (All-tail IsSeated k keeps seated) (none_has (slot_of r) keeps (apart.0 (slot_of r) (has_takes (slot_of r) k takes))) in
     (first_or_none (part_at event k.live) (first_part event keeps) later.0, ap (λ xs. remnant_after event k ∷ xs) later.1)
 heard_at event (k ∷ keeps) r (suc place) d is seated apart within takes first =
     let this : IsSeated k = All-head IsSeated k keeps seated in
@@ -233,37 +257,10 @@ heard_at event (k ∷ keeps) r (suc place) d is seated apart within takes first 
     heard_at event keeps r place d is (All-tail IsSeated k keeps seated) apart.1 (omega arith) takes (λ n before. first (suc n) (omega arith)) in
     (ap (λ part. first_of part (first_part event keeps)) none ∙ later.0, ap₂ (λ x xs. x ∷ xs) (deaf_stays event k untimed this none) later.1)
 
--- the opening that takes the slot of the reference has its part, if it hears the event, and the others are as before
-pub somebody : (event : Event) (keeps : List Remnant) (r place : ℕ) → AreOrderly keeps → reference_in event ≡ Some r → position (takes_slot (slot_of r)) keeps ≡ Some place → (d : Remnant)
+-- the opening that has the slot of the reference has its part, if it hears the event, and the others are as before
+pub somebody : (event : Event) (keeps : List Remnant) (r place : ℕ) → AreOrderly keeps → reference_in event ≡ Some r → position (has_slot (slot_of r)) keeps ≡ Some place → (d : Remnant)
     → (first_part event keeps ≡ part_at event (slice_index_or keeps place d).live)
     × (map (remnant_after event) keeps ≡ slice_set keeps place (remnant_after event (slice_index_or keeps place d)))
 somebody event keeps r place orderly is found d =
-    let there = position-Some (takes_slot (slot_of r)) keeps place d found in
+    let there = position-Some (has_slot (slot_of r)) keeps place d found in
     heard_at event keeps r place d is orderly.seated orderly.apart there.0 there.1 there.2
-
--- The slots that are taken change by no event but a tick.
-
-left_stays : (freeze : ℕ) (event : Event) (gone : Bool) (left : Option ℕ) → is_tick event ≡ false → (gone ≡ true → (freeze == 0) ≡ false)
-    → is_frozen_out (left_after freeze event gone left) ≡ is_frozen_out left
-left_stays freeze event true None untimed some = some refl
-left_stays freeze event false None untimed some = refl
-left_stays freeze event gone (Some left) untimed some = ap (λ n. n == 0) (no_ticks event left untimed)
-
-sits_stays : (slot freeze : ℕ) (event : Event) (gone : Bool) (seat : Option Seat) → is_tick event ≡ false → (gone ≡ true → (freeze == 0) ≡ false)
-    → sits slot (seat_after freeze event gone seat) ≡ sits slot seat
-sits_stays slot freeze event gone None untimed some = refl
-sits_stays slot freeze event gone (Some s) untimed some = ap (λ b. slot_of s.mine == slot && not b) (left_stays freeze event gone s.left untimed some)
-
-slots_by : (slot : ℕ) (event : Event) (live : Option Live) (this that : Option Seat) → is_tick event ≡ false → ((l : Live) → live ≡ Some l → (l.ticks.freeze == 0) ≡ false)
-    → takes_slot slot (remnant_after event (kept_as live this that)) ≡ (sits slot this || sits slot that)
-slots_by slot event None this that untimed some =
-    ap₂ (λ a b. a || b) (sits_stays slot 0 event false this untimed (λ gone. absurd (cc))) (sits_stays slot 0 event false that untimed (λ gone. absurd (cc)))
-slots_by slot event (Some l) this that untimed some =
-    let c = fed l.ticks l.connection event in
-    ap₂ (λ a b. a || b)
-    (sits_stays slot l.ticks.freeze event (end_is_gone c.this) this untimed (λ gone. some l refl))
-    (sits_stays slot l.ticks.freeze event (end_is_gone c.that) that untimed (λ gone. some l refl))
-
-pub slots_stay : (slot : ℕ) (event : Event) (k : Remnant) → is_tick event ≡ false → ((l : Live) → k.live ≡ Some l → (l.ticks.freeze == 0) ≡ false)
-    → takes_slot slot (remnant_after event k) ≡ takes_slot slot k
-slots_stay slot event k untimed some = slots_by slot event k.live k.this k.that untimed some

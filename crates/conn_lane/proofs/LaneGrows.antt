@@ -1,9 +1,9 @@
 -- A lane with one more entry.
-use Rattle.std.proofs.Common.{◌≡◌, ℕ, ◌≤◌, ◌<◌, ◌+◌, ◌^◌, OnOk, OnErr, Ok, Err, Bool, true, false, cond, List, [], ◌∷◌, ◌++◌, length, map, refl, sym, subst, ap, ap₂, ◌∙◌, arith, append-nil, length-append}
+use Rattle.std.proofs.Common.{◌≡◌, ℕ, ◌≤◌, ◌<◌, ◌+◌, ◌^◌, OnOk, OnErr, Ok, Err, true, false, List, [], ◌∷◌, ◌++◌, length, map, replicate, refl, sym, subst, ap, ap₂, ◌∙◌, arith, append-nil, length-append}
 use Rattle.std.specs.declared.result.Result.{Result}
 use Rattle.std.specs.Prelude.{Option, Some, None, option_map, is_some, IfSome}
 use Rattle.relay_base.specs.declared.words.Output.{Output}
-use Rattle.std.proofs.lemmas.List.{map-append}
+use Rattle.std.proofs.lemmas.List.{map-append, length-map}
 use Rattle.relay_base.specs.declared.words.Event.{Event}
 use Rattle.relay_base.specs.declared.words.Event.TheVariants.{Message as Arrived, Asked as Requested, Tick}
 use Rattle.plant_core.specs.Plant.{PlantState}
@@ -15,25 +15,40 @@ use Rattle.plant_core.specs.declared.terms.Terms.{Terms}
 use Rattle.plant_core.specs.Asking.{Question, asked_at, answer_in}
 use Rattle.section_model.specs.Ends.{Connection}
 use Rattle.section_model.specs.Laws.{openings_from}
-use Rattle.section_model.specs.Opening.{Wish, by_cr, by_user, no_wish, wish_of, wish_of_message, wish_of_reading, wish_of_request, question_of, slots_needed, opened, Opened}
-use Rattle.section_model.specs.Lane.{Lane, Opening, with_event, opening_of, opening_list, openings_after, legal_outputs, other_outputs, outputs_by, answer_of, IsLegalEntry, stray_answer, is_tick}
+use Rattle.section_model.specs.Opening.{Wish, by_cr, by_user, no_wish, wish_of, wish_of_message, wish_of_reading, wish_of_request, question_of, slots_needed, opened, Opened as OpenedState}
+use Rattle.section_model.specs.Lane.{Lane, Opening, reference_of, with_event, opening_of, opening_list, openings_after, legal_outputs, other_outputs, outputs_by, answer_of, IsLegalEntry, stray_answer, is_tick}
 use Rattle.journal_law.proofs.Splitting.{splits}
 use Rattle.plant_core.specs.declared.terms.Ticks.{Ticks}
 use Rattle.section_coupling.specs.Duos.{DuoState, duo_at, taken_after}
 use Rattle.section_coupling.specs.Openings.{is_wish, IsAnswered}
-use Rattle.conn_lane.specs.Inner.Remnants.{Remnant, remnant_of, remnant_after, first_part, all_parts, lowest_in, is_needed, needed}
+use Rattle.conn_lane.specs.Inner.Remnants.{Remnant, remnant_of, remnant_after, first_part, all_parts, lowest_in}
 use Rattle.conn_lane.specs.Laws.{unheard}
 use Rattle.conn_lane.specs.Inner.Seated.{AreOrderly, reference_in}
-use Rattle.conn_lane.specs.Inner.Views.{news}
-use Rattle.conn_lane.specs.Journals.{lane_of}
+use Rattle.section_model.specs.Journals.{lane_of}
 use Rattle.conn_lane.specs.Lanes.{conn_asked_of}
-use Rattle.conn_lane.specs.Inner.Views.{OpeningsState, keeps_of}
+use Rattle.conn_lane.specs.Inner.Views.{OpeningsState}
 use Rattle.conn_lane.specs.Inner.Turns.{opened_in, other_outs_in, outs_in, new_remnant, keeps_in, IsConnLane}
-use Rattle.conn_lane.specs.Inner.Grown.{Comes, Grows}
+use Rattle.conn_lane.specs.Inner.Grown.{StandsIn, Comes, Grows}
 use Rattle.conn_lane.proofs.Keeps.{keeps_all}
-use Rattle.conn_lane.proofs.Needless.{outs_needed, keeps_needed}
-use Rattle.conn_lane.proofs.NewSeats.{orderly_keeps}
+use Rattle.conn_lane.proofs.NewSeats.{IsFree, among_free, orderly_keeps, orderly_none}
 use Rattle.conn_lane.proofs.HeardAt.{nobody_named}
+use Rattle.std.proofs.lemmas.List.Elements.{All-nil}
+use Rattle.relay_base.specs.declared.limits.TheConstants.{SLOTS}
+use Rattle.local_refs.specs.Slots.{free_references}
+use Rattle.local_refs.specs.declared.state.SlotState.TheVariants.{Free}
+use Rattle.section_coupling.specs.declared.side.Side.{Side}
+use Rattle.section_coupling.specs.declared.side.Side.TheVariants as side
+use Rattle.section_coupling.specs.Views.{end_at}
+use Rattle.section_coupling.specs.Sound.{IsCredit}
+use Rattle.hearing_law.proofs.Opened.{EndsAre, AreAmong}
+use Rattle.conn_lane.specs.declared.change.Change.{Change}
+use Rattle.conn_lane.specs.declared.change.Change.TheVariants.{Nothing, Heard, Opened, Ticked}
+use Rattle.conn_lane.specs.Inner.Changes.{changed, Fits, Makes, Opens}
+use Rattle.conn_lane.specs.Inner.Lowest.{lowest_of}
+use Rattle.conn_lane.specs.Inner.Stands.{IsPlaced, Stands, IsStanding}
+use Rattle.conn_lane.proofs.Opened.{TakesFirst, takes_first, Before, lowest_before, makes_opened}
+use Rattle.conn_lane.proofs.Slotted.{lowest_are, unused_none}
+use Rattle.conn_lane.proofs.Standing.{count_is, makes_nothing}
 use Rattle.relay_base.specs.declared.words.Request.{Request}
 use Rattle.relay_base.specs.declared.words.Request.TheVariants as request
 use Rattle.q713_codec.specs.Names.{Message}
@@ -99,53 +114,77 @@ later taken (Arrived point sls bytes) n few = omega (arith, few)
 later taken (Requested ssn r) n few = omega (arith, few)
 later taken Tick n few = omega (arith, few)
 
-pub needed_again : (keeps : List Remnant) → needed (needed keeps) ≡ needed keeps
-needed_again [] = refl
-needed_again (k ∷ keeps) = by_test (is_needed k) refl (needed_again keeps)
-  where
-    by_test : (b : Bool) → is_needed k ≡ b → needed (needed keeps) ≡ needed keeps → needed (cond b (k ∷ needed keeps) (needed keeps)) ≡ cond b (k ∷ needed keeps) (needed keeps)
-    by_test true is again = rw is (ap (λ ks. k ∷ ks) again)
-    by_test false is again = again
+pub lane_stands : (head : LaneHead) (number : ℕ) (journal : List Entry) (o : OpeningsState) → IsConnLane head number journal o
+    → StandsIn head number (kept_of (lane_of head number) (openings_from (lane_of head number) [] journal)) o
+lane_stands head number journal o lane = record { stands = lane.keeps.stands; lane = lane.keeps.lane; freeze = lane.keeps.freeze }
+
+pub lane_standing : (head : LaneHead) (number : ℕ) (journal : List Entry) (o : OpeningsState) → IsConnLane head number journal o → IsStanding o
+lane_standing head number journal o lane = record { keeps = kept_of (lane_of head number) (openings_from (lane_of head number) [] journal); stands = lane.keeps.stands }
+
+one_more : (event : Event) (keeps : List Remnant) (ticks : Ticks) (c : Option Connection) → length (map (remnant_after event) keeps ++ new_remnant ticks c) ≤ length keeps + 1
+one_more event keeps ticks None = omega (arith, length-append (map (remnant_after event) keeps) [], length-map keeps (remnant_after event))
+one_more event keeps ticks (Some c) =
+    omega (arith, length-append (map (remnant_after event) keeps) (new_remnant ticks (Some c)), length-map keeps (remnant_after event))
 
 pub lane_grows : (plant : PlantState) (head : LaneHead) (number : ℕ) (journal : List Entry) (before after : OpeningsState) (entry : Entry)
     → IsConnLane head number journal before → Grows plant head number before after entry
     → IsConnLane head number (journal ++ entry ∷ []) after
-lane_grows plant head number journal before after entry lane more =
+lane_grows plant head number journal before after entry lane grows =
     let openings = openings_from (lane_of head number) [] journal in
     let wish = wish_of head.terms entry.event in
-    let same : needed (keeps_of before) ≡ needed (kept_of (lane_of head number) openings) = lane.keeps.keeps in
+    let more = grows (kept_of (lane_of head number) openings) (lane_stands head number journal before lane) in
     let outs : entry.outs ≡ legal_outputs (lane_of head number) openings entry.event (answer_of entry) =
-    more.outs
-    ∙ (outs_needed (lane_of head number) (keeps_of before) entry.event wish (answer_of entry)
-    ∙ (ap (λ keeps. outs_in (lane_of head number) keeps entry.event wish (answer_of entry)) same
-    ∙ (sym (outs_needed (lane_of head number) (kept_of (lane_of head number) openings) entry.event wish (answer_of entry))
-    ∙ sym (outs-alike (lane_of head number) openings entry.event (answer_of entry))))) in
+    more.outs ∙ sym (outs-alike (lane_of head number) openings entry.event (answer_of entry)) in
     let legal : IsLegalEntry (lane_of head number) openings entry =
     record { routed = ap is_some more.asked ∙ routed plant.edition plant.routing (question_of wish); outputs = outs } in
     record {
       legal = (splits (lane_of head number) [] journal (entry ∷ [])).1 (lane.legal, (legal, tt));
       keeps = record {
-        keeps =
-            more.keeps
-            ∙ (keeps_needed (lane_of head number) (keeps_of before) entry.event wish (answer_of entry)
-            ∙ (ap (λ keeps. needed (keeps_in (lane_of head number) keeps entry.event wish (answer_of entry))) same
-            ∙ (sym (keeps_needed (lane_of head number) (kept_of (lane_of head number) openings) entry.event wish (answer_of entry))
-            ∙ (ap needed (sym (keeps-alike (lane_of head number) openings entry.event (answer_of entry)))
-            ∙ ap (λ os. needed (kept_of (lane_of head number) os)) (sym (openings-more (lane_of head number) [] journal entry))))));
+        stands = subst (λ keeps. Stands keeps after)
+            (sym (keeps-alike (lane_of head number) openings entry.event (answer_of entry))
+            ∙ ap (kept_of (lane_of head number)) (sym (openings-more (lane_of head number) [] journal entry))) more.stands;
+        lane = more.lane ∙ lane.keeps.lane;
+        freeze = more.freeze ∙ lane.keeps.freeze;
         few = rw (more.taken, length-append journal (entry ∷ [])) (later before.taken entry.event (length journal) lane.keeps.few);
+        many = omega (
+          arith,
+          lane.keeps.many,
+          length-append journal (entry ∷ []),
+          count_is (kept_of (lane_of head number) openings) before lane.keeps.stands.lives,
+          count_is (keeps_in (lane_of head number) (kept_of (lane_of head number) openings) entry.event wish (answer_of entry)) after more.stands.lives,
+          one_more entry.event (kept_of (lane_of head number) openings) head.terms.ticks
+              (opened_in (lane_of head number) (kept_of (lane_of head number) openings) wish (answer_of entry)).connection,
+        );
       };
       lanes = lane.lanes;
       credit = lane.credit;
     }
 
+-- a lane before its first event
+pub lane_begins : (head : LaneHead) (number : ℕ) → number < 16 → IsCredit head.terms.credit
+    → IsConnLane head number [] (record { taken = 0; kept = []; slots = record { lane = number; freeze = head.terms.ticks.freeze; states = replicate SLOTS Free }; owners = replicate (SLOTS + 1) None })
+lane_begins head number lanes credit =
+    record {
+      legal = tt;
+      keeps = record {
+        stands = record { lives = refl; orderly = orderly_none; placed = All-nil (IsPlaced number head.terms.ticks.freeze); uses = unused_none number head.terms.ticks.freeze };
+        lane = refl;
+        freeze = refl;
+        few = omega arith;
+        many = omega arith;
+      };
+      lanes = lanes;
+      credit = credit;
+    }
+
 -- the lane once its change is written, or as before
-pub lane_written : {A E : Type 0} (r : Result A E) (plant : PlantState) (head : LaneHead) (number : ℕ) (journal later : List Entry) (before after made : OpeningsState) (entry : Entry)
-    → IsConnLane head number journal before → Grows plant head number before made entry → OnOk r (later ≡ journal ++ entry ∷ []) → OnOk r (after ≡ made) → OnErr r ((later ≡ journal) × (after ≡ before))
+pub lane_written : {A E : Type 0} (X : Type 0) (r : Result A E) (plant : PlantState) (head : LaneHead) (number : ℕ) (journal later : List Entry) (before after made : OpeningsState) (entry : Entry)
+    → IsConnLane head number journal before → Grows plant head number before made entry → OnOk r (later ≡ journal ++ entry ∷ []) → OnOk r (after ≡ made) → OnErr r ((later ≡ journal) × (after ≡ before) × X)
     → IsConnLane head number later after
-lane_written (Ok a) plant head number journal later before after made entry lane more grown is same =
+lane_written X (Ok a) plant head number journal later before after made entry lane more grown is same =
     subst (λ j. IsConnLane head number j after) (sym grown)
     (subst (IsConnLane head number (journal ++ entry ∷ [])) (sym is) (lane_grows plant head number journal before made entry lane more))
-lane_written (Err e) plant head number journal later before after made entry lane more grown is same =
+lane_written X (Err e) plant head number journal later before after made entry lane more grown is same =
     subst (λ j. IsConnLane head number j after) (sym same.0) (subst (IsConnLane head number journal) (sym same.1) lane)
 
 pub on_ok : {A E : Type 0} {P Q : Type 0} (r : Result A E) → (P → Q) → OnOk r P → OnOk r Q
@@ -193,18 +232,8 @@ none_needed terms event = none-by (wish_of terms event)
 pub opens_answered : (head : LaneHead) (plant : PlantState) (event : Event) (asked : Option Asked) (answer : Option Answer) → asked ≡ conn_asked_of head plant event → answer ≡ answer_in asked → IsAnswered (wish_of head.terms event) answer
 opens_answered head plant event asked answer e f = ap is_some (f ∙ ap answer_in e) ∙ answered plant.edition plant.routing (question_of (wish_of head.terms event))
 
--- what is opened, from the code's references and answer
-pub opens_so : (lane : Lane) (keeps : List Remnant) (wish : Wish) (answer given : Option Answer) (count : ℕ) (refs : List ℕ) (o : Opened) → given ≡ answer → count ≡ slots_needed wish given → refs ≡ lowest_in lane keeps count → opened lane.terms wish given refs ≡ o
-    → opened_in lane keeps wish answer ≡ o
-opens_so lane keeps wish answer given count refs o e f g h =
-    subst (λ a. opened_in lane keeps wish a ≡ o) e
-    (ap (λ n. opened lane.terms wish given (lowest_in lane keeps n)) (sym f) ∙ (ap (opened lane.terms wish given) (sym g) ∙ h))
-
-pub opened_outs : (lane : Lane) (keeps : List Remnant) (event : Event) (wish : Wish) (answer : Option Answer) (o : Opened) → is_wish wish ≡ true → opened_in lane keeps wish answer ≡ o → o.outs ≡ outs_in lane keeps event wish answer
+pub opened_outs : (lane : Lane) (keeps : List Remnant) (event : Event) (wish : Wish) (answer : Option Answer) (o : OpenedState) → is_wish wish ≡ true → opened_in lane keeps wish answer ≡ o → o.outs ≡ outs_in lane keeps event wish answer
 opened_outs lane keeps event wish answer o e f = sym (open_outs lane keeps event wish answer e ∙ ap (λ x. x.outs) f)
-
-pub opened_keeps : (lane : Lane) (keeps : List Remnant) (event : Event) (wish : Wish) (answer : Option Answer) (o : Opened) (later : List Remnant) → opened_in lane keeps wish answer ≡ o → later ≡ map (remnant_after event) keeps ++ new_remnant lane.terms.ticks o.connection → later ≡ keeps_in lane keeps event wish answer
-opened_keeps lane keeps event wish answer o later f e = e ∙ ap (λ x. map (remnant_after event) keeps ++ new_remnant lane.terms.ticks x.connection) (sym f)
 
 pub other_outs : (lane : Lane) (keeps : List Remnant) (event : Event) (wish : Wish) (answer : Option Answer) → is_wish wish ≡ false → other_outs_in keeps event ≡ outs_in lane keeps event wish answer
 other_outs lane keeps event (by_cr w) answer e = absurd (cc)
@@ -218,10 +247,6 @@ pub few_taken : (taken n : ℕ) → taken ≤ n → n < 2 ^ 32 → taken ≤ 4_2
 few_taken taken n e f = omega (arith, e, f)
 
 -- What comes of an event.
-
-news_are : (ticks : Ticks) (taken : ℕ) (duo : Option DuoState) → IfSome duo (λ d. d.ticks ≡ ticks) → news taken duo ≡ new_remnant ticks (option_map (duo_at taken) duo)
-news_are ticks taken None is = refl
-news_are ticks taken (Some d) is = ap (λ t. remnant_of t (record { first = duo_at taken d; since = [] }) ∷ []) is
 
 pub open_untimed : (terms : Terms) (event : Event) → is_wish (wish_of terms event) ≡ true → is_tick event ≡ false
 unfolding wish_of
@@ -254,34 +279,66 @@ open_names_none terms Tick e = absurd (cc)
 open_unheard : (terms : Terms) (event : Event) (keeps : List Remnant) → is_wish (wish_of terms event) ≡ true → AreOrderly keeps → map (remnant_after event) keeps ≡ keeps
 open_unheard terms event keeps wish orderly = (nobody_named event keeps (open_untimed terms event wish) orderly.seated (open_names_none terms event wish)).1
 
--- an event that opens a connection
-pub open_comes : (plant : PlantState) (head : LaneHead) (number : ℕ) (event : Event) (before after : OpeningsState) (routing : Option Asked) (duo : Option DuoState) (outputs : List Output)
-    → is_wish (wish_of head.terms event) ≡ true → routing ≡ conn_asked_of head plant event
-    → opened_in (lane_of head number) (keeps_of before) (wish_of head.terms event) (answer_in routing) ≡ record { connection = option_map (duo_at before.taken) duo; outs = outputs }
-    → IfSome duo (λ d. d.ticks ≡ head.terms.ticks) → AreOrderly (keeps_of before) → after.taken ≡ before.taken → keeps_of after ≡ keeps_of before ++ news before.taken duo
-    → Comes plant head number event before after routing outputs
-open_comes plant head number event before after routing duo outputs wish asked opens ticks orderly taken is =
-    let lane : Lane = lane_of head number in
-    record {
-      asked = asked;
-      outs = opened_outs lane (keeps_of before) event (wish_of head.terms event) (answer_in routing) (record { connection = option_map (duo_at before.taken) duo; outs = outputs }) wish opens;
-      taken = taken ∙ sym (open_taken head.terms before.taken event wish);
-      keeps = ap needed
-          (opened_keeps lane (keeps_of before) event (wish_of head.terms event) (answer_in routing) (record { connection = option_map (duo_at before.taken) duo; outs = outputs }) (keeps_of after) opens
-          (is
-          ∙ ap₂ (λ ks more. ks ++ more) (sym (open_unheard head.terms event (keeps_of before) wish orderly)) (news_are head.terms.ticks before.taken duo ticks)));
-    }
+-- what is opened, of these openings
+opened_of : (head : LaneHead) (number : ℕ) (keeps : List Remnant) (o : OpeningsState) (wish : Wish) (answer : Option Answer) → StandsIn head number keeps o
+    → opened head.terms wish answer (lowest_of o.slots (slots_needed wish answer)) ≡ opened_in (lane_of head number) keeps wish answer
+opened_of head number keeps o wish answer at =
+    ap (opened head.terms wish answer) (lowest_are (lane_of head number) keeps o.slots o.owners (slots_needed wish answer) at.lane at.stands.uses)
 
--- what is kept with the new connection is orderly
-pub open_orderly : (head : LaneHead) (number : ℕ) (event : Event) (before : OpeningsState) (answer : Option Answer) (duo : Option DuoState) (outputs : List Output) → number < 16 → AreOrderly (keeps_of before)
-    → opened_in (lane_of head number) (keeps_of before) (wish_of head.terms event) answer ≡ record { connection = option_map (duo_at before.taken) duo; outs = outputs }
-    → IfSome duo (λ d. d.ticks ≡ head.terms.ticks) → is_wish (wish_of head.terms event) ≡ true → AreOrderly (keeps_of before ++ news before.taken duo)
-open_orderly head number event before answer duo outputs within orderly opens ticks wish =
+-- what a new connection changes
+opened_makes : (head : LaneHead) (number : ℕ) (event : Event) (keeps : List Remnant) (o : OpeningsState) (answer : Option Answer) (duo : Option DuoState) (outputs : List Output) (change : Change)
+    → number < 16 → StandsIn head number keeps o → is_wish (wish_of head.terms event) ≡ true
+    → opened_in (lane_of head number) keeps (wish_of head.terms event) answer ≡ record { connection = option_map (duo_at o.taken) duo; outs = outputs } → IfSome duo (λ d. d.ticks ≡ head.terms.ticks)
+    → Opens duo change → Makes change o o.taken (keeps_in (lane_of head number) keeps event (wish_of head.terms event) answer)
+opened_makes head number event keeps o answer None outputs change within at wish opens ticks so =
+    subst (λ x. Makes x o o.taken (keeps_in (lane_of head number) keeps event (wish_of head.terms event) answer)) (sym so)
+    (subst (Makes Nothing o o.taken) (sym (ap (λ x. map (remnant_after event) keeps ++ new_remnant head.terms.ticks x.connection) opens ∙ append-nil (map (remnant_after event) keeps)))
+    (makes_nothing event o keeps (open_unheard head.terms event keeps wish at.stands.orderly) at.stands))
+opened_makes head number event keeps o answer (Some d) outputs Nothing within at wish opens ticks so = absurd so
+opened_makes head number event keeps o answer (Some d) outputs (Heard next) within at wish opens ticks so = absurd so
+opened_makes head number event keeps o answer (Some d) outputs (Ticked nexts) within at wish opens ticks so = absurd so
+opened_makes head number event keeps o answer (Some d) outputs (Opened new) within at wish opens ticks so =
     let lane : Lane = lane_of head number in
-    subst (λ ks. AreOrderly (ks ++ news before.taken duo)) (open_unheard head.terms event (keeps_of before) wish orderly)
-    (subst (λ ks. AreOrderly (map (remnant_after event) (keeps_of before) ++ ks))
-    (ap (λ o. new_remnant head.terms.ticks o.connection) opens ∙ sym (news_are head.terms.ticks before.taken duo ticks))
-    (orderly_keeps lane (keeps_of before) event (wish_of head.terms event) answer within orderly))
+    let w : Wish = wish_of head.terms event in
+    let count : ℕ = slots_needed w answer in
+    let c : Connection = duo_at o.taken d in
+    let some : (opened_in lane keeps w answer).connection ≡ Some c = ap (λ x. x.connection) opens in
+    let same : lowest_of o.slots count ≡ lowest_in lane keeps count = lowest_are lane keeps o.slots o.owners count at.lane at.stands.uses in
+    let first : TakesFirst (lowest_in lane keeps count) c = subst (λ x. IfSome x (TakesFirst (lowest_in lane keeps count))) some (takes_first head.terms w answer (lowest_in lane keeps count)) in
+    let are : EndsAre (IsFree o.slots.lane keeps) c = subst (λ n. EndsAre (IsFree n keeps) c) (sym at.lane) (subst (AreAmong (IsFree number keeps)) some (among_free lane keeps w answer within)) in
+    let all : keeps_in lane keeps event w answer ≡ keeps ++ remnant_of head.terms.ticks (record { first = c; since = [] }) ∷ [] =
+    ap₂ (λ ks x. ks ++ new_remnant head.terms.ticks x) (open_unheard head.terms event keeps wish at.stands.orderly) some in
+    subst (Makes (Opened new) o o.taken) (sym all)
+    (makes_opened o keeps head.terms.ticks d new (lowest_in lane keeps count) (subst (λ n. n < 16) (sym at.lane) within) at.stands
+    (subst (λ refs. Before refs (free_references o.slots)) same (lowest_before o.slots count)) first are ticks (sym at.freeze) so.0
+    (so.1 ∙ side_reference 0 o.taken d.pair.this) (so.2 ∙ side_reference 0 o.taken d.pair.that)
+    (subst AreOrderly all (orderly_keeps lane keeps event w answer within at.stands.orderly)))
+  where
+    side_reference : (m n : ℕ) (s : Side) → reference_of (end_at m s) ≡ reference_of (end_at n s)
+    side_reference m n (side.Wire w) = refl
+    side_reference m n (side.User u) = refl
+
+-- an event that opens a connection
+pub open_comes : (plant : PlantState) (head : LaneHead) (number : ℕ) (event : Event) (o : OpeningsState) (routing : Option Asked) (duo : Option DuoState) (outputs : List Output) (change : Change)
+    → number < 16 → is_wish (wish_of head.terms event) ≡ true → routing ≡ conn_asked_of head plant event
+    → opened head.terms (wish_of head.terms event) (answer_in routing) (lowest_of o.slots (slots_needed (wish_of head.terms event) (answer_in routing))) ≡ record { connection = option_map (duo_at o.taken) duo; outs = outputs }
+    → IfSome duo (λ d. d.ticks ≡ head.terms.ticks) → Opens duo change → (keeps : List Remnant) → StandsIn head number keeps o
+    → Fits change o × Comes plant head number event keeps o (changed change o) routing outputs
+open_comes plant head number event o routing duo outputs change within wish asked opens ticks so keeps at =
+    let lane : Lane = lane_of head number in
+    let w : Wish = wish_of head.terms event in
+    let is : opened_in lane keeps w (answer_in routing) ≡ record { connection = option_map (duo_at o.taken) duo; outs = outputs } = sym (opened_of head number keeps o w (answer_in routing) at) ∙ opens in
+    let makes : Makes change o o.taken (keeps_in lane keeps event w (answer_in routing)) = opened_makes head number event keeps o (answer_in routing) duo outputs change within at wish is ticks so in (
+      makes.fits,
+      record {
+        asked = asked;
+        outs = opened_outs lane keeps event w (answer_in routing) (record { connection = option_map (duo_at o.taken) duo; outs = outputs }) wish is;
+        taken = makes.taken ∙ sym (open_taken head.terms o.taken event wish);
+        lane = makes.lane;
+        freeze = makes.freeze;
+        stands = makes.stands;
+      },
+    )
 
 others_untimed : (keeps : List Remnant) (event : Event) → is_tick event ≡ false → other_outs_in keeps event ≡ unheard (first_part event keeps) (stray_answer event)
 others_untimed keeps (Arrived point sls bytes) e = refl
@@ -294,36 +351,42 @@ untimed taken (Requested ssn r) e = refl
 untimed taken Tick e = absurd (cc)
 
 -- an event that a connection may hear
-pub hear_comes : (plant : PlantState) (head : LaneHead) (number : ℕ) (event : Event) (before after : OpeningsState) (part : Option (List Output)) (outputs : List Output)
-    → is_tick event ≡ false → is_wish (wish_of head.terms event) ≡ false → part ≡ first_part event (keeps_of before) → outputs ≡ unheard part (stray_answer event)
-    → after.taken ≡ before.taken → keeps_of after ≡ map (remnant_after event) (keeps_of before) → Comes plant head number event before after None outputs
-hear_comes plant head number event before after part outputs no_tick wish parts outs taken is =
-    let lane : Lane = lane_of head number in
-    record {
-      asked = sym (none_asked_of head plant event wish);
-      outs =
-          outs
-          ∙ (ap (λ p. unheard p (stray_answer event)) parts
-          ∙ (sym (others_untimed (keeps_of before) event no_tick) ∙ other_outs lane (keeps_of before) event (wish_of head.terms event) None wish));
-      taken = taken ∙ sym (untimed before.taken event no_tick);
-      keeps = ap needed (is ∙ other_keeps lane (keeps_of before) event (wish_of head.terms event) None wish);
-    }
+pub hear_comes : (plant : PlantState) (head : LaneHead) (number : ℕ) (event : Event) (o : OpeningsState) (part : Option (List Output)) (outputs : List Output) (change : Change) (keeps : List Remnant)
+    → is_tick event ≡ false → is_wish (wish_of head.terms event) ≡ false → part ≡ first_part event keeps → outputs ≡ unheard part (stray_answer event)
+    → Makes change o o.taken (map (remnant_after event) keeps) → Fits change o × Comes plant head number event keeps o (changed change o) None outputs
+hear_comes plant head number event o part outputs change keeps no_tick wish parts outs makes =
+    let lane : Lane = lane_of head number in (
+      makes.fits,
+      record {
+        asked = sym (none_asked_of head plant event wish);
+        outs =
+            outs
+            ∙ (ap (λ p. unheard p (stray_answer event)) parts
+            ∙ (sym (others_untimed keeps event no_tick) ∙ other_outs lane keeps event (wish_of head.terms event) None wish));
+        taken = makes.taken ∙ sym (untimed o.taken event no_tick);
+        lane = makes.lane;
+        freeze = makes.freeze;
+        stands = subst (λ ks. Stands ks (changed change o)) (other_keeps lane keeps event (wish_of head.terms event) None wish) makes.stands;
+      },
+    )
 
 no_wish_of_tick : (terms : Terms) → is_wish (wish_of terms Tick) ≡ false
 unfolding wish_of
 no_wish_of_tick terms = refl
 
 -- a tick
-pub tick_comes : (plant : PlantState) (head : LaneHead) (number : ℕ) (before after : OpeningsState) (outputs : List Output) → outputs ≡ all_parts Tick (keeps_of before)
-    → after.taken ≡ before.taken + 1 → keeps_of after ≡ needed (map (remnant_after Tick) (keeps_of before)) → Comes plant head number Tick before after None outputs
-tick_comes plant head number before after outputs outs taken is =
+pub tick_comes : (plant : PlantState) (head : LaneHead) (number : ℕ) (o : OpeningsState) (outputs : List Output) (change : Change) (keeps : List Remnant) → outputs ≡ all_parts Tick keeps
+    → Makes change o (o.taken + 1) (map (remnant_after Tick) keeps) → Fits change o × Comes plant head number Tick keeps o (changed change o) None outputs
+tick_comes plant head number o outputs change keeps outs makes =
     let lane : Lane = lane_of head number in
-    let wish = no_wish_of_tick head.terms in
-    record {
-      asked = sym (none_asked_of head plant Tick wish);
-      outs = outs ∙ other_outs lane (keeps_of before) Tick (wish_of head.terms Tick) None wish;
-      taken = taken;
-      keeps =
-          ap needed is
-          ∙ (needed_again (map (remnant_after Tick) (keeps_of before)) ∙ ap needed (other_keeps lane (keeps_of before) Tick (wish_of head.terms Tick) None wish));
-    }
+    let wish = no_wish_of_tick head.terms in (
+      makes.fits,
+      record {
+        asked = sym (none_asked_of head plant Tick wish);
+        outs = outs ∙ other_outs lane keeps Tick (wish_of head.terms Tick) None wish;
+        taken = makes.taken;
+        lane = makes.lane;
+        freeze = makes.freeze;
+        stands = subst (λ ks. Stands ks (changed change o)) (other_keeps lane keeps Tick (wish_of head.terms Tick) None wish) makes.stands;
+      },
+    )

@@ -1,14 +1,14 @@
 -- Each opening stays seated: an end has its reference until it is gone, whatever happens.
 use Rattle.std.proofs.Common.{◌≡◌, ℕ, Bool, true, false, List, map, All, Option, Some, None, is_some, if◌then◌else◌, refl, sym, ◌∙◌}
-use Rattle.std.proofs.lemmas.List.Elements.{All-map, All-weaker, All-filter}
+use Rattle.std.proofs.lemmas.List.Elements.{All-map, All-weaker}
 use Rattle.relay_base.specs.declared.words.Event.{Event}
 use Rattle.plant_core.specs.declared.terms.Ticks.{Ticks}
 use Rattle.section_model.specs.Ends.{End, Connection}
 use Rattle.section_model.specs.Step.{end_is_gone, is_over}
 use Rattle.section_model.specs.Lane.{fed}
-use Rattle.reference_law.specs.ReferenceLaw.{Stays, BothStay}
-use Rattle.reference_law.proofs.Following.{fed_stays}
-use Rattle.conn_lane.specs.Inner.Remnants.{Live, Seat, Remnant, live_of, left_after, seat_after, remnant_after, is_needed, needed}
+use Rattle.connection_law.specs.ReferenceLaw.{Stays, BothStay}
+use Rattle.connection_law.proofs.Reference.Following.{fed_stays}
+use Rattle.conn_lane.specs.Inner.Remnants.{Live, Seat, Remnant, live_of, left_after, seat_after, remnant_after}
 use Rattle.conn_lane.specs.Inner.Seated.{SeatIs, AreSeated, IsInLane, IsSeated}
 
 -- A seat.
@@ -69,6 +69,3 @@ seated_after event k seated = seated_parts event k.live k.this k.that seated.liv
 pub all_seated_after : (event : Event) (keeps : List Remnant) → All IsSeated keeps → All IsSeated (map (remnant_after event) keeps)
 all_seated_after event keeps seated =
     All-map IsSeated (remnant_after event) keeps (All-weaker IsSeated (λ k. IsSeated (remnant_after event k)) (seated_after event) keeps seated)
-
-pub all_seated_needed : (keeps : List Remnant) → All IsSeated keeps → All IsSeated (needed keeps)
-all_seated_needed keeps seated = All-filter is_needed IsSeated keeps seated

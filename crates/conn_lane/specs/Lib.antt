@@ -1,4 +1,3 @@
-pub mod Journals
 pub mod Lanes
 pub mod Laws
 pub mod Inner

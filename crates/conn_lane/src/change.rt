@@ -1,14 +1,28 @@
-//! What an event changes in the openings of a lane.
-use crate::kept::KeptOpening;
+//! What an event changes in what a lane keeps.
+ghost use Rattle.std.specs.Prelude.{◌≡◌};
+ghost use Rattle.conn_lane.specs.Inner.Waking.{count_of};
 
-/// An opening as it is next, and its place.
+use crate::kept::Kept;
+use relay_base::Ref24;
+
+/// A connection as it is next, None once it is over, its number in the lane's journal, and the references that its ends give up.
 #[derive(Drop)]
 pub struct Next {
-    pub place: usize,
-    pub one: KeptOpening,
+    pub number: usize,
+    pub one: Option<Kept>,
+    pub this: Option<Ref24>,
+    pub that: Option<Ref24>,
 }
 
-/// What an event changes in the openings of a lane. It is made apart, so that memory runs out before anything changes, or not at all.
+/// A connection that was just opened, and the references that its ends take.
+#[derive(Drop)]
+pub struct NewConnection {
+    pub one: Kept,
+    pub this: Option<Ref24>,
+    pub that: Option<Ref24>,
+}
+
+/// What an event changes in what a lane keeps. It is made apart, so that memory runs out before anything changes, or not at all.
 #[derive(Drop)]
 pub enum Change {
     /// Nobody hears the event, and no connection comes of it.
@@ -16,7 +30,20 @@ pub enum Change {
     /// A connection hears it.
     Heard(Next),
     /// A connection is opened.
-    Opened(KeptOpening),
-    /// A tick, and the openings for which it does more than bring timers nearer.
+    Opened(NewConnection),
+    /// A tick, and the connections for which it does more than bring timers nearer.
     Ticked(Vec<Next>),
+}
+
+impl Change {
+    /// How many connections it changes.
+    pub fn count(&self) -> usize
+        ensures { result ≡ count_of self.now }
+    {
+        match self {
+            Change::Nothing => 0,
+            Change::Heard(_) | Change::Opened(_) => 1,
+            Change::Ticked(nexts) => nexts.len(),
+        }
+    }
 }

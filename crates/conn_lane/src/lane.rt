@@ -1,10 +1,10 @@
 //! The connection lane.
-ghost use Rattle.std.specs.Prelude.{◌≡◌, ◌≤◌, ◌<◌, ◌^◌, ◌++◌, [], length, map, true, false, IfOk, IfSome, OnOk, OnErr};
+ghost use Rattle.std.specs.Prelude.{◌≡◌, ◌≤◌, ◌<◌, ◌^◌, ◌++◌, [], List, length, map, true, false, IfOk, IfSome, OnOk, OnErr};
 ghost use Rattle.plant_core.specs.declared.terms.Terms.{Terms};
 ghost use Rattle.std.specs.Option.{option_map};
 ghost use Rattle.relay_base.specs.declared.limits.TheConstants.{MOST_LANES};
 ghost use Rattle.plant_core.specs.Asking.{answer_in};
-ghost use Rattle.section_model.specs.Opening.{wish_of, question_of, slots_needed};
+ghost use Rattle.section_model.specs.Opening.{wish_of, question_of, slots_needed, opened};
 ghost use Rattle.relay_base.specs.declared.words.Event.TheVariants.{Tick};
 ghost use Rattle.section_model.specs.Lane.{stray_answer, is_tick};
 ghost use Rattle.section_coupling.specs.Duos.{duo_at};
@@ -12,21 +12,27 @@ ghost use Rattle.section_coupling.specs.Openings.{IsAnswered, is_wish};
 ghost use Rattle.section_coupling.specs.Sound.{IsCredit};
 ghost use Rattle.conn_lane.specs.Laws.{unheard};
 ghost use Rattle.plant_core.specs.Plant.{PlantState};
-ghost use Rattle.conn_lane.specs.Inner.Views.{keeps_of};
+ghost use Rattle.conn_lane.specs.Inner.Remnants.{Remnant};
 ghost use Rattle.conn_lane.specs.Inner.Changes.{Fits, changed};
-ghost use Rattle.conn_lane.specs.Inner.Turns.{opened_in};
-ghost use Rattle.conn_lane.specs.Journals.{lane_of};
+ghost use Rattle.conn_lane.specs.Inner.Stands.{IsStanding};
+ghost use Rattle.conn_lane.specs.Inner.Waking.{IsTimed, Sleepers, WakesDue};
+ghost use Rattle.timer_wheel.specs.Timers.{due_now};
+ghost use Rattle.timer_wheel.specs.declared.due.Due.{Due};
+ghost use Rattle.conn_lane.specs.Inner.Lowest.{lowest_of};
+ghost use Rattle.section_model.specs.Journals.{lane_of};
 ghost use Rattle.conn_lane.specs.Lanes.{conn_asked_of};
-ghost use Rattle.conn_lane.specs.Inner.Grown.{TurnsInto, Grows};
+ghost use Rattle.conn_lane.specs.Inner.Grown.{StandsIn, TurnsInto, Grows};
 
 use crate::change::Change;
 use crate::openings::Openings;
+use crate::waking::due;
 use plant_core::{Answer, Asked, Entry, EntryList, LaneHead, Plant, fitted};
 use relay_base::{Event, Memory, Outs, Stamp};
 use routing_control::asked;
 use section_coupling::{Begun, Duo, ask_of, opens, stray};
 use std::alloc::Global;
 use std::marker::Model;
+use timer_wheel::Wheel;
 
 /// The connections of one lane. Its journal is a legal one at all times.
 #[derive(Drop)]
@@ -36,17 +42,21 @@ pub struct ConnLane {
     number: u8,
     journal: EntryList,
     openings: Openings,
+    wheel: Wheel,
 }
 
 impl Model for ConnLane {
     ghost use Rattle.conn_lane.specs.Lanes.{ConnLaneState};
     ghost use Rattle.conn_lane.specs.Inner.Turns.{IsConnLane};
+    ghost use Rattle.conn_lane.specs.Inner.Waking.{IsTimed};
+    ghost use Rattle.std.specs.Prelude.{◌≤◌, length};
 
     ghost Value = { ConnLaneState };
 
     ghost view = { λ l. record { head = l.head; number = l.number; journal = l.journal } };
 
-    ghost invariant = { λ l. IsConnLane l.head l.number l.journal l.openings };
+    ghost invariant = { λ l. IsConnLane l.head l.number l.journal l.openings
+        × IsTimed l.openings.taken l.openings.kept l.wheel.armed };
 }
 
 /// The routing that an event asks.
@@ -118,7 +128,6 @@ fn needed(event: &Event, answer: Option<&Answer>) -> u8
 
 impl Context {
     /// Opens a connection with the lowest free references.
-    #[tactic(auto, using(crate::proofs::LaneGrows::opens_so))]
     fn begin(
         &self,
         event: &Event,
@@ -126,13 +135,13 @@ impl Context {
         openings: &Openings,
     ) -> Result<Begun, Memory>
         requires taken { openings.now.taken ≤ 4_294_967_295 }
-        requires number { self.now.number < MOST_LANES }
         requires credit { IsCredit self.now.head.terms.credit }
         requires answered { let wish = wish_of self.now.head.terms event.now in
             IsAnswered wish (answer_in asked.now) }
-        ensures opened { let lane = lane_of self.now.head self.now.number in
-            let wish = wish_of self.now.head.terms event.now in IfOk result (λ b.
-            opened_in lane (keeps_of openings.now) wish (answer_in asked.now) ≡
+        ensures opened { let wish = wish_of self.now.head.terms event.now in
+            let answer = answer_in asked.now in
+            let lowest = lowest_of openings.now.slots (slots_needed wish answer) in
+            IfOk result (λ b. opened self.now.head.terms wish answer lowest ≡
             record {
               connection = option_map (duo_at openings.now.taken) b.duo;
               outs = b.outs;
@@ -142,7 +151,7 @@ impl Context {
     {
         let answer = answer_in(asked);
         let count = needed(event, answer);
-        let refs = openings.lowest_free(self.number, count)?;
+        let refs = openings.lowest_free(count)?;
         let begun = Duo::begin(
             self.alloc,
             &self.head.terms,
@@ -160,7 +169,10 @@ impl Context {
         requires number { self.now.number < MOST_LANES }
         requires credit { IsCredit self.now.head.terms.credit }
         requires wish { is_wish (wish_of self.now.head.terms event.now) ≡ true }
-        ensures { IfOk result (λ turn. TurnsInto plant.now self.now event.now openings.now turn) }
+        ensures turns { IfOk result (λ turn.
+            TurnsInto plant.now self.now event.now openings.now turn) }
+        ensures woken { (due : List Due) → IfOk result (λ turn.
+            WakesDue due openings.now.kept turn.change) }
     {
         let asked = asked_by(plant, event);
         let begun = self.begin(event, &asked, openings)?;
@@ -174,11 +186,14 @@ impl Context {
 
     /// An event that opens no connection, and is no tick.
     fn hear(&self, event: &Event, openings: &Openings) -> Result<Turn, Memory>
+        requires standing { IsStanding openings.now }
         requires taken { openings.now.taken ≤ 4_294_967_295 }
         requires event { is_tick event.now ≡ false }
         requires wish { is_wish (wish_of self.now.head.terms event.now) ≡ false }
-        ensures { (plant : PlantState) →
+        ensures turns { (plant : PlantState) →
             IfOk result (λ turn. TurnsInto plant self.now event.now openings.now turn) }
+        ensures woken { (due : List Due) → IfOk result (λ turn.
+            WakesDue due openings.now.kept turn.change) }
     {
         let (change, part) = openings.hear(event)?;
         let outs = or_stray(self.alloc, event, part)?;
@@ -190,12 +205,16 @@ impl Context {
     }
 
     /// A tick.
-    fn tick(&self, openings: &Openings) -> Result<Turn, Memory>
+    fn tick(&self, openings: &Openings, wheel: &Wheel) -> Result<Turn, Memory>
         requires taken { openings.now.taken ≤ 4_294_967_295 }
-        ensures { (plant : PlantState) →
+        requires timed { IsTimed openings.now.taken openings.now.kept wheel.now.armed }
+        ensures turns { (plant : PlantState) →
             IfOk result (λ turn. TurnsInto plant self.now Tick openings.now turn) }
+        ensures woken { IfOk result (λ turn.
+            WakesDue (due_now wheel.now.armed) openings.now.kept turn.change) }
     {
-        let (change, outs) = openings.tick()?;
+        let due = due(self.alloc, wheel)?;
+        let (change, outs) = openings.tick(due.as_slice())?;
         Ok(Turn {
             change,
             asked: None,
@@ -204,14 +223,25 @@ impl Context {
     }
 
     /// What comes of an event.
-    fn turn(&self, plant: &Plant, event: &Event, openings: &Openings) -> Result<Turn, Memory>
+    fn turn(
+        &self,
+        plant: &Plant,
+        event: &Event,
+        openings: &Openings,
+        wheel: &Wheel,
+    ) -> Result<Turn, Memory>
+        requires standing { IsStanding openings.now }
+        requires timed { IsTimed openings.now.taken openings.now.kept wheel.now.armed }
         requires taken { openings.now.taken ≤ 4_294_967_295 }
         requires number { self.now.number < MOST_LANES }
         requires credit { IsCredit self.now.head.terms.credit }
-        ensures { IfOk result (λ turn. TurnsInto plant.now self.now event.now openings.now turn) }
+        ensures turns { IfOk result (λ turn.
+            TurnsInto plant.now self.now event.now openings.now turn) }
+        ensures woken { IfOk result (λ turn.
+            WakesDue (due_now wheel.now.armed) openings.now.kept turn.change) }
     {
         if matches!(event, Event::Tick) {
-            self.tick(openings)
+            self.tick(openings, wheel)
         } else if opens(event) {
             self.open(plant, event, openings)
         } else {
@@ -226,13 +256,20 @@ impl Context {
         stamp: Stamp,
         event: &Event,
         openings: &Openings,
+        wheel: &Wheel,
     ) -> Result<(Change, Entry), Memory>
+        requires standing { IsStanding openings.now }
+        requires timed { IsTimed openings.now.taken openings.now.kept wheel.now.armed }
         requires taken { openings.now.taken ≤ 4_294_967_295 }
         requires number { self.now.number < MOST_LANES }
         requires credit { IsCredit self.now.head.terms.credit }
         ensures grows { IfOk result (λ r. Grows plant.now self.now.head self.now.number
             openings.now (changed r.0 openings.now) r.1) }
-        ensures fits { IfOk result (λ r. Fits r.0 openings.now) }
+        ensures fits { (keeps : List Remnant) →
+            StandsIn self.now.head self.now.number keeps openings.now →
+            IfOk result (λ r. Fits r.0 openings.now) }
+        ensures woken { IfOk result (λ r.
+            WakesDue (due_now wheel.now.armed) openings.now.kept r.0) }
         ensures stamp { IfOk result (λ r. r.1.stamp ≡ stamp) }
         ensures event { IfOk result (λ r. r.1.event ≡ event.now) }
     {
@@ -240,7 +277,7 @@ impl Context {
             change,
             asked,
             outs,
-        } = self.turn(plant, event, openings)?;
+        } = self.turn(plant, event, openings, wheel)?;
         let event = event.copied()?;
         let entry = Entry {
             stamp,
@@ -253,7 +290,7 @@ impl Context {
 }
 
 impl ConnLane {
-    ghost use Rattle.conn_lane.specs.Journals.{IsConnJournal};
+    ghost use Rattle.section_model.specs.Journals.{IsConnJournal};
     ghost use Rattle.conn_lane.specs.Lanes.{ConnLaneTakes};
 
     /// The connection lane of this number, 0 to 15, before its first event. The greatest credit of its head is 127 at most.
@@ -263,12 +300,14 @@ impl ConnLane {
         ensures { IfOk result (λ lane. lane ≡
             record { head = head.now; number = number; journal = [] }) }
     {
+        let openings = Openings::new(alloc, number, head.terms.ticks.freeze)?;
         Ok(ConnLane {
             alloc,
             head: *head,
             number,
             journal: EntryList::new(alloc),
-            openings: Openings::new(alloc)?,
+            openings,
+            wheel: Wheel::new(alloc),
         })
     }
 
@@ -283,8 +322,9 @@ impl ConnLane {
             head: self.head,
             number: self.number,
         };
-        let (change, entry) = context.entry(plant, stamp, event, &self.openings)?;
-        self.openings.write(change, &mut self.journal, entry)
+        let (change, entry) = context.entry(plant, stamp, event, &self.openings, &self.wheel)?;
+        self.openings
+            .write(change, &mut self.wheel, &mut self.journal, entry)
     }
 
     /// What the lane did, event by event.

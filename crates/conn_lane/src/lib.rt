@@ -7,6 +7,7 @@ mod kept;
 mod lane;
 mod laws;
 mod openings;
+mod waking;
 
 pub use lane::ConnLane;
 pub use laws::keeps_all;

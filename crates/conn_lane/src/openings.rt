@@ -1,47 +1,55 @@
-//! The openings of a lane that are needed yet, and the index of their local references.
-ghost use Rattle.std.specs.Prelude.{◌≡◌, ◌≤◌, ◌<◌, ◌+◌, ◌++◌, ◌∷◌, [], All, map, length, false, Some, IfOk, OnOk, OnErr, vec_len};
-ghost use Rattle.std.specs.Vec.{vec_capacity};
+//! What a lane keeps: its connections that aren't over, and its local references.
+ghost use Rattle.std.specs.Prelude.{◌≡◌, ◌≤◌, ◌<◌, ◌+◌, ◌++◌, ◌∷◌, [], ℕ, List, Some, None, map, length, replicate, slice_get, false, IfOk, IfSome, OnOk, OnErr};
 ghost use Rattle.relay_base.specs.declared.words.Event.TheVariants.{Tick};
-ghost use Rattle.relay_base.specs.declared.limits.TheConstants.{MOST_LANES};
-ghost use Rattle.section_model.specs.Lane.{Lane, is_tick};
-ghost use Rattle.conn_lane.specs.declared.change.Change.TheVariants.{Heard, Ticked};
-ghost use Rattle.conn_lane.specs.Inner.Remnants.{remnant_after, first_part, all_parts, lowest_in, needed};
-ghost use Rattle.conn_lane.specs.Inner.Seated.{IsSeated, AreOrderly, reference_in};
-ghost use Rattle.conn_lane.specs.Inner.Views.{remnants_at, keeps_of, news};
+ghost use Rattle.relay_base.specs.declared.limits.TheConstants.{MOST_LANES, SLOTS};
+ghost use Rattle.section_model.specs.Lane.{is_tick};
+ghost use Rattle.timer_wheel.specs.declared.due.Due.{Due};
+ghost use Rattle.relay_base.specs.References.{slot_of};
+ghost use Rattle.local_refs.specs.Slots.{free_references};
+ghost use Rattle.local_refs.specs.declared.state.SlotState.TheVariants.{Free};
+ghost use Rattle.conn_lane.specs.Inner.Remnants.{Remnant, remnant_after, first_part, all_parts};
+ghost use Rattle.conn_lane.specs.Inner.Seated.{reference_in};
+ghost use Rattle.conn_lane.specs.Inner.Views.{IsAlive, OpeningsState};
 ghost use Rattle.conn_lane.specs.Inner.Finding.{IsPlaceIn};
-ghost use Rattle.conn_lane.specs.Inner.Index.{IsIndexOf};
-ghost use Rattle.conn_lane.specs.Inner.Changes.{IsAmong, put_all, needed_at, changed, Fits, Makes};
+ghost use Rattle.conn_lane.specs.Inner.Stands.{Stands, IsStanding};
+ghost use Rattle.conn_lane.specs.Inner.Ticking.{AreTicked, WokenAt};
+ghost use Rattle.conn_lane.specs.Inner.Waking.{alarms_after, WakesAll, AllWoken, WakesDue, Sleepers};
+ghost use Rattle.conn_lane.specs.Inner.Changes.{giving_up, taking, put, put_all, ticked, changed, listed, CanGiveUp, CanBePut, CanAllBePut, Fits, Makes, Opens};
+ghost use Rattle.conn_lane.specs.Inner.Lowest.{lowest_of};
 
-use crate::change::{Change, Next};
-use crate::index::{Index, RefList};
-use crate::kept::KeptOpening;
+use crate::change::{Change, NewConnection, Next};
+use crate::index::Index;
+use crate::kept::{Heard, Kept};
+use crate::waking::follow;
+use local_refs::Slots;
 use plant_core::{Entry, EntryList};
-use relay_base::{Event, Memory, Outs, Ref24};
+use relay_base::{Event, Memory, Outs, PlainList, Ref24};
 use section_coupling::{Duo, named};
 use section_model::arrival_in;
 use std::alloc::Global;
 use std::marker::Model;
+use timer_wheel::{Due, Wheel};
 
-/// The openings of a lane that are needed yet, in the order in which they were opened, how many ticks the lane has taken, and for each slot the
-/// opening that takes it.
+/// Local references, in order.
+pub type RefList = PlainList<Ref24>;
+
+/// How many ticks a lane has taken; its connections by their numbers in the journal, each until it is over; its slots; and for each slot the
+/// connection an end of which has it.
 #[derive(Drop)]
 pub struct Openings {
     alloc: Global,
     taken: u64,
-    kept: Vec<KeptOpening>,
+    kept: Vec<Option<Kept>>,
+    slots: Slots,
     index: Index,
 }
 
 impl Model for Openings {
-    ghost use Rattle.conn_lane.specs.Inner.Views.{remnants_at, OpeningsState};
-    ghost use Rattle.conn_lane.specs.Inner.Seated.{AreOrderly};
-    ghost use Rattle.conn_lane.specs.Inner.Index.{IsIndexOf};
+    ghost use Rattle.conn_lane.specs.Inner.Views.{OpeningsState};
 
     ghost Value = { OpeningsState };
 
-    ghost view = { λ o. record { taken = o.taken; kept = o.kept.items } };
-
-    ghost invariant = { λ o. AreOrderly (remnants_at o.taken o.kept.items) × IsIndexOf (remnants_at o.taken o.kept.items) o.index };
+    ghost view = { λ o. record { taken = o.taken; kept = o.kept.items; slots = o.slots; owners = o.index } };
 }
 
 /// The local reference that a message or a request names.
@@ -58,67 +66,69 @@ fn reference_in(event: &Event) -> Option<Ref24>
     }
 }
 
-/// The openings that a tick changes, and the outputs, one after another; `now` is how many ticks the lane took before.
-fn ticked(alloc: Global, now: u32, kept: &[KeptOpening]) -> Result<(Vec<Next>, Outs), Memory>
-    requires seated { All IsSeated (remnants_at now kept.now) }
-    ensures among { IfOk result (λ r. All (IsAmong kept.now) r.0.items) }
-    ensures keeps { IfOk result (λ r. remnants_at (now + 1) (put_all r.0.items kept.now) ≡
-        map (remnant_after Tick) (remnants_at now kept.now)) }
-    ensures all { IfOk result (λ r. r.1 ≡ all_parts Tick (remnants_at now kept.now)) }
+/// What a tick makes of a connection, unless it is over.
+fn tick(alloc: Global, now: u32, one: &Option<Kept>) -> Result<Option<Heard>, Memory>
+    ensures { IfOk result (λ heard. WokenAt now one.now heard) }
+{
+    match one {
+        Some(one) => {
+            let heard = one.tick(alloc, now)?;
+            Ok(Some(heard))
+        }
+        None => Ok(None),
+    }
+}
+
+/// The connections that a tick wakes, and the outputs, one after another; `now` is how many ticks the lane took before.
+fn ticked(
+    alloc: Global,
+    now: u32,
+    kept: &[Option<Kept>],
+    due: &[Due],
+) -> Result<(Vec<Next>, Outs), Memory>
+    requires wakes { WakesAll now kept.now 0 due.now }
+    ensures ticked { (keeps : List Remnant) (o : OpeningsState) → Stands keeps o → o.taken ≡ now →
+        o.kept ≡ kept.now → IfOk result (λ r. AreTicked keeps o r.0.items r.1) }
+    ensures woken { IfOk result (λ r. AllWoken due.now kept.now r.0.items) }
 {
     let mut nexts = Vec::new(alloc);
     let mut outs = Outs::new(alloc);
-    for (place, one) in kept.iter().enumerate() {
-        if let Some(heard) = one.tick(alloc, now)? {
+    for timer in due {
+        let number = timer.conn as usize;
+        if let Some(heard) = tick(alloc, now, &kept[number])? {
             outs.append(heard.outs)?;
             nexts.push(Next {
-                place,
-                one: heard.next,
+                number,
+                one: heard.one,
+                this: heard.this,
+                that: heard.that,
             })?;
         }
     }
     Ok((nexts, outs))
 }
 
-/// Puts openings in their places.
-fn put_all(kept: &mut Vec<KeptOpening>, nexts: Vec<Next>)
-    requires { All (IsAmong kept.old.items) nexts.items }
-    ensures { kept.new.items ≡ put_all nexts.items kept.old.items }
-{
-    for next in nexts {
-        kept[next.place] = next.one;
-    }
-}
-
-/// Drops the openings that aren't needed after so many ticks: one whose connection is over and whose references are free again does nothing more.
-fn drop_needless(kept: &mut Vec<KeptOpening>, now: u64)
-    ensures { kept.new.items ≡ needed_at now kept.old.items }
-{
-    kept.retain(|one| one.is_needed(now));
-}
-
-/// Puts a new opening behind the others, after so many ticks, and notes it.
-fn add(kept: &mut Vec<KeptOpening>, index: &mut Index, now: u64, one: KeptOpening)
-    requires room { vec_len kept.old < vec_capacity kept.old }
-    ensures kept { kept.new.items ≡ kept.old.items ++ one ∷ [] }
-    ensures index { IsIndexOf (remnants_at now kept.old.items) index.old →
-        IsIndexOf (remnants_at now kept.new.items) index.new }
-{
-    index.take(now, kept.len(), &one);
-    index.advance();
-    kept.push_reserved(one);
-}
-
 impl Openings {
-    /// No openings, and no tick.
-    pub fn new(alloc: Global) -> Result<Openings, Memory>
-        ensures { IfOk result (λ o. o ≡ record { taken = 0; kept = [] }) }
+    /// Before the first event of the lane of this number, whose references freeze for so many ticks.
+    pub fn new(alloc: Global, number: u8, freeze: u32) -> Result<Openings, Memory>
+        requires number { number < MOST_LANES }
+        ensures { let states = replicate SLOTS Free in
+            IfOk result (λ o. o ≡
+            record {
+              taken = 0;
+              kept = [];
+              slots = record { lane = number; freeze = freeze; states = states };
+              owners = replicate (SLOTS + 1) None;
+            }) }
     {
+        let slots = Slots::new(alloc, number, freeze)?;
+        let index = Index::new(alloc)?;
         Ok(Openings {
             alloc,
             taken: 0,
             kept: Vec::new(alloc),
-            index: Index::new(alloc)?,
+            slots,
+            index,
         })
     }
 
@@ -129,120 +139,187 @@ impl Openings {
         self.taken
     }
 
-    /// The place of the opening that takes the slot of the reference that an event names.
-    fn place_of(&self, event: &Event) -> Option<usize>
-        ensures { IsPlaceIn event.now (keeps_of self.now) result }
+    /// The number of the connection an end of which has the reference that an event names.
+    fn number_of(&self, event: &Event) -> Option<usize>
+        requires standing { IsStanding self.now }
+        ensures place { (keeps : List Remnant) → Stands keeps self.now →
+            IsPlaceIn event.now keeps result }
+        ensures within { IfSome result (λ number. number < length self.now.kept) }
     {
-        let index = &self.index;
         let mine = reference_in(event)?;
-        index.place(mine)
+        self.index.owner(mine)
     }
 
     /// What an event changes, which is no tick, and the outputs of the connection that hears it, if one does.
     pub fn hear(&self, event: &Event) -> Result<(Change, Option<Outs>), Memory>
+        requires standing { IsStanding self.now }
         requires event { is_tick event.now ≡ false }
         requires taken { self.now.taken ≤ 4_294_967_295 }
-        ensures part { IfOk result (λ r. r.1 ≡ first_part event.now (keeps_of self.now)) }
-        ensures makes { let keeps = map (remnant_after event.now) (keeps_of self.now) in
-            IfOk result (λ r. Makes r.0 self.now self.now.taken keeps) }
+        ensures part { (keeps : List Remnant) → Stands keeps self.now →
+            IfOk result (λ r. r.1 ≡ first_part event.now keeps) }
+        ensures makes { (keeps : List Remnant) → Stands keeps self.now →
+            let later = map (remnant_after event.now) keeps in
+            IfOk result (λ r. Makes r.0 self.now self.now.taken later) }
+        ensures woken { (due : List Due) →
+            IfOk result (λ r. WakesDue due self.now.kept r.0) }
     {
-        let taken = self.taken as u32;
-        let Some(place) = self.place_of(event) else {
+        let Some(number) = self.number_of(event) else {
             return Ok((Change::Nothing, None));
         };
-        match self.kept[place].hear(self.alloc, taken, event)? {
+        let Some(one) = &self.kept[number] else {
+            return Ok((Change::Nothing, None));
+        };
+        match one.hear(self.alloc, self.taken as u32, event)? {
             Some(heard) => {
-                let one = heard.next;
-                Ok((Change::Heard(Next { place, one }), Some(heard.outs)))
+                let next = Next {
+                    number,
+                    one: heard.one,
+                    this: heard.this,
+                    that: heard.that,
+                };
+                Ok((Change::Heard(next), Some(heard.outs)))
             }
             None => Ok((Change::Nothing, None)),
         }
     }
 
-    /// What a tick changes, and the outputs of all connections, one after another.
-    pub fn tick(&self) -> Result<(Change, Outs), Memory>
+    /// What a tick changes, by which these connections wake, and the outputs of all, one after another.
+    pub fn tick(&self, due: &[Due]) -> Result<(Change, Outs), Memory>
         requires taken { self.now.taken ≤ 4_294_967_295 }
-        ensures outs { IfOk result (λ r. r.1 ≡ all_parts Tick (keeps_of self.now)) }
-        ensures makes { let keeps = needed (map (remnant_after Tick) (keeps_of self.now)) in
-            IfOk result (λ r. Makes r.0 self.now (self.now.taken + 1) keeps) }
+        requires wakes { WakesAll self.now.taken self.now.kept 0 due.now }
+        ensures outs { (keeps : List Remnant) → Stands keeps self.now →
+            IfOk result (λ r. r.1 ≡ all_parts Tick keeps) }
+        ensures makes { (keeps : List Remnant) → Stands keeps self.now →
+            let later = map (remnant_after Tick) keeps in
+            IfOk result (λ r. Makes r.0 self.now (self.now.taken + 1) later) }
+        ensures woken { IfOk result (λ r. WakesDue due.now self.now.kept r.0) }
     {
-        let (nexts, outs) = ticked(self.alloc, self.taken as u32, &self.kept)?;
+        let (nexts, outs) = ticked(self.alloc, self.taken as u32, &self.kept, due)?;
         Ok((Change::Ticked(nexts), outs))
     }
 
-    /// What a new connection changes, if there is one, whose references nobody takes.
+    /// What a new connection changes, if there is one.
     pub fn open(&self, duo: Option<Duo>) -> Result<Change, Memory>
-        requires taken { self.now.taken ≤ 4_294_967_295 }
-        requires orderly { AreOrderly (keeps_of self.now) →
-            AreOrderly (keeps_of self.now ++ news self.now.taken duo) }
-        ensures orderly { AreOrderly (keeps_of self.now) }
-        ensures makes { let keeps = keeps_of self.now ++ news self.now.taken duo in
-            IfOk result (λ change. Makes change self.now self.now.taken keeps) }
+        requires alive { IfSome duo IsAlive }
+        ensures opens { IfOk result (λ change. Opens duo change) }
+        ensures woken { (due : List Due) →
+            IfOk result (λ change. WakesDue due self.now.kept change) }
     {
-        let taken = self.taken as u32;
         let Some(duo) = duo else {
             return Ok(Change::Nothing);
         };
-        let one = KeptOpening::opened(self.alloc, taken, duo)?;
-        Ok(Change::Opened(one))
+        let this = duo.reference(0);
+        let that = duo.reference(1);
+        let one = Kept::new(self.alloc, duo)?;
+        Ok(Change::Opened(NewConnection { one, this, that }))
     }
 
-    /// The local references of so many lowest free slots, in the lane of this number, or none where there are too few.
-    pub fn lowest_free(&self, number: u8, count: u8) -> Result<RefList, Memory>
-        requires { number < MOST_LANES }
-        ensures { (lane : Lane) → lane.number ≡ number →
-            IfOk result (λ refs. refs ≡ lowest_in lane (keeps_of self.now) count) }
+    /// The local references of so many lowest free slots, or none where there are too few.
+    pub fn lowest_free(&self, count: u8) -> Result<RefList, Memory>
+        ensures { IfOk result (λ refs. refs ≡ lowest_of self.now.slots count) }
     {
-        self.index.lowest_free(self.alloc, number, count)
-    }
-
-    /// One opening as it is next.
-    fn replace(&mut self, next: Next)
-        requires { Fits (Heard next) self.old }
-        ensures { self.new ≡ changed (Heard next) self.old }
-    {
-        let Next { place, one } = next;
-        let is_freed = one.has_freed(self.taken);
-        self.kept[place] = one;
-        if is_freed {
-            self.index.refill(self.taken, &self.kept);
+        let mut lowest = RefList::new(self.alloc);
+        for at in 0..count {
+            match self.slots.peek(at) {
+                Some(mine) => lowest.push(mine)?,
+                None => return Ok(RefList::new(self.alloc)),
+            }
         }
+        Ok(lowest)
     }
 
-    /// A tick more, with the openings that it changes.
-    fn advance(&mut self, nexts: Vec<Next>)
-        requires taken { self.old.taken ≤ 4_294_967_295 }
-        requires fits { Fits (Ticked nexts) self.old }
-        ensures { self.new ≡ changed (Ticked nexts) self.old }
-    {
-        put_all(&mut self.kept, nexts);
-        self.taken += 1;
-        drop_needless(&mut self.kept, self.taken);
-        self.index.refill(self.taken, &self.kept);
-    }
-
-    /// Puts an entry at the end of the journal, and makes what comes of its event. After `Memory` both are as before.
+    /// Puts an entry at the end of the journal, and makes what comes of its event. After `Memory` the journal, the openings and the timers that
+    /// run are as before.
     pub fn write(
         &mut self,
         change: Change,
+        wheel: &mut Wheel,
         journal: &mut EntryList,
         entry: Entry,
     ) -> Result<(), Memory>
         requires taken { self.old.taken ≤ 4_294_967_295 }
+        requires count { length self.old.kept ≤ 4_294_967_295 }
         requires fits { Fits change self.old }
         ensures journal { OnOk result (journal.new ≡ journal.old ++ entry ∷ []) }
         ensures openings { OnOk result (self.new ≡ changed change self.old) }
-        ensures err { OnErr result ((journal.new ≡ journal.old) × (self.new ≡ self.old)) }
+        ensures wheel { let number = length self.old.kept in
+            let later = alarms_after change number self.old.taken wheel.old.armed in
+            OnOk result (wheel.new.armed ≡ later) }
+        ensures sleepers { OnOk result (Sleepers change) }
+        ensures err { OnErr result ((journal.new ≡ journal.old) × (self.new ≡ self.old)
+            × (wheel.new.armed ≡ wheel.old.armed)) }
     {
-        // Room for an opening is taken here, so that the journal grows last of what may lack memory.
+        // Room for a connection and for timers is taken here, so that the journal grows last of what may lack memory.
+        wheel.reserve_more(change.count())?;
         self.kept.reserve(1)?;
         journal.push(entry)?;
+        follow(wheel, &change, self.kept.len(), self.taken);
         match change {
             Change::Nothing => {}
-            Change::Heard(next) => self.replace(next),
-            Change::Opened(one) => add(&mut self.kept, &mut self.index, self.taken, one),
+            Change::Heard(next) => self.put(next),
+            Change::Opened(NewConnection { one, this, that }) => {
+                let number = self.kept.len();
+                self.kept.push_reserved(Some(one));
+                self.take(this, number);
+                self.take(that, number);
+            }
             Change::Ticked(nexts) => self.advance(nexts),
         }
         Ok(())
+    }
+
+    /// An end gives its reference up, if it is one.
+    fn give_up(&mut self, mine: Option<Ref24>)
+        requires { CanGiveUp mine self.old.slots }
+        ensures { self.new ≡ giving_up mine self.old }
+    {
+        if let Some(mine) = mine {
+            self.slots.freeze(mine);
+        }
+        self.index.note(mine, None);
+    }
+
+    /// A connection as it is next.
+    fn put(&mut self, next: Next)
+        requires { CanBePut next self.old }
+        ensures { self.new ≡ put next self.old }
+    {
+        let Next {
+            number,
+            one,
+            this,
+            that,
+        } = next;
+        self.kept[number] = one;
+        self.give_up(this);
+        self.give_up(that);
+    }
+
+    /// A tick more, with the connections that it wakes.
+    fn advance(&mut self, nexts: Vec<Next>)
+        requires taken { self.old.taken ≤ 4_294_967_295 }
+        requires fits { CanAllBePut nexts.items (ticked self.old) }
+        ensures { self.new ≡ put_all nexts.items (ticked self.old) }
+    {
+        self.taken += 1;
+        self.slots.tick();
+        for next in nexts {
+            self.put(next);
+        }
+    }
+
+    /// An end of the connection of this number takes the lowest free reference, if it takes one.
+    fn take(&mut self, mine: Option<Ref24>, number: usize)
+        requires free { IfSome mine (λ m. slice_get (free_references self.old.slots) 0 ≡ Some m) }
+        requires within { IfSome mine (λ m. slot_of m < SLOTS + 1) }
+        ensures value { self.new ≡ taking mine number self.old }
+        ensures rest { (rest : List ℕ) →
+            free_references self.old.slots ≡ listed mine ++ rest →
+            free_references self.new.slots ≡ rest }
+    {
+        if mine.is_some() {
+            self.slots.take_lowest().unwrap();
+        }
+        self.index.note(mine, Some(number));
     }
 }

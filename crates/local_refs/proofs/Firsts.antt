@@ -1,6 +1,7 @@
 -- A place before which no slot is free.
-use Rattle.std.proofs.Common.{◌≡◌, ℕ, zero, suc, ◌+◌, false, List, [], ◌∷◌, drop, get_or, refl, ap, ◌∙◌, arith, cond}
+use Rattle.std.proofs.Common.{◌≡◌, ℕ, zero, suc, ◌+◌, ◌≤◌, false, List, [], ◌∷◌, drop, get_or, refl, ap, ◌∙◌, arith, cond}
 use Rattle.std.specs.Prelude.{slice_set}
+use Rattle.std.proofs.lemmas.List.{get_or-set_other}
 use Rattle.local_refs.specs.declared.state.SlotState.{SlotState}
 use Rattle.local_refs.specs.declared.state.SlotState.TheVariants.{Held}
 use Rattle.local_refs.specs.Slots.{is_free, free_from}
@@ -40,3 +41,8 @@ taken_passed (state ∷ more) slot (suc first) before =
     ap (λ b. cond b (slot ∷ free_from (slot + 1) more) (free_from (slot + 1) more)) (before zero (omega arith))
     ∙ taken_passed more (slot + 1) first (λ at under. before (suc at) (omega (arith, under)))
     ∙ ap (λ n. free_from n (drop first more)) next
+
+-- a slot before which there may be none that is free
+pub taken_freed : (states : List SlotState) (first i bound : ℕ) (state : SlotState) → bound ≤ first → bound ≤ i → AreTaken first states → AreTaken bound (slice_set states i state)
+taken_freed states first i bound state below past before place less =
+    ap is_free (get_or-set_other states i place state Held (λ e. omega (arith, past, less, e))) ∙ before place (omega (arith, below, less))

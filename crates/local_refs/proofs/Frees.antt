@@ -1,7 +1,8 @@
 -- The free slots, as a walk over all finds them.
-use Rattle.std.proofs.Common.{◌≡◌, ℕ, zero, suc, ◌+◌, ◌-◌, ◌<◌, ◌≤◌, ◌≢◌, true, false, cond, List, [], ◌∷◌, length, drop, get_or, refl, sym, ap, ◌∙◌, arith}
-use Rattle.std.specs.Prelude.{slice_get}
+use Rattle.std.proofs.Common.{◌≡◌, ℕ, zero, suc, ◌+◌, ◌-◌, ◌<◌, ◌≤◌, ◌≢◌, Bool, true, false, cond, Some, List, [], ◌∷◌, length, drop, get_or, refl, sym, ap, ◌∙◌, arith}
+use Rattle.std.specs.Prelude.{slice_get, slice_set}
 use Rattle.std.proofs.lemmas.List.{drop_more}
+use Rattle.std.proofs.lemmas.Option.{same_Some}
 use Rattle.local_refs.specs.declared.state.SlotState.{SlotState}
 use Rattle.local_refs.specs.declared.state.SlotState.TheVariants.{Free, Held, Frozen}
 use Rattle.local_refs.specs.Slots.{is_free, free_from}
@@ -49,6 +50,36 @@ free_none [] slot (suc i) past = refl
 free_none (state ∷ more) slot zero past = absurd (omega (arith, past))
 free_none (state ∷ more) slot (suc i) past = free_none more slot i (omega (arith, past))
 
+-- the free slots of these are none before the first of them
+free_after : (states : List SlotState) (slot lowest : ℕ) → slice_get (free_from slot states) 0 ≡ Some lowest → slot ≤ lowest
+unfolding free_from
+free_after [] slot lowest is = absurd (cc)
+free_after (state ∷ more) slot lowest is = by_test (is_free state) is (free_after more (slot + 1) lowest)
+  where
+    by_test : (b : Bool) → slice_get (cond b (slot ∷ free_from (slot + 1) more) (free_from (slot + 1) more)) 0 ≡ Some lowest
+        → (slice_get (free_from (slot + 1) more) 0 ≡ Some lowest → slot + 1 ≤ lowest) → slot ≤ lowest
+    by_test true found later = omega (arith, same_Some slot lowest found)
+    by_test false found later = omega (arith, later found)
+
 pub later_one : (slot : ℕ) (more : List ℕ) (n : ℕ) → n ≢ 0 → slice_get (slot ∷ more) n ≡ slice_get more (n - 1)
 later_one slot more zero some = absurd (some refl)
 later_one slot more (suc n) some = let before : n ≡ suc n - 1 = omega arith in ap (slice_get more) before
+
+-- once the lowest free slot is held, the others are left
+pub free_took : (states : List SlotState) (slot lowest : ℕ) → slice_get (free_from slot states) 0 ≡ Some lowest
+    → free_from slot states ≡ lowest ∷ free_from slot (slice_set states (lowest - slot) Held)
+unfolding free_from
+free_took [] slot lowest is = absurd (cc)
+free_took (state ∷ more) slot lowest is = by_test (is_free state) refl is (free_took more (slot + 1) lowest)
+  where
+    by_test : (b : Bool) → is_free state ≡ b → slice_get (cond b (slot ∷ free_from (slot + 1) more) (free_from (slot + 1) more)) 0 ≡ Some lowest
+        → (slice_get (free_from (slot + 1) more) 0 ≡ Some lowest → free_from (slot + 1) more ≡ lowest ∷ free_from (slot + 1) (slice_set more (lowest - (slot + 1)) Held))
+        → cond b (slot ∷ free_from (slot + 1) more) (free_from (slot + 1) more) ≡ lowest ∷ free_from slot (slice_set (state ∷ more) (lowest - slot) Held)
+    by_test true free found later =
+        let same : slot ≡ lowest = same_Some slot lowest found in
+        let none : lowest - slot ≡ 0 = omega (arith, same) in
+        rw (none, same) refl
+    by_test false taken found later =
+        let past : slot + 1 ≤ lowest = free_after more (slot + 1) lowest found in
+        let next : lowest - slot ≡ suc (lowest - (slot + 1)) = omega (arith, past) in
+        later found ∙ rw (next, taken) refl

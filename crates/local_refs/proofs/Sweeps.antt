@@ -29,6 +29,12 @@ soonest_held [] i = omega arith
 soonest_held (state ∷ more) zero = let rest : soonest_in more ≤ 4294967295 = soonest_bound more in omega (arith, rest)
 soonest_held (state ∷ more) (suc i) = let rest : soonest_in more ≤ soonest_in (slice_set more i Held) = soonest_held more i in omega (arith, rest)
 
+pub soonest_freed : (states : List SlotState) (i : ℕ) → soonest_in states ≤ soonest_in (slice_set states i Free)
+unfolding soonest_in
+soonest_freed [] i = omega arith
+soonest_freed (state ∷ more) zero = omega (arith, soonest_bound more)
+soonest_freed (state ∷ more) (suc i) = omega (arith, soonest_freed more i)
+
 -- a slot that freezes makes it no sooner than it is due itself
 pub soonest_frozen : (states : List SlotState) (i until : ℕ) → min (soonest_in states) until ≤ soonest_in (slice_set states i (Frozen until))
 unfolding soonest_in
@@ -101,12 +107,18 @@ frozen_for_some zero some = absurd (omega (arith, some))
 frozen_for_some (suc left) some = refl
 
 -- a slot that froze now has all its ticks left
-pub frozen_now : (states : List SlotState) (i passed freeze : ℕ) → 1 ≤ freeze
-    → swept_all passed (slice_set states i (Frozen (passed + freeze))) ≡ slice_set (swept_all passed states) i (Frozen freeze)
-frozen_now states i passed freeze some =
+pub frozen_now : (states : List SlotState) (i passed freeze : ℕ)
+    → swept_all passed (slice_set states i (Frozen (passed + freeze))) ≡ slice_set (swept_all passed states) i (frozen_for freeze)
+frozen_now states i passed freeze =
     let left : (passed + freeze) - passed ≡ freeze = omega arith in
     map-set (swept passed) states i (Frozen (passed + freeze))
-    ∙ ap (λ x. slice_set (swept_all passed states) i x) (ap frozen_for left ∙ frozen_for_some freeze some)
+    ∙ ap (λ x. slice_set (swept_all passed states) i x) (ap frozen_for left)
+
+-- a slot that is given up by a lane that freezes for no ticks is free
+pub free_now : (states : List SlotState) (i passed freeze : ℕ) → freeze ≡ 0
+    → swept_all passed (slice_set states i Free) ≡ slice_set (swept_all passed states) i (frozen_for freeze)
+unfolding frozen_for
+free_now states i passed freeze none = map-set (swept passed) states i Free ∙ ap (λ n. slice_set (swept_all passed states) i (frozen_for n)) (sym none)
 
 -- a sweep comes to the next slot
 swept_step : (states : List SlotState) (ticks i : ℕ) (other : SlotState) → i < length states

@@ -1,8 +1,8 @@
 //! The slots of a lane.
-ghost use Rattle.std.specs.Prelude.{◌≡◌, ◌<◌, ◌≤◌, [], replicate, length, Some, slice_get, IfOk, IfSome, OnErr};
+ghost use Rattle.std.specs.Prelude.{◌≡◌, ◌<◌, ◌≤◌, ◌-◌, [], ◌∷◌, replicate, length, Some, slice_get, IfOk, IfSome, OnErr};
 ghost use Rattle.relay_base.specs.References.{slot_of, reference_of_slot};
-ghost use Rattle.local_refs.specs.Slots.{free_from, free_references, IsHeld, with_state, after_tick};
-ghost use Rattle.local_refs.specs.declared.state.SlotState.TheVariants.{Free, Held, Frozen};
+ghost use Rattle.local_refs.specs.Slots.{free_from, free_references, IsHeld, with_state, frozen_for, after_tick};
+ghost use Rattle.local_refs.specs.declared.state.SlotState.TheVariants.{Free, Held};
 
 use crate::state::{LONGEST, SlotState, first_free, free_slot, soonest_in, sweep};
 use relay_base::limits::{MOST_LANES, SLOTS};
@@ -40,16 +40,15 @@ impl Model for Slots {
 
     ghost view = { λ s. record { lane = s.lane; freeze = s.freeze; states = swept_all s.passed s.states.items } };
 
-    ghost invariant = { λ s. (length s.states.items ≡ SLOTS) × (s.lane < MOST_LANES) × (1 ≤ s.freeze)
+    ghost invariant = { λ s. (length s.states.items ≡ SLOTS) × (s.lane < MOST_LANES)
         × (s.passed < s.soonest) × (s.soonest ≤ LONGEST) × (s.soonest ≤ soonest_in s.states.items)
         × AreTaken s.first s.states.items };
 }
 
 impl Slots {
-    /// All slots are free. The lane is 0 to 15, and a slot that is given up stays frozen for `freeze` ticks, at least 1.
+    /// All slots are free. The lane is 0 to 15, and a slot that is given up stays frozen for `freeze` ticks.
     pub fn new(alloc: Global, lane: u8, freeze: u32) -> Result<Slots, Memory>
         requires lane { lane < MOST_LANES }
-        requires freeze { 1 ≤ freeze }
         ensures { let states = replicate SLOTS Free in
             IfOk result (λ slots. slots ≡ record { lane = lane; freeze = freeze; states = states }) }
     {
@@ -104,7 +103,8 @@ impl Slots {
 
     /// Takes the lowest free slot, which is then held; `Full` exactly where none is free.
     pub fn take_lowest(&mut self) -> Result<Ref24, Full>
-        ensures lowest { IfOk result (λ mine. slice_get (free_references self.old) 0 ≡ Some mine) }
+        ensures lowest { IfOk result (λ mine.
+            free_references self.old ≡ mine ∷ free_references self.new) }
         ensures held { IfOk result (λ mine. IsHeld self.new mine) }
         ensures rest { IfOk result (λ mine. self.new ≡ with_state self.old (slot_of mine) Held) }
         ensures full { OnErr result ((free_references self.old ≡ []) × (self.new ≡ self.old)) }
@@ -115,15 +115,30 @@ impl Slots {
         Ok(self.reference(slot))
     }
 
-    /// A side gives the slot of its reference up, and it is frozen.
+    /// The place among the states of the slot of a reference that is held.
+    fn place(&self, mine: Ref24) -> usize
+        requires { IsHeld self.now mine }
+        ensures value { result ≡ slot_of mine - 1 }
+        ensures within { result < length self.now.states }
+    {
+        (mine.number() / u32::from(MOST_LANES)) as usize - 1
+    }
+
+    /// A side gives the slot of its reference up, and it is frozen; where the lane freezes for no ticks, it is free at once.
     pub fn freeze(&mut self, mine: Ref24)
         requires held { IsHeld self.old mine }
-        ensures { self.new ≡ with_state self.old (slot_of mine) (Frozen self.old.freeze) }
+        ensures { let left = frozen_for self.old.freeze in
+            self.new ≡ with_state self.old (slot_of mine) left }
     {
-        let slot = (mine.number() / u32::from(MOST_LANES)) as usize;
-        let until = self.passed + u64::from(self.freeze);
-        self.states[slot - 1] = SlotState::Frozen(until);
-        self.soonest = self.soonest.min(until);
+        let place = self.place(mine);
+        if self.freeze == 0 {
+            self.states[place] = SlotState::Free;
+            self.first = self.first.min(place);
+        } else {
+            let until = self.passed + u64::from(self.freeze);
+            self.states[place] = SlotState::Frozen(until);
+            self.soonest = self.soonest.min(until);
+        }
     }
 
     /// A tick lowers what is left of each freezing, and at its last one the slot is free.

@@ -1,8 +1,7 @@
 //! The flow control of a section: units that wait, and a copy of them.
 use crate::same::assert_same;
 use relay_base::{Memory, Octets};
-use section_flow::Flow;
-use section_model::Unit;
+use section_flow::{Flow, Unit};
 use std::alloc::Global;
 use std::test::Fail;
 

@@ -13,7 +13,7 @@ use std::process::Abort;
 use std::test::Fail;
 
 /// How many events the lane of a test takes at most.
-const MOST_EVENTS: usize = 5;
+const MOST_EVENTS: usize = 5_000;
 
 /// Point 100, where connections have a credit of 7.
 fn lane_head() -> LaneHead
@@ -45,13 +45,8 @@ impl Scene {
         Ok(Scene { plant, lane })
     }
 
-    /// Takes an event, and compares its outputs.
-    fn assert_outcome(
-        &mut self,
-        rt: &impl Abort,
-        event: Event,
-        wanted: Outs,
-    ) -> Result<(), Memory> {
+    /// Takes an event.
+    fn take(&mut self, event: Event) -> Result<(), Memory> {
         if self.lane.journal().len() >= MOST_EVENTS {
             return Err(Memory);
         }
@@ -60,7 +55,17 @@ impl Scene {
             link: 1,
             line: 4,
         };
-        self.lane.step(&self.plant, stamp, &event)?;
+        self.lane.step(&self.plant, stamp, &event)
+    }
+
+    /// Takes an event, and compares its outputs.
+    fn assert_outcome(
+        &mut self,
+        rt: &impl Abort,
+        event: Event,
+        wanted: Outs,
+    ) -> Result<(), Memory> {
+        self.take(event)?;
         let entry = self.lane.journal().as_slice().last().ok_or(Memory)?;
         assert_outs(rt, &entry.outs, &wanted);
         Ok(())
@@ -83,6 +88,11 @@ impl Scene {
         let stray = single(alloc, Output::Lost(Lost::Stray))?;
         self.assert_outcome(rt, data, stray)
     }
+}
+
+/// CR of point 200 for subsystem 8, by a section of reference 7.
+fn request(alloc: Global) -> Result<Event, Memory> {
+    message(alloc, b"\x01\x07\x00\x00\x02\x02\x00\x02\x42\x08")
 }
 
 fn reference() -> Ref24 {
@@ -153,5 +163,18 @@ fn carries_a_connection(rt: HostRuntime) -> Result<(), Fail> {
     scene.assert_strays(&rt, alloc)?;
     let Scene { lane, .. } = scene;
     assert_eq!(rt; lane.into_journal().len(), 5);
+    Ok(())
+}
+
+/// Each of the 4,095 slots is taken, and the next connection is refused.
+#[test]
+fn refuses_where_no_slot_is_free(rt: HostRuntime) -> Result<(), Fail> {
+    let alloc = rt.alloc();
+    let mut scene = Scene::new(alloc)?;
+    for _ in 0..4_095 {
+        scene.take(request(alloc)?)?;
+    }
+    let refusal = sent(alloc, b"\x03\x07\x00\x00\x07\x00")?;
+    scene.assert_outcome(&rt, request(alloc)?, refusal)?;
     Ok(())
 }

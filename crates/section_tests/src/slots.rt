@@ -1,6 +1,6 @@
 //! The local references of a lane.
 use crate::same::assert_same;
-use local_refs::Slots;
+use local_refs::{Full, Slots};
 use relay_base::Ref24;
 use std::test::Fail;
 
@@ -32,5 +32,15 @@ fn lowest_slots_are_taken_and_freeze(rt: HostRuntime) -> Result<(), Fail> {
         &(slots.free(), number(slots.peek(0))),
         &(4_095, Some(19)),
     );
+    Ok(())
+}
+
+#[test]
+fn full_where_all_slots_are_held(rt: HostRuntime) -> Result<(), Fail> {
+    let mut slots = Slots::new(rt.alloc(), 0, 60)?;
+    for _ in 0..4_095 {
+        slots.take_lowest().ok();
+    }
+    assert_same(&rt, &slots.take_lowest().err(), &Some(Full));
     Ok(())
 }

@@ -1,6 +1,6 @@
 //! A section of class 3: its numbers past 128, and a copy of what waits.
 ghost use Rattle.std.specs.Prelude.{◌≤◌, IfOk};
-ghost use Rattle.section_model.specs.Ends.{Windows as SectionWindows};
+ghost use Rattle.section_flow.specs.Windows.{Windows as SectionWindows};
 ghost use Rattle.section_model.specs.Lengths.{HandWithin, InputWithin};
 ghost use Rattle.section_model.specs.Windowed.{HasCome};
 ghost use Rattle.section_class3.specs.Windows.{InputHasCome};

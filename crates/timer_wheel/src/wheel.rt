@@ -1,6 +1,7 @@
-//! The wheel of timers. Nodes for them are made beforehand, and `arm` takes one. Its cost and that of `cancel` are logarithmic in the timers
-//! that run, that of `due` and `advance` logarithmic for each timer that is due, and constant where none is: where each timer fires is held
-//! as a tick that is counted from one beginning, so that a tick changes no timer that stays. Once in 2^63 ticks the count begins anew.
+//! The wheel of timers: a treap, whose ranks are scattered numbers of the timers. Nodes are made beforehand, and `arm` takes one. Its cost and that
+//! of `cancel` are logarithmic in the timers that run only as chance has it: no clause speaks of the tree's depth, and timers whose ranks fall badly make
+//! it deeper. So is that of `due` and `advance` for each timer that is due; where none is, it is constant: where each timer fires is held as a tick that is
+//! counted from one beginning, so that a tick changes no timer that stays. Once in 2^63 ticks the count begins anew.
 ghost use Rattle.std.specs.Prelude.{◌≡◌, ◌<◌, ◌≤◌, ◌+◌, ◌^◌, [], length, max, vec_len, OnOk, OnErr};
 ghost use Rattle.std.specs.Vec.{vec_capacity};
 ghost use Rattle.timer_wheel.specs.Timers.{timer_of, others, with_timer, due_now, after_tick, IsRising, AreRunning};
@@ -76,6 +77,28 @@ impl Wheel {
                 self.spare.truncate(before);
                 Err(memory)
             }
+        }
+    }
+
+    /// How many timers run.
+    pub fn running(&self) -> u32
+        ensures { result ≡ length self.now.armed }
+    {
+        self.room - self.spare.len() as u32
+    }
+
+    /// Takes memory for so many timers beside those that run.
+    pub fn reserve_more(&mut self, more: usize) -> Result<(), Memory>
+        ensures ok { let timers = length self.old.armed + more in
+            OnOk result (self.new ≡ record self.old { room = max self.old.room timers }) }
+        ensures err { OnErr result (self.new ≡ self.old) }
+    {
+        let Ok(more) = u32::try_from(more) else {
+            return Err(Memory);
+        };
+        match self.running().checked_add(more) {
+            Some(timers) => self.reserve(timers),
+            None => Err(Memory),
         }
     }
 

@@ -1,54 +1,123 @@
--- What an event changes in the openings of a lane.
-use Rattle.std.specs.Prelude.{◌≡◌, ℕ, ◌+◌, ◌<◌, false, List, [], ◌∷◌, ◌++◌, length, filter, get_or, slice_set, All}
+-- What an event changes in what a lane keeps.
+use Rattle.std.specs.Prelude.{◌≡◌, ℕ, ◌+◌, ◌<◌, List, [], ◌∷◌, ◌++◌, length, slice_set, Option, Some, None, IfSome}
+use Rattle.relay_base.specs.References.{slot_of}
+use Rattle.relay_base.specs.declared.limits.TheConstants.{SLOTS}
+use Rattle.local_refs.specs.Slots.{LaneSlots, free_references, with_state, frozen_for, after_tick, IsHeld}
+use Rattle.local_refs.specs.declared.state.SlotState.TheVariants.{Held}
+use Rattle.section_model.specs.Lane.{reference_of}
+use Rattle.section_coupling.specs.Duos.{DuoState, duo_at}
 use Rattle.conn_lane.specs.declared.change.Next.{Next}
+use Rattle.conn_lane.specs.declared.change.NewConnection.{NewConnection}
 use Rattle.conn_lane.specs.declared.change.Change.{Change}
 use Rattle.conn_lane.specs.declared.change.Change.TheVariants.{Nothing, Heard, Opened, Ticked}
-use Rattle.conn_lane.specs.Inner.Remnants.{Remnant, takes_slot, has_freed, is_needed}
-use Rattle.conn_lane.specs.Inner.Seated.{AreOrderly}
-use Rattle.conn_lane.specs.Inner.Views.{KeptOpeningState, OpeningsState, remnant_at, keeps_of}
+use Rattle.conn_lane.specs.Inner.Remnants.{Remnant}
+use Rattle.conn_lane.specs.Inner.Stands.{Stands}
+use Rattle.conn_lane.specs.Inner.Views.{OpeningsState}
 
--- the openings, with some in their places as they are next
-abbrev pub put_all : List Next → List KeptOpeningState → List KeptOpeningState
-put_all [] kept = kept
-put_all (next ∷ more) kept = put_all more (slice_set kept next.place next.one)
+-- An end gives its reference up, or takes one.
 
--- those that are needed after so many ticks
-abbrev pub needed_at : ℕ → List KeptOpeningState → List KeptOpeningState
-needed_at now kept = filter (λ k. is_needed (remnant_at now k)) kept
+abbrev pub given_up : Option ℕ → LaneSlots → LaneSlots
+given_up None slots = slots
+given_up (Some mine) slots = with_state slots (slot_of mine) (frozen_for slots.freeze)
 
--- the openings once a change is made
-abbrev pub changed : Change → OpeningsState → OpeningsState
-changed Nothing o = o
-changed (Heard next) o = record { taken = o.taken; kept = slice_set o.kept next.place next.one }
-changed (Opened one) o = record { taken = o.taken; kept = o.kept ++ one ∷ [] }
-changed (Ticked nexts) o = record {
-  taken = o.taken + 1;
-  kept = needed_at (o.taken + 1) (put_all nexts.items o.kept);
+abbrev pub taken : Option ℕ → LaneSlots → LaneSlots
+taken None slots = slots
+taken (Some mine) slots = with_state slots (slot_of mine) Held
+
+abbrev pub owned : Option ℕ → Option ℕ → List (Option ℕ) → List (Option ℕ)
+owned None number owners = owners
+owned (Some mine) number owners = slice_set owners (slot_of mine) number
+
+abbrev pub giving_up : Option ℕ → OpeningsState → OpeningsState
+giving_up mine o = record { taken = o.taken; kept = o.kept; slots = given_up mine o.slots; owners = owned mine None o.owners }
+
+-- by the connection of this number
+abbrev pub taking : Option ℕ → ℕ → OpeningsState → OpeningsState
+taking mine number o = record {
+  taken = o.taken;
+  kept = o.kept;
+  slots = taken mine o.slots;
+  owners = owned mine (Some number) o.owners;
 }
 
--- a place of these openings
-abbrev pub IsAmong : List KeptOpeningState → Next → Type 0
-IsAmong kept next = next.place < length kept
+-- What is kept once a change is made.
 
--- unless it frees a reference, the opening takes the slots that it took
-abbrev pub HasSlots : OpeningsState → Next → Type 0
-HasSlots o next = has_freed (remnant_at o.taken next.one) ≡ false → (d : Remnant) (slot : ℕ)
-    → takes_slot slot (remnant_at o.taken next.one) ≡ takes_slot slot (get_or (keeps_of o) next.place d)
+abbrev pub put : Next → OpeningsState → OpeningsState
+put next o = record {
+  taken = o.taken;
+  kept = slice_set o.kept next.number next.one;
+  slots = given_up next.that (given_up next.this o.slots);
+  owners = owned next.that None (owned next.this None o.owners);
+}
 
--- what changes stands among the openings
-abbrev pub IsInPlace : Change → OpeningsState → Type 0
-IsInPlace Nothing o = Unit {0}
-IsInPlace (Heard next) o = IsAmong o.kept next × HasSlots o next
-IsInPlace (Opened one) o = Unit {0}
-IsInPlace (Ticked nexts) o = All (IsAmong o.kept) nexts.items
+abbrev pub put_all : List Next → OpeningsState → OpeningsState
+put_all [] o = o
+put_all (next ∷ more) o = put_all more (put next o)
+
+abbrev pub with_new : NewConnection → OpeningsState → OpeningsState
+with_new new o = record {
+  taken = o.taken;
+  kept = o.kept ++ Some new.one ∷ [];
+  slots = taken new.that (taken new.this o.slots);
+  owners = owned new.that (Some (length o.kept)) (owned new.this (Some (length o.kept)) o.owners);
+}
+
+-- a tick more, by which freezes are lowered
+abbrev pub ticked : OpeningsState → OpeningsState
+ticked o = record { taken = o.taken + 1; kept = o.kept; slots = after_tick o.slots; owners = o.owners }
+
+abbrev pub changed : Change → OpeningsState → OpeningsState
+changed Nothing o = o
+changed (Heard next) o = put next o
+changed (Opened new) o = with_new new o
+changed (Ticked nexts) o = put_all nexts.items (ticked o)
+
+-- What can be changed.
+
+-- a reference that is held, of a slot of the lane
+abbrev pub CanGiveUp : Option ℕ → LaneSlots → Type 0
+CanGiveUp mine slots = IfSome mine (λ m. IsHeld slots m × (slot_of m < SLOTS + 1))
+
+pub record CanBePut (next : Next) (o : OpeningsState) : Type 0 where
+  pub number : next.number < length o.kept
+  pub this : CanGiveUp next.this o.slots
+  pub that : CanGiveUp next.that (given_up next.this o.slots)
+
+abbrev pub CanAllBePut : List Next → OpeningsState → Type 0
+CanAllBePut [] o = Unit {0}
+CanAllBePut (next ∷ more) o = CanBePut next o × CanAllBePut more (put next o)
+
+abbrev pub listed : Option ℕ → List ℕ
+listed None = []
+listed (Some mine) = mine ∷ []
+
+-- the new connection takes the lowest free references
+pub record CanOpen (new : NewConnection) (o : OpeningsState) : Type 0 where
+  pub rest : List ℕ
+  pub free : free_references o.slots ≡ listed new.this ++ (listed new.that ++ rest)
+  pub this : IfSome new.this (λ m. slot_of m < SLOTS + 1)
+  pub that : IfSome new.that (λ m. slot_of m < SLOTS + 1)
 
 -- a change that can be made
-pub record Fits (change : Change) (o : OpeningsState) : Type 0 where
-  pub places : IsInPlace change o
-  pub orderly : AreOrderly (keeps_of (changed change o))
+abbrev pub Fits : Change → OpeningsState → Type 0
+Fits Nothing o = Unit {0}
+Fits (Heard next) o = CanBePut next o
+Fits (Opened new) o = CanOpen new o
+Fits (Ticked nexts) o = CanAllBePut nexts.items (ticked o)
 
 -- a change that can be made, and what is kept then
-pub record Makes (change : Change) (o : OpeningsState) (later : ℕ) (those : List Remnant) : Type 0 where
+pub record Makes (change : Change) (o : OpeningsState) (later : ℕ) (keeps : List Remnant) : Type 0 where
   pub fits : Fits change o
   pub taken : (changed change o).taken ≡ later
-  pub keeps : keeps_of (changed change o) ≡ those
+  pub lane : (changed change o).slots.lane ≡ o.slots.lane
+  pub freeze : (changed change o).slots.freeze ≡ o.slots.freeze
+  pub stands : Stands keeps (changed change o)
+
+-- the change by which a connection is opened, if it is
+abbrev pub opens_by : DuoState → Change → Type 0
+opens_by d (Opened new) = (new.one ≡ d) × (new.this ≡ reference_of (duo_at 0 d).this) × (new.that ≡ reference_of (duo_at 0 d).that)
+opens_by d _ = ⊥
+
+abbrev pub Opens : Option DuoState → Change → Type 0
+Opens None change = change ≡ Nothing
+Opens (Some d) change = opens_by d change

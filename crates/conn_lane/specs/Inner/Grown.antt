@@ -11,27 +11,37 @@ use Rattle.section_model.specs.Opening.{wish_of}
 use Rattle.section_coupling.specs.Duos.{taken_after}
 use Rattle.conn_lane.specs.declared.lane.Context.{Context}
 use Rattle.conn_lane.specs.declared.lane.Turn.{Turn}
-use Rattle.conn_lane.specs.Inner.Remnants.{needed}
-use Rattle.conn_lane.specs.Journals.{lane_of}
+use Rattle.conn_lane.specs.Inner.Remnants.{Remnant}
+use Rattle.conn_lane.specs.Inner.Stands.{Stands}
+use Rattle.section_model.specs.Journals.{lane_of}
 use Rattle.conn_lane.specs.Lanes.{conn_asked_of}
 use Rattle.conn_lane.specs.Inner.Changes.{Fits, changed}
-use Rattle.conn_lane.specs.Inner.Views.{OpeningsState, keeps_of}
+use Rattle.conn_lane.specs.Inner.Views.{OpeningsState}
 use Rattle.conn_lane.specs.Inner.Turns.{outs_in, keeps_in}
 
--- what comes of an event: the routing that it asks, the outputs, and what is kept
-pub record Comes (plant : PlantState) (head : LaneHead) (number : ℕ) (event : Event) (before after : OpeningsState) (routing : Option Asked) (outputs : List Output) : Type 0 where
+-- what comes of an event: the routing that it asks, the outputs, and what is kept then, where it stood for these openings before
+pub record Comes (plant : PlantState) (head : LaneHead) (number : ℕ) (event : Event) (keeps : List Remnant) (before after : OpeningsState) (routing : Option Asked) (outputs : List Output) : Type 0 where
   pub asked : routing ≡ conn_asked_of head plant event
-  pub outs : outputs
-      ≡ outs_in (lane_of head number) (keeps_of before) event (wish_of head.terms event) (answer_in routing)
+  pub outs : outputs ≡ outs_in (lane_of head number) keeps event (wish_of head.terms event) (answer_in routing)
   pub taken : after.taken ≡ taken_after before.taken event
-  pub keeps : needed (keeps_of after)
-      ≡ needed (keeps_in (lane_of head number) (keeps_of before) event (wish_of head.terms event) (answer_in routing))
+  pub lane : after.slots.lane ≡ before.slots.lane
+  pub freeze : after.slots.freeze ≡ before.slots.freeze
+  pub stands : Stands (keeps_in (lane_of head number) keeps event (wish_of head.terms event) (answer_in routing)) after
+
+-- the openings of a lane before, which take references of its number and freeze as its head says
+pub record StandsIn (head : LaneHead) (number : ℕ) (keeps : List Remnant) (o : OpeningsState) : Type 0 where
+  pub stands : Stands keeps o
+  pub lane : o.slots.lane ≡ number
+  pub freeze : o.slots.freeze ≡ head.terms.ticks.freeze
 
 -- one more entry, with what comes of its event
 abbrev pub Grows : PlantState → LaneHead → ℕ → OpeningsState → OpeningsState → Entry → Type 0
-Grows plant head number before after entry = Comes plant head number entry.event before after entry.asked entry.outs
+Grows plant head number before after entry =
+    (keeps : List Remnant) → StandsIn head number keeps before
+    → Comes plant head number entry.event keeps before after entry.asked entry.outs
 
 -- what comes of an event in a lane, as the code has it: a change that can be made
 pub record TurnsInto (plant : PlantState) (lane : Context) (event : Event) (before : OpeningsState) (turn : Turn) : Type 0 where
-  pub fits : Fits turn.change before
-  pub comes : Comes plant lane.head lane.number event before (changed turn.change before) turn.asked turn.outs
+  pub comes : (keeps : List Remnant) → StandsIn lane.head lane.number keeps before
+      → Fits turn.change before
+      × Comes plant lane.head lane.number event keeps before (changed turn.change before) turn.asked turn.outs

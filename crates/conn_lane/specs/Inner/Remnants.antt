@@ -8,6 +8,7 @@ use Rattle.plant_core.specs.declared.terms.Ticks.{Ticks}
 use Rattle.section_model.specs.Ends.{End, Connection}
 use Rattle.section_model.specs.Step.{connection_step, hears, end_is_gone, is_over}
 use Rattle.relay_base.specs.References.{slot_of}
+use Rattle.relay_base.specs.declared.limits.TheConstants.{SLOTS}
 use Rattle.section_model.specs.Lane.{Lane, Opening, connection_of, fed, gone_for, reference_of, enough, is_tick}
 
 -- a connection that isn't over, with the ticks of its timers
@@ -115,28 +116,16 @@ abbrev pub takes_slot : ℕ → Remnant → Bool
 takes_slot slot k = sits slot k.this || sits slot k.that
 
 abbrev pub free_in : List Remnant → List ℕ
-free_in keeps = filter (λ slot. not (list_any (takes_slot slot) keeps)) (range_with_len 1 4095)
+free_in keeps = filter (λ slot. not (list_any (takes_slot slot) keeps)) (range_with_len 1 SLOTS)
 
 -- the references of so many lowest free slots, or none where there are too few
 abbrev pub lowest_in : Lane → List Remnant → ℕ → List ℕ
 lowest_in lane keeps count = enough lane count (take count (free_in keeps))
 
--- An opening does nothing more once its connection is over and no reference of it is held or frozen.
+-- an end has the slot, and isn't gone
+abbrev pub has : ℕ → Option Seat → Bool
+has slot None = false
+has slot (Some s) = slot_of s.mine == slot && not (is_some s.left)
 
-abbrev pub holds_out : Option Seat → Bool
-holds_out None = false
-holds_out (Some s) = not (is_frozen_out s.left)
-
-abbrev pub is_needed : Remnant → Bool
-is_needed k = is_some k.live || holds_out k.this || holds_out k.that
-
-abbrev pub needed : List Remnant → List Remnant
-needed keeps = filter is_needed keeps
-
--- a reference of it is free again
-abbrev pub is_freed : Option Seat → Bool
-is_freed None = false
-is_freed (Some s) = is_frozen_out s.left
-
-abbrev pub has_freed : Remnant → Bool
-has_freed k = is_freed k.this || is_freed k.that
+abbrev pub has_slot : ℕ → Remnant → Bool
+has_slot slot k = has slot k.this || has slot k.that

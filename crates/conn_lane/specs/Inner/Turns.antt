@@ -13,10 +13,11 @@ use Rattle.section_model.specs.Laws.{openings_from}
 use Rattle.section_model.specs.Opening.{Wish, by_cr, by_user, no_wish, slots_needed, opened, Opened}
 use Rattle.section_model.specs.Lane.{Lane, stray_answer}
 use Rattle.section_coupling.specs.Sound.{IsCredit}
-use Rattle.conn_lane.specs.Inner.Remnants.{Remnant, remnant_of, remnant_after, first_part, all_parts, lowest_in, needed}
+use Rattle.conn_lane.specs.Inner.Remnants.{Remnant, remnant_of, remnant_after, first_part, all_parts, lowest_in}
 use Rattle.conn_lane.specs.Laws.{unheard}
-use Rattle.conn_lane.specs.Journals.{IsConnJournal, lane_of}
-use Rattle.conn_lane.specs.Inner.Views.{OpeningsState, keeps_of}
+use Rattle.section_model.specs.Journals.{IsConnJournal, lane_of}
+use Rattle.conn_lane.specs.Inner.Stands.{Stands}
+use Rattle.conn_lane.specs.Inner.Views.{OpeningsState}
 
 -- the opening for a wish, with the lowest free references
 abbrev pub opened_in : Lane → List Remnant → Wish → Option Answer → Opened
@@ -41,15 +42,17 @@ abbrev pub keeps_in : Lane → List Remnant → Event → Wish → Option Answer
 keeps_in lane keeps event wish answer =
     map (remnant_after event) keeps ++ new_remnant lane.terms.ticks (opened_in lane keeps wish answer).connection
 
--- what the lane keeps is, as far as it is needed, that of its journal's openings
-pub record KeepsRemnants (head : LaneHead) (number : ℕ) (journal : List Entry) (o : OpeningsState) : Type 0 where
-  pub keeps : needed (keeps_of o)
-      ≡ needed (map (remnant_of head.terms.ticks) (openings_from (lane_of head number) [] journal))
+-- what the lane keeps stands for the openings of its journal
+pub record KeepsOpenings (head : LaneHead) (number : ℕ) (journal : List Entry) (o : OpeningsState) : Type 0 where
+  pub stands : Stands (map (remnant_of head.terms.ticks) (openings_from (lane_of head number) [] journal)) o
+  pub lane : o.slots.lane ≡ number
+  pub freeze : o.slots.freeze ≡ head.terms.ticks.freeze
   pub few : o.taken ≤ length journal
+  pub many : length o.kept ≤ length journal
 
 -- the journal is legal, and the lane keeps what it has to
 pub record IsConnLane (head : LaneHead) (number : ℕ) (journal : List Entry) (openings : OpeningsState) : Type 0 where
   pub legal : IsConnJournal head number journal
-  pub keeps : KeepsRemnants head number journal openings
+  pub keeps : KeepsOpenings head number journal openings
   pub lanes : number < MOST_LANES
   pub credit : IsCredit head.terms.credit

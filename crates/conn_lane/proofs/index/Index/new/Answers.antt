@@ -2,4 +2,4 @@ use Rattle.std.proofs.Common.{◌-◌, ◌++◌, take, replicate, ap₂, ◌∙�
 use Rattle.conn_lane.proofs.index.Index.new.Goals as goal
 
 pub returns : goal.returns
-returns c = c.in_ok-resize.ensures.items ∙ ap₂ (λ xs n. take 4096 xs ++ replicate (4096 - n) None) c.new-places.ensures.items c.new-places.ensures.len
+returns c = c.in_ok-resize.ensures.items ∙ ap₂ (λ xs n. take 4096 xs ++ replicate (4096 - n) None) c.new-owners.ensures.items c.new-owners.ensures.len

@@ -1,18 +1,33 @@
 use Rattle.std.proofs.Common.{◌≡◌, ◌<◌, ◌^◌, length, sym, subst, ap, ◌∙◌, refl}
 use Rattle.conn_lane.specs.Lanes.{ConnLaneState, ConnLaneTakes, conn_asked_of}
 use Rattle.conn_lane.specs.Inner.Changes.{changed}
-use Rattle.conn_lane.proofs.LaneGrows.{lane_written, few_taken, on_ok, on_err}
+use Rattle.conn_lane.proofs.LaneGrows.{lane_stands, lane_written, few_taken, on_ok, on_err}
+use Rattle.conn_lane.proofs.Wakings.{timed_written}
 use Rattle.conn_lane.proofs.lane.ConnLane.step.Goals as goal
 
 pub write-requires-clause-taken : goal.write-requires-clause-taken
 write-requires-clause-taken c =
-    few_taken c.self.inside.openings.taken (length c.self.inside.journal) c.self.invariant.keeps.few
+    few_taken c.self.inside.openings.taken (length c.self.inside.journal) c.self.invariant.0.keeps.few
     (subst (λ (v : ConnLaneState). length v.journal < 2 ^ 32) (sym c.self.view_is) c.requires.few)
 
+pub write-requires-clause-count : goal.write-requires-clause-count
+write-requires-clause-count c =
+    few_taken (length c.self.inside.openings.kept) (length c.self.inside.journal) c.self.invariant.0.keeps.many
+    (subst (λ (v : ConnLaneState). length v.journal < 2 ^ 32) (sym c.self.view_is) c.requires.few)
+
+pub write-requires-clause-fits : goal.write-requires-clause-fits
+write-requires-clause-fits c =
+    c.in_ok-change.ensures.fits _ (lane_stands c.self.inside.head c.self.inside.number c.self.inside.journal c.self.inside.openings c.self.invariant.0)
+
 pub invariant_of-self : goal.invariant_of-self
-invariant_of-self c =
-    lane_written c.write.result c.args.plant.now c.self.inside.head c.self.inside.number c.self.inside.journal c.write.new.journal c.self.inside.openings c.write.new.self
-    (changed c.in_ok-change.change c.self.inside.openings) c.in_ok-change.entry c.self.invariant c.in_ok-change.ensures.grows c.write.ensures.journal c.write.ensures.openings c.write.ensures.err
+invariant_of-self c = (
+  lane_written (c.write.new.wheel.armed ≡ c.self.inside.wheel.armed) c.write.result c.args.plant.now c.self.inside.head c.self.inside.number c.self.inside.journal c.write.new.journal
+      c.self.inside.openings c.write.new.self (changed c.in_ok-change.change c.self.inside.openings) c.in_ok-change.entry c.self.invariant.0 c.in_ok-change.ensures.grows c.write.ensures.journal
+      c.write.ensures.openings c.write.ensures.err,
+  timed_written (c.write.new.journal ≡ c.self.inside.journal) c.write.result c.in_ok-change.change c.self.inside.openings c.write.new.self c.self.inside.wheel.armed c.write.new.wheel.armed
+      (c.in_ok-change.ensures.fits _ (lane_stands c.self.inside.head c.self.inside.number c.self.inside.journal c.self.inside.openings c.self.invariant.0)) c.in_ok-change.ensures.woken
+      c.write.ensures.sleepers c.write.ensures.openings c.write.ensures.wheel c.write.ensures.err c.self.invariant.1,
+)
 
 pub returns-clause-ok : goal.returns-clause-ok
 returns-clause-ok c =
@@ -24,7 +39,8 @@ returns-clause-ok c =
       journal = same;
       stamped = c.in_ok-change.ensures.stamp;
       of_event = c.in_ok-change.ensures.event;
-      answered = c.in_ok-change.ensures.grows.asked ∙ ap (conn_asked_of c.self.inside.head c.args.plant.now) c.in_ok-change.ensures.event;
+      answered = (c.in_ok-change.ensures.grows _ (lane_stands c.self.inside.head c.self.inside.number c.self.inside.journal c.self.inside.openings c.self.invariant.0)).asked
+          ∙ ap (conn_asked_of c.self.inside.head c.args.plant.now) c.in_ok-change.ensures.event;
       head = refl;
       number = refl;
     }))

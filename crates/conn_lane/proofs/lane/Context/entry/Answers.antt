@@ -5,7 +5,13 @@ use Rattle.conn_lane.proofs.lane.Context.entry.Goals as goal
 
 pub returns-clause-grows : goal.returns-clause-grows
 returns-clause-grows c =
-    subst (λ outs. Comes c.args.plant.now c.args.self.now.head c.args.self.now.number c.in_ok-event.event c.args.openings.now (changed c.in_ok-change.field-0.change c.args.openings.now) c.in_ok-change.field-0.asked outs)
+    λ keeps at.
+    let o = c.args.openings.now in
+    let turn = c.in_ok-change.field-0 in
+    subst (λ outs. Comes c.args.plant.now c.args.self.now.head c.args.self.now.number c.in_ok-event.event keeps o (changed turn.change o) turn.asked outs)
     (sym c.fitted.ensures)
-    (subst (λ e. Comes c.args.plant.now c.args.self.now.head c.args.self.now.number e c.args.openings.now (changed c.in_ok-change.field-0.change c.args.openings.now) c.in_ok-change.field-0.asked c.in_ok-change.field-0.outs)
-    (sym c.in_ok-event.ensures) c.in_ok-change.ensures.comes)
+    (subst (λ e. Comes c.args.plant.now c.args.self.now.head c.args.self.now.number e keeps o (changed turn.change o) turn.asked turn.outs)
+    (sym c.in_ok-event.ensures) (c.in_ok-change.ensures.turns.comes keeps at).1)
+
+pub returns-clause-fits : goal.returns-clause-fits
+returns-clause-fits c = λ keeps at. (c.in_ok-change.ensures.turns.comes keeps at).0

@@ -1,13 +1,11 @@
-use Rattle.conn_lane.specs.Inner.Changes.{changed}
 use Rattle.conn_lane.proofs.LaneGrows.{hear_comes}
 use Rattle.conn_lane.proofs.lane.Context.hear.Goals as goal
 
-pub returns : goal.returns
-returns c =
+pub returns-clause-turns : goal.returns-clause-turns
+returns-clause-turns c =
     λ plant.
-    let m = c.in_ok-change.ensures.makes in
     record {
-      fits = m.fits;
-      comes = hear_comes plant c.args.self.now.head c.args.self.now.number c.args.event.now c.args.openings.now (changed c.in_ok-change.change c.args.openings.now) c.in_ok-change.part c.in_ok-outs.outs
-          c.requires.event c.requires.wish c.in_ok-change.ensures.part c.in_ok-outs.ensures m.taken m.keeps;
+      comes = λ keeps at.
+          hear_comes plant c.args.self.now.head c.args.self.now.number c.args.event.now c.args.openings.now c.in_ok-change.part c.in_ok-outs.outs c.in_ok-change.change keeps
+          c.requires.event c.requires.wish (c.in_ok-change.ensures.part keeps at.stands) c.in_ok-outs.ensures (c.in_ok-change.ensures.makes keeps at.stands);
     }

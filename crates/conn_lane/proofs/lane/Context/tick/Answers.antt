@@ -1,13 +1,24 @@
-use Rattle.conn_lane.specs.Inner.Changes.{changed}
+use Rattle.std.proofs.Common.{sym, subst, ◌∙◌}
+use Rattle.conn_lane.specs.Inner.Waking.{WakesAll, WakesDue}
 use Rattle.conn_lane.proofs.LaneGrows.{tick_comes}
+use Rattle.conn_lane.proofs.Wakings.{wakes_all}
 use Rattle.conn_lane.proofs.lane.Context.tick.Goals as goal
 
-pub returns : goal.returns
-returns c =
+pub returns-clause-turns : goal.returns-clause-turns
+returns-clause-turns c =
     λ plant.
-    let m = c.in_ok-change.ensures.makes in
     record {
-      fits = m.fits;
-      comes = tick_comes plant c.args.self.now.head c.args.self.now.number c.args.openings.now (changed c.in_ok-change.change c.args.openings.now) c.in_ok-change.outs
-          c.in_ok-change.ensures.outs m.taken m.keeps;
+      comes = λ keeps at.
+          tick_comes plant c.args.self.now.head c.args.self.now.number c.args.openings.now c.in_ok-change.outs c.in_ok-change.change keeps
+          (c.in_ok-change.ensures.outs keeps at.stands) (c.in_ok-change.ensures.makes keeps at.stands);
     }
+
+pub tick-requires-clause-wakes : goal.tick-requires-clause-wakes
+tick-requires-clause-wakes c =
+    let o = c.args.openings.now in
+    subst (WakesAll o.taken o.kept 0) (sym (c.as_slice.ensures ∙ c.in_ok-due.ensures.value))
+    (wakes_all o.taken o.kept c.args.wheel.now.armed c.requires.timed c.in_ok-due.ensures.rising c.in_ok-due.ensures.running)
+
+pub returns-clause-woken : goal.returns-clause-woken
+returns-clause-woken c =
+    subst (λ due. WakesDue due c.args.openings.now.kept c.in_ok-change.change) (c.as_slice.ensures ∙ c.in_ok-due.ensures.value) c.in_ok-change.ensures.woken

@@ -27,5 +27,5 @@ returns c =
     let all : c.loop-state.free ≡ length (free_from 1 items) = omega (arith, over, c.loop-state.invariant.0) in
     all
     ∙ ap (λ xs. length xs)
-    (seen_free c.self.inside.states.items items c.args.self.now.states c.self.inside.passed c.self.inside.soonest (ap (λ s. s.states) c.self.view_is) c.deref-state-items.ensures.value c.self.invariant.3 c.self.invariant.5)
+    (seen_free c.self.inside.states.items items c.args.self.now.states c.self.inside.passed c.self.inside.soonest (ap (λ s. s.states) c.self.view_is) c.deref-state-items.ensures.value c.self.invariant.2 c.self.invariant.4)
     ∙ sym (length-map (free_from 1 c.args.self.now.states) (reference_of_slot c.args.self.now.lane))

@@ -14,7 +14,6 @@ invariant_of-result c =
     let never : soonest_in c.resize.new.self.items ≡ 4294967295 = ap soonest_in made ∙ soonest_free SLOTS in (
       ap (λ xs. length xs) made ∙ length-replicate SLOTS Free,
       c.requires.lane,
-      c.requires.freeze,
       omega arith,
       omega arith,
       omega (arith, never),

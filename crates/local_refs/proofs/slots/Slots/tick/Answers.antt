@@ -23,7 +23,6 @@ invariant_of-self-2 c =
     let found = c.soonest_in-self-inside.ensures ∙ ap soonest_in (c.deref.ensures.value ∙ whole) in (
       ap (λ xs. length xs) whole ∙ length-map items (swept ticks) ∙ c.self.invariant.0,
       c.self.invariant.1,
-      c.self.invariant.2,
       omega (arith, found, soonest_after items ticks),
       omega (arith, found, soonest_bound (swept_all ticks items)),
       omega (arith, c.soonest_in-self-inside.ensures, ap soonest_in c.deref.ensures.value),
