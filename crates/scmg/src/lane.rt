@@ -7,12 +7,12 @@ use crate::effect::{Act, Context, Effect};
 use crate::head::ControlHead;
 use crate::kept::Kept;
 use crate::publish::Publish;
+use mark::Mark;
 use plant_core::{Change, ControlEntry, ControlEvent, ControlList, Plant, Ticks, fitted};
 use relay_base::{Memory, Stamp};
 use std::alloc::{AllocError, Global};
 use std::marker::Model;
 use std::mem;
-use std::snapshot::Snapshot;
 
 /// The control lane: it takes edits, status, messages of management, coordinated changes and ticks. Its journal is a legal one at all times.
 #[derive(Drop)]
@@ -22,7 +22,7 @@ pub struct ControlLane {
     journal: ControlList,
     kept: Kept,
     /// The routing data that the lane began with, which clauses alone read.
-    start: Snapshot<Plant>,
+    start: Mark<Plant>,
 }
 
 impl Model for ControlLane {
@@ -166,7 +166,7 @@ impl ControlLane {
             in IfOk result (λ lane. lane ≡ record { head = head.now; start = start; journal = [] }) }
     {
         let head = copy_of(head)?;
-        let start = Snapshot::of(&plant);
+        let start = Mark::after(&plant);
         Ok(ControlLane {
             alloc,
             head,
