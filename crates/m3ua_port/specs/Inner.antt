@@ -1,0 +1,5 @@
+pub mod Parameters
+pub mod Transfers
+pub mod Reading
+pub mod Steps
+pub mod Standing

@@ -1,0 +1,4 @@
+pub mod Frames
+pub mod Ports
+pub mod Wrapping
+pub mod Inner
