@@ -5,7 +5,7 @@ use Rattle.plant_core.specs.declared.entry.ControlEntry.{ControlEntry}
 use Rattle.node_head.specs.declared.head.Head.{Head}
 use Rattle.journal_text.specs.declared.book.Book.{Book}
 use Rattle.data_lane.specs.Legal.{IsDataJournal}
-use Rattle.conn_lane.specs.Journals.{IsConnJournal, lane_of}
+use Rattle.section_model.specs.Journals.{IsConnJournal, lane_of}
 use Rattle.capture_form.specs.Events.{Stamped}
 use Rattle.node_engine.specs.Own.{pairs_of}
 use Rattle.node_engine.specs.Heads.{lane_head_of}

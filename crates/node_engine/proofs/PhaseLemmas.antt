@@ -26,7 +26,7 @@ use Rattle.node_engine.specs.Own.{control_pairs_of}
 use Rattle.node_engine.specs.Placed.{in_control, in_conn, in_data}
 use Rattle.node_engine.specs.Running.{PairsFrom, ControlExtendsIf}
 use Rattle.node_engine.specs.Seats.{SeatState, Seated, SeatKind, TakesIf, WentOn, conn_seat, conn_seated, data_seat, data_seated}
-use Rattle.node_engine.specs.Phases.{PhaseState, SeatsTake, ControlTakes, IsOpen, GoesOn, HasRoomFor, IsAtOpening, conns_seated, units_seated}
+use Rattle.node_engine.specs.Phases.{IsPlantOf, PhaseState, SeatsTake, ControlTakes, IsOpen, GoesOn, HasRoomFor, IsAtOpening, conns_seated, units_seated}
 use Rattle.node_engine.proofs.ListLemmas.{weaker, all-push, all-first, all-rest, all-mapped, any-lanes, pairs-refl, pairs-join, pairs-map, pairs-all}
 use Rattle.node_engine.proofs.RunLemmas.{taken-length, take-more, flat-more, flat-split}
 use Rattle.node_engine.proofs.SeatLemmas.{went-on-nothing, went-on-append, went-on-event, went-on-past, taken-append}
@@ -189,13 +189,12 @@ few-conns a x h =
 
 -- ---- lanes come to their places
 
-pub opening-places : {E : Type 0} (r : Result (Publishing × Vec Standing Global) E) (lane : ControlState) (plant : PlantState) → plant.routing ≡ routing_after lane.start (changes_by lane) → plant.edition ≡ length (changes_by lane)
-    → IfOk r (λ t. IsOpenedOn plant t.0) → IfOk r (λ t. All (IsNewPlace t.0) t.1.items) → IfOk r (λ t. AllByRecursion (IsAtOpening lane) t.1.items)
-opening-places (Ok t) lane plant routing number opened new =
+pub opening-places : {E : Type 0} (r : Result (Publishing × Vec Standing Global) E) (lane : ControlState) (plant : PlantState) → IsPlantOf lane plant → IfOk r (λ t. IsOpenedOn plant t.0) → IfOk r (λ t. All (IsNewPlace t.0) t.1.items) → IfOk r (λ t. AllByRecursion (IsAtOpening lane) t.1.items)
+opening-places (Ok t) lane plant of opened new =
     weaker (IsNewPlace t.0) (IsAtOpening lane) t.1.items
-    (λ p n. let same : p.opened ≡ edition_of plant = n.opened ∙ opened.opened in record { routing = ap (λ o. o.routing) same ∙ routing; number = ap (λ o. o.number) same ∙ number; seen = n.seen })
+    (λ p n. let same : p.opened ≡ edition_of plant = n.opened ∙ opened.opened in record { routing = ap (λ o. o.routing) same ∙ of.routing; number = ap (λ o. o.number) same ∙ of.edition; seen = n.seen })
     (recursion_from_All (IsNewPlace t.0) t.1.items new)
-opening-places (Err f) lane plant routing number opened new = tt
+opening-places (Err f) lane plant of opened new = tt
 
 all-reversed : {A : Type 0} (P : A → Type 0) (xs : List A) → AllByRecursion P xs → AllByRecursion P (reverse xs)
 all-reversed P [] h = tt

@@ -9,7 +9,7 @@ use Rattle.plant_core.specs.declared.entry.ControlEntry.{ControlEntry}
 use Rattle.plant_core.specs.declared.entry.ControlEvent.{ControlEvent}
 use Rattle.plant_core.specs.declared.entry.ControlEvent.TheVariants.{Plain}
 use Rattle.data_lane.specs.Legal.{LaneState, IsDataJournal}
-use Rattle.conn_lane.specs.Journals.{IsConnJournal}
+use Rattle.section_model.specs.Journals.{IsConnJournal}
 use Rattle.conn_lane.specs.Lanes.{ConnLaneState}
 use Rattle.scmg.specs.Control.{IsControlJournal}
 use Rattle.node_head.specs.declared.head.Head.{Head}

@@ -2,6 +2,7 @@
 use Rattle.std.specs.Prelude.{◌≡◌, ◌+◌, ◌++◌, ◌<◌, ℕ, true, List, length, map}
 use Rattle.std.specs.List.{AllByRecursion}
 use Rattle.relay_base.specs.declared.words.Stamp.{Stamp}
+use Rattle.plant_core.specs.Plant.{PlantState}
 use Rattle.plant_core.specs.declared.change.Change.{Change}
 use Rattle.plant_core.specs.declared.entry.ControlEntry.{ControlEntry}
 use Rattle.plant_core.specs.declared.entry.ControlEvent.{ControlEvent}
@@ -70,6 +71,11 @@ pub record GoesOn (head : Head) (events : Stamped) (old : ControlState) (from : 
 pub record HasRoomFor (events : ℕ) (lane : ControlState) (lanes : PhaseState) : Type 0 where
   pub control : length lane.journal + events < 4294967296
   pub conns : AllByRecursion (λ s. length s.journal + events < 4294967296) (conns_seated lanes)
+
+-- a plant with the routing data of the control lane, at the edition that it published last
+pub record IsPlantOf (lane : ControlState) (plant : PlantState) : Type 0 where
+  pub routing : plant.routing ≡ routing_after lane.start (changes_by lane)
+  pub edition : plant.edition ≡ length (changes_by lane)
 
 -- a publisher who begins after the changes of the control lane
 pub record IsFresh (lane : ControlState) (p : Publishing) : Type 0 where

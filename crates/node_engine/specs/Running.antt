@@ -10,7 +10,7 @@ use Rattle.plant_core.specs.declared.entry.Entry.{Entry}
 use Rattle.plant_core.specs.declared.entry.ControlEntry.{ControlEntry}
 use Rattle.plant_core.specs.declared.entry.ControlEvent.{ControlEvent}
 use Rattle.data_lane.specs.Legal.{LaneState, IsDataJournal}
-use Rattle.conn_lane.specs.Journals.{IsConnJournal}
+use Rattle.section_model.specs.Journals.{IsConnJournal}
 use Rattle.conn_lane.specs.Lanes.{ConnLaneState}
 use Rattle.node_head.specs.declared.head.Head.{Head}
 use Rattle.node_head.specs.Ranges.{IsHead}

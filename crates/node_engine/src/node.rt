@@ -173,10 +173,12 @@ impl Node {
         ensures control { self.new.control ≡ self.old.control }
         ensures conn_count { OnOk result (length self.new.conns.items ≡ head.now.conn_lanes) }
         ensures conns { OnOk result (LanesFrom (IsConnLaneOf head.now) 0 self.new.conns.items) }
-        ensures conns_empty { OnOk result (AllByRecursion (λ l. l.journal ≡ []) self.new.conns.items) }
+        ensures conns_empty { let lanes = self.new.conns.items in
+            OnOk result (AllByRecursion (λ l. l.journal ≡ []) lanes) }
         ensures data_count { OnOk result (length self.new.units.items ≡ head.now.data_lanes) }
         ensures units { OnOk result (LanesFrom (IsDataLaneOf head.now) 0 self.new.units.items) }
-        ensures units_empty { OnOk result (AllByRecursion (λ l. l.journal ≡ []) self.new.units.items) }
+        ensures units_empty { let lanes = self.new.units.items in
+            OnOk result (AllByRecursion (λ l. l.journal ≡ []) lanes) }
     {
         self.conns = conn_lanes(alloc, head)?;
         self.units = data_lanes(alloc, head)?;

@@ -54,8 +54,10 @@ fn others_take<R: Wait>(
     event: &ControlEvent,
 ) -> Result<(), Memory>
     requires { AllByRecursion (λ s. length s.lane.journal < 4294967296) conns.old }
-    ensures conns { OnOk result (SeatsTake conn_seated conn_seat place stamp event.now conns.old conns.new) }
-    ensures units { OnOk result (SeatsTake data_seated data_seat place stamp event.now units.old units.new) }
+    ensures conns { let old = conns.old in let new = conns.new in
+        OnOk result (SeatsTake conn_seated conn_seat place stamp event.now old new) }
+    ensures units { let old = units.old in let new = units.new in
+        OnOk result (SeatsTake data_seated data_seat place stamp event.now old new) }
 {
     let ControlEvent::Plain(event) = event else {
         return Ok(());

@@ -3,7 +3,7 @@ ghost use Rattle.std.specs.Prelude.{◌≡◌, ◌≤◌, ◌<◌, ◌+◌, ◌+
 ghost use Rattle.std.specs.List.{AllByRecursion};
 ghost use Rattle.gtt_editions.specs.Published.{Begins};
 ghost use Rattle.scmg.specs.Control.{IsControlJournal};
-ghost use Rattle.node_engine.specs.Phases.{IsFresh, IsAtOpening, AreSeated, IsOpening, IsClosing};
+ghost use Rattle.node_engine.specs.Phases.{IsPlantOf, IsFresh, IsAtOpening, AreSeated, IsOpening, IsClosing};
 
 use crate::node::Node;
 use crate::publisher::PhasePublisher;
@@ -11,6 +11,7 @@ use crate::seat::Seat;
 use conn_lane::ConnLane;
 use data_lane::DataLane;
 use gtt_editions::{Ended, PlaceList, Publisher, editions};
+use plant_core::Plant;
 use relay_base::Memory;
 use scmg::ControlLane;
 use std::alloc::Global;
@@ -102,6 +103,13 @@ fn all_unseated<'r, R: Wait, L: Drop>(
     Ok(lanes)
 }
 
+/// A copy of the routing data of the control lane, at the edition that it published last.
+fn plant_copy(control: &ControlLane) -> Result<Plant, Memory>
+    ensures { IfOk result (IsPlantOf control.now) }
+{
+    Ok(control.plant().copy()?)
+}
+
 /// The publisher of a phase, opened on the routing data of the control lane, and so many places.
 fn opened<'r, R: Wait>(
     rt: &'r R,
@@ -114,7 +122,7 @@ fn opened<'r, R: Wait>(
     ensures count { IfOk result (λ t. length t.1.items ≡ places) }
     ensures places { IfOk result (λ t. AllByRecursion (IsAtOpening control.now) t.1.items) }
 {
-    let plant = control.plant().copy()?;
+    let plant = plant_copy(control)?;
     editions(rt, alloc, plant, places)
 }
 
@@ -124,7 +132,8 @@ fn all_seated<'r, R: Wait>(
     node: &mut Node,
     mut places: PlaceList<'r, R>,
 ) -> Result<(ConnSeatList<'r, R>, DataSeatList<'r, R>), Memory>
-    requires enough { length node.old.conns.items + length node.old.units.items ≤ length places.items }
+    requires enough { let lanes = length node.old.conns.items + length node.old.units.items in
+        lanes ≤ length places.items }
     requires open { AllByRecursion (IsAtOpening node.old.control) places.items }
     ensures control { node.new.control ≡ node.old.control }
     ensures conns { IfOk result (λ t. AreSeated node.old.control node.old.conns.items t.0.items) }

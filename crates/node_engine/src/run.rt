@@ -1,7 +1,7 @@
 //! The run of a capture.
 ghost use Rattle.std.specs.Prelude.{◌≡◌, ◌<◌, ◌^◌, [], length, IfOk, OnOk, OnErr};
 ghost use Rattle.std.specs.List.{AllByRecursion};
-ghost use Rattle.conn_lane.specs.Journals.{IsConnJournal};
+ghost use Rattle.section_model.specs.Journals.{IsConnJournal};
 ghost use Rattle.data_lane.specs.Legal.{IsDataJournal};
 ghost use Rattle.node_head.specs.Ranges.{IsHead};
 ghost use Rattle.journal_text.specs.Book.{IsEmpty};

@@ -99,7 +99,8 @@ pub fn conn_takes<R: Wait>(
     event: &Event,
 ) -> Result<(), Memory>
     requires { length seat.old.lane.journal < 2 ^ 32 }
-    ensures { OnOk result (Takes conn_seat stamp event.now (conn_seated seat.old) (conn_seated seat.new)) }
+    ensures { let old = conn_seated seat.old in let new = conn_seated seat.new in
+        OnOk result (Takes conn_seat stamp event.now old new) }
 {
     replace_with(seat, (stamp, event), |seat, (stamp, event)| {
         conn_looks(seat, stamp, event)
@@ -112,7 +113,8 @@ pub fn unit_takes<R: Wait>(
     stamp: Stamp,
     event: &Event,
 ) -> Result<(), Memory>
-    ensures { OnOk result (Takes data_seat stamp event.now (data_seated seat.old) (data_seated seat.new)) }
+    ensures { let old = data_seated seat.old in let new = data_seated seat.new in
+        OnOk result (Takes data_seat stamp event.now old new) }
 {
     replace_with(seat, (stamp, event), |seat, (stamp, event)| {
         unit_looks(seat, stamp, event)

@@ -1,6 +1,6 @@
 use Rattle.std.proofs.Common.{◌≡◌}
 use Rattle.std.specs.List.{AllByRecursion}
-use Rattle.conn_lane.specs.Journals.{IsConnJournal}
+use Rattle.section_model.specs.Journals.{IsConnJournal}
 use Rattle.node_engine.specs.Running.{conn_journals}
 use Rattle.node_engine.proofs.run.conn_journals.Given as goal
 
