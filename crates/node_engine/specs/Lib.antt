@@ -1,2 +1,9 @@
+pub mod Own
+pub mod Placed
+pub mod Heads
+pub mod Editions
+pub mod Lanes
+pub mod Right
 pub mod Running
-pub mod Barriers
+pub mod Seats
+pub mod Phases
