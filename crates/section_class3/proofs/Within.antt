@@ -18,8 +18,8 @@ use Rattle.section_model.specs.declared.wire.WireHead.{WireHead}
 use Rattle.section_model.specs.Ends.{no_effect, is_up}
 use Rattle.section_model.specs.Lengths.{IsWithin, IsDataOf, HandWithin, HandsWithin, ActedWithin, UnitsWithin, ExpeditedWithin, WindowsWithin, ArrivalWithin, InputWithin}
 use Rattle.section_model.specs.Parameters.{Parameters, Arrival, arrival_in}
-use Rattle.section_model.specs.Windowed.{Windowed, windowed_hears, windowed_fires, windowed_takes, leaves, acknowledges, is_next, is_used_up, wrong_number, resets, accepts_unit, takes_data, takes_answer, sends_expedited, queues_unit, passes_expedited, passes_reset, counts_left}
-use Rattle.section_flow.specs.Windows.{is_valid, may_leave}
+use Rattle.section_model.specs.Windowed.{Windowed, windowed_hears, windowed_fires, windowed_takes, leaves, acknowledges, is_next, is_used_up, resets, accepts_unit, takes_data, takes_answer, sends_expedited, queues_unit, passes_expedited, passes_reset, counts_left}
+use Rattle.section_flow.specs.Windows.{is_valid, may_leave, wrong_number}
 use Rattle.section_model.proofs.ArriveWithin.{arrives_within}
 use Rattle.section_class3.specs.Windows.{WindowsState, windowed_of, IsDt2, IsEd, TakesItsData, windows_act, windows_hear_event, windows_hear_arrival}
 
@@ -47,12 +47,12 @@ units-fewer (suc n) (u ∷ units) h = units-fewer n units h.1
 -- upon a message
 data-waits : (m : Parameters) (x : Windowed) → WindowsWithin x.windows → Waits (takes_data m x)
 data-waits m x w =
-    either Waits (not (is_next m x)) (resets (wrong_number x) x) _ (tt, tt)
+    either Waits (not (is_next m x)) (resets (wrong_number x.windows) x) _ (tt, tt)
     (either Waits (is_used_up x) (resets 0x04 x) _ (tt, tt) (either Waits (not (is_valid m.pr x.windows)) (resets 0x03 x) (accepts_unit m x) (tt, tt) w))
 
 data-hands : (m : Parameters) (x : Windowed) → IsWithin 1 255 m.data_octets → Hands (takes_data m x)
 data-hands m x d =
-    either Hands (not (is_next m x)) (resets (wrong_number x) x) _ (tt, (tt, tt))
+    either Hands (not (is_next m x)) (resets (wrong_number x.windows) x) _ (tt, (tt, tt))
     (either Hands (is_used_up x) (resets 0x04 x) _ (tt, (tt, tt)) (either Hands (not (is_valid m.pr x.windows)) (resets 0x03 x) (accepts_unit m x) (tt, (tt, tt)) (tt, (d, tt))))
 
 answer-waits : (unanswered : Bool) (waiting : Option (List ℕ)) (x : Windowed) → x.windows.unanswered ≡ unanswered → x.windows.waiting ≡ waiting → WindowsWithin x.windows → Waits (takes_answer x)

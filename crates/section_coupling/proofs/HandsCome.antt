@@ -17,8 +17,8 @@ use Rattle.section_model.specs.Parameters.{Parameters}
 use Rattle.section_model.specs.Laws.{hands_of}
 use Rattle.section_model.specs.Ends.{End, wire, owner, Line, Section, User, Connection, turned, is_up}
 use Rattle.section_model.specs.Line.{agreed, agreed_credit, reached, line_hears, line_fires, line_takes}
-use Rattle.section_model.specs.Windowed.{Windowed, windowed_hears, windowed_fires, windowed_takes, resets, is_next, is_used_up, wrong_number, takes_data, sends_expedited, leaves, acknowledges}
-use Rattle.section_flow.specs.Windows.{is_valid, may_leave}
+use Rattle.section_model.specs.Windowed.{Windowed, windowed_hears, windowed_fires, windowed_takes, resets, is_next, is_used_up, takes_data, sends_expedited, leaves, acknowledges}
+use Rattle.section_flow.specs.Windows.{is_valid, may_leave, wrong_number}
 use Rattle.section_model.specs.UserEnd.{given, user_takes, user_asks, handed, units_of}
 use Rattle.section_model.specs.Acting.{timed, by_windows, by_line, line_in, is_by_class, in_windows, section_hears, section_fires, section_takes, section_takes_by, user_takes_by, end_takes}
 use Rattle.section_model.specs.Coupling.{other_takes, exchange}
@@ -136,7 +136,7 @@ resets-come cause ticks x that = (none-come (hand.Reset cause) that tt, tt, refl
 data-come : (m : Parameters) (ticks : Ticks) (x : Section) (that : End) → x.windows.passed ≤ length x.windows.got → ByWindows ticks x that (takes_data m (record { head = x.head; windows = x.windows }))
 data-come m ticks x that within =
     let w : Windowed = record { head = x.head; windows = x.windows } in
-    either (ByWindows ticks x that) (not (is_next m w)) _ _ (λ _. resets-come (wrong_number w) ticks x that)
+    either (ByWindows ticks x that) (not (is_next m w)) _ _ (λ _. resets-come (wrong_number w.windows) ticks x that)
     (λ _. either (ByWindows ticks x that) (is_used_up w) _ _ (λ _. resets-come 0x04 ticks x that)
     (λ _. either (ByWindows ticks x that) (not (is_valid m.pr x.windows)) _ _ (λ _. resets-come 0x03 ticks x that)
     (λ _. (none-come (hand.Unit m.more m.data_octets) that tt, (λ three. one-came x.windows.got _ x.windows.passed within), refl, tt))))

@@ -13,8 +13,8 @@ use Rattle.relay_base.specs.declared.words.Event.TheVariants.{Message as Arrived
 use Rattle.section_model.specs.Parameters.{Parameters, Arrival, arrival_in}
 use Rattle.relay_base.specs.declared.words.Output.{Output}
 use Rattle.section_model.specs.Ends.{no_effect, gives, gives_then}
-use Rattle.section_flow.specs.Windows.{Windows}
-use Rattle.section_model.specs.Windowed.{Windowed, resets, wrong_number, windowed_hears, windowed_fires, windowed_takes, takes_data, takes_acknowledgement, takes_expedited, takes_answer, sends_expedited, queues_unit, passes_expedited, passes_reset, counts_left, leaves, acknowledges}
+use Rattle.section_flow.specs.Windows.{Windows, wrong_number}
+use Rattle.section_model.specs.Windowed.{Windowed, resets, windowed_hears, windowed_fires, windowed_takes, takes_data, takes_acknowledgement, takes_expedited, takes_answer, sends_expedited, queues_unit, passes_expedited, passes_reset, counts_left, leaves, acknowledges}
 use Rattle.section_model.specs.declared.wire.WireHead.{WireHead}
 use Rattle.section_class3.specs.Windows.{WindowsState, windowed_of, windows_act, windows_hear_arrival, windows_hear_event, windows_turn}
 use Rattle.section_coupling.specs.Sound.{AreGranted}
@@ -42,7 +42,7 @@ resets-granted cause x = record { credit = refl; first = tt; then_ = (tt, tt) }
 
 data-granted : (m : Parameters) (x : Windowed) → GrantedWindows x.head.credit (takes_data m x)
 data-granted m x =
-    either x.head.credit _ _ _ (resets-granted (wrong_number x) x)
+    either x.head.credit _ _ _ (resets-granted (wrong_number x.windows) x)
     (either x.head.credit _ _ _ (resets-granted 0x04 x)
     (either x.head.credit _ _ _ (resets-granted 0x03 x) (with-windows x _ (gives_then [] (hand.Unit m.more m.data_octets ∷ [])) tt (tt, tt))))
 

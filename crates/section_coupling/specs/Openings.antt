@@ -1,6 +1,7 @@
 -- Which events open a connection, and what the code keeps of what they want.
 use Rattle.std.specs.Prelude.{◌≡◌, ℕ, Bool, true, false, ◌==◌, ◌||◌, ◌≤◌, IsTrue, List, length, Option, Some, None, is_some, IfSome}
 use Rattle.std.specs.Option.{option_map}
+use Rattle.relay_base.specs.declared.limits.TheConstants.{LONGEST_GIVEN_ADDRESS}
 use Rattle.plant_core.specs.declared.answer.Answer.{Answer}
 use Rattle.sccp_address.specs.Subsystems.{subsystem_address}
 use Rattle.plant_core.specs.declared.terms.Terms.{Terms}
@@ -64,7 +65,7 @@ seen_wish terms NoWish = no_wish
 -- what a user wants is in its ranges
 pub record IsGivenWithin (w : WantedView) : Type 0 where
   pub class : IsTrue (w.class == 2 || w.class == 3)
-  pub called : length w.called.now ≤ 40
+  pub called : length w.called.now ≤ LONGEST_GIVEN_ADDRESS
   pub calling : IsAddress (seen_calling w.calling)
   pub body : IsData (option_map (λ b. b.now) w.body)
 

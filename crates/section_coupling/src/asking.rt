@@ -143,7 +143,8 @@ fn user_asks(
     requires range { IsTrue (is_in_range request.now) }
     requires event { event.now ≡ Requested user.side.ssn request.now }
     ensures asks { IfOk result (λ r.
-        user_asks (asking_cell user.side.state request.now) request.now (user_at user) ≡ (user_at r.0, r.1)) }
+        user_asks (asking_cell user.side.state request.now) request.now (user_at user)
+            ≡ (user_at r.0, r.1)) }
     ensures sound { IfOk result (λ r. SoundOwner r.0 × SoundActed r.1) }
 {
     let cell = asking_cell(user.side.state, request);

@@ -1,9 +1,9 @@
 -- The flow control of a section (Q.714, 3.5.2): its counts as whole numbers, its credits, and the units that wait.
 use Rattle.std.specs.Prelude.{ℕ, suc, ◌+◌, ◌-◌, ◌%◌, ◌==◌, Bool, false, not, List, [], ◌∷◌, ◌++◌, length, if◌then◌else◌, Option, Some, None, unwrap_or}
-use Rattle.relay_base.specs.declared.causes.TheConstants.{RESET_INCORRECT_FIRST_NUMBER, RESET_INCORRECT_RECEIVE_NUMBER, RESET_INCORRECT_SEND_NUMBER, RESET_OUT_OF_WINDOW}
+use Rattle.relay_base.specs.declared.causes.TheConstants.{RESET_INCORRECT_RECEIVE_NUMBER, RESET_OUT_OF_WINDOW}
 use Rattle.section_flow.specs.declared.unit.Unit.{Unit as DataUnit}
 use Rattle.section_flow.specs.declared.limits.TheConstants.{SEQUENCE_NUMBERS}
-use Rattle.section_flow.specs.Windows.{Windows, count_of, is_valid}
+use Rattle.section_flow.specs.Windows.{Windows, count_of, is_valid, wrong_number}
 use Rattle.section_flow.specs.declared.counts.Counts.{Counts}
 pub use Rattle.section_flow.specs.Held.{IsWithinWindows}
 
@@ -40,12 +40,9 @@ cleared_flow credit room = record { agreed = credit; credit = credit; counts = n
 
 -- Why a unit with P(S) and P(R) isn't accepted, as the cause of the reset: another P(S) is expected, the window is used up, or P(R)
 -- isn't valid.
-abbrev pub wrong_number : FlowState → ℕ
-wrong_number f = if length f.counts.got == 0 then RESET_INCORRECT_FIRST_NUMBER else RESET_INCORRECT_SEND_NUMBER
-
 abbrev pub unit_refusal : ℕ → ℕ → FlowState → Option ℕ
 unit_refusal ps pr f =
-    if not (ps == length f.counts.got % SEQUENCE_NUMBERS) then Some (wrong_number f)
+    if not (ps == length f.counts.got % SEQUENCE_NUMBERS) then Some (wrong_number (windows_of f))
     else if length f.counts.got - f.counts.told == f.agreed then Some RESET_OUT_OF_WINDOW
     else if not (is_valid pr (windows_of f)) then Some RESET_INCORRECT_RECEIVE_NUMBER
     else None

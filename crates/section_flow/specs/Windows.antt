@@ -1,6 +1,7 @@
 -- The windows of a section of class 3 (Q.714, 3.5.2 and 3.6), and what its counts say.
-use Rattle.std.specs.Prelude.{ℕ, ◌+◌, ◌-◌, ◌%◌, ◌==◌, Bool, List, length, find, Option, unwrap_or, is_some, min}
+use Rattle.std.specs.Prelude.{ℕ, ◌+◌, ◌-◌, ◌%◌, ◌==◌, Bool, List, length, find, Option, if◌then◌else◌, unwrap_or, is_some, min}
 use Rattle.std.specs.List.{range_with_len}
+use Rattle.relay_base.specs.declared.causes.TheConstants.{RESET_INCORRECT_FIRST_NUMBER, RESET_INCORRECT_SEND_NUMBER}
 use Rattle.section_flow.specs.declared.limits.TheConstants.{SEQUENCE_NUMBERS}
 use Rattle.section_flow.specs.declared.unit.Unit.{Unit as DataUnit}
 
@@ -28,6 +29,10 @@ is_valid pr w = is_some (count_of pr w.acked w.sent)
 
 abbrev pub acknowledged : ℕ → Windows → Windows
 acknowledged pr w = record w { acked = unwrap_or (count_of pr w.acked w.sent) w.acked }
+
+-- the cause of the reset where another P(S) is expected (Q.713, 3.13)
+abbrev pub wrong_number : Windows → ℕ
+wrong_number w = if length w.got == 0 then RESET_INCORRECT_FIRST_NUMBER else RESET_INCORRECT_SEND_NUMBER
 
 -- how many waiting units may leave now
 abbrev pub may_leave : Windows → ℕ

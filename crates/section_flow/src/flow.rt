@@ -1,8 +1,8 @@
 //! The flow control of a section.
 ghost use Rattle.std.specs.Prelude.{◌≡◌, true, false, ◌≤◌, ◌<◌, ◌+◌, ◌-◌, ◌%◌, ◌++◌, [], ◌∷◌, Some, None, drop, length, min, suc, IfOk, IfErr, IfSome, IfNone, OnOk, OnErr};
 ghost use Rattle.std.specs.Option.{option_map};
-ghost use Rattle.section_flow.specs.Windows.{count_of, is_valid, may_leave};
-ghost use Rattle.section_flow.specs.Flow.{cleared_flow, no_counts, windows_of, wrong_number, unit_refusal, counts_after_unit, counts_after_acknowledgement, counts_after_sending, counts_after_leaving, counts_after_telling, due_of, IsWithinWindows};
+ghost use Rattle.section_flow.specs.Windows.{count_of, is_valid, may_leave, wrong_number};
+ghost use Rattle.section_flow.specs.Flow.{cleared_flow, no_counts, windows_of, unit_refusal, counts_after_unit, counts_after_acknowledgement, counts_after_sending, counts_after_leaving, counts_after_telling, due_of, IsWithinWindows};
 
 use crate::counts::{Counts, Remainders};
 use crate::limits::SEQUENCE_NUMBERS;
@@ -154,7 +154,7 @@ impl Flow {
 
     /// The reset cause where another P(S) is expected.
     fn wrong_number(&self) -> u8
-        ensures { result ≡ wrong_number self.now }
+        ensures { result ≡ wrong_number (windows_of self.now) }
     {
         if self.held.has_accepted {
             RESET_INCORRECT_SEND_NUMBER

@@ -1,6 +1,6 @@
 -- What a connection section does in class 3 alone: numbered data and its windows (Q.714, 3.5.2), expedited data (3.6), and the reset (3.7).
 use Rattle.std.specs.Prelude.{ℕ, suc, ◌+◌, ◌-◌, ◌*◌, ◌%◌, ◌≤◌, ◌==◌, ◌||◌, ◌&&◌, nat_lt, not, Bool, true, false, List, [], ◌∷◌, ◌++◌, length, take, drop, if◌then◌else◌, Option, Some, None, unwrap_or, is_some, min}
-use Rattle.relay_base.specs.declared.causes.TheConstants.{RESET_INCORRECT_FIRST_NUMBER, RESET_INCORRECT_RECEIVE_NUMBER, RESET_INCORRECT_SEND_NUMBER, RESET_OUT_OF_WINDOW, RESET_REMOTE_PROCEDURE_ERROR}
+use Rattle.relay_base.specs.declared.causes.TheConstants.{RESET_INCORRECT_RECEIVE_NUMBER, RESET_OUT_OF_WINDOW, RESET_REMOTE_PROCEDURE_ERROR}
 use Rattle.relay_base.specs.declared.words.Output.TheVariants.{Lost as Dropped}
 use Rattle.relay_base.specs.declared.words.Lost.TheVariants as lost
 use Rattle.section_model.specs.declared.hand.Hand.TheVariants as hand
@@ -16,7 +16,7 @@ use Rattle.section_model.specs.declared.hand.Acted.{Acted}
 use Rattle.section_model.specs.declared.hand.Hand.{Hand}
 use Rattle.relay_base.specs.declared.words.Output.{Output}
 use Rattle.section_model.specs.Ends.{SectionHead, no_effect, gives, gives_then, cleared, is_up}
-use Rattle.section_flow.specs.Windows.{Windows, is_valid, acknowledged, may_leave}
+use Rattle.section_flow.specs.Windows.{Windows, is_valid, acknowledged, may_leave, wrong_number}
 use Rattle.section_model.specs.Line.{sent_on}
 
 -- A section with its counts.
@@ -42,9 +42,6 @@ is_next m x = m.ps == length x.windows.got % SEQUENCE_NUMBERS
 abbrev pub is_used_up : Windowed → Bool
 is_used_up x = length x.windows.got - x.windows.told == x.head.credit
 
-abbrev pub wrong_number : Windowed → ℕ
-wrong_number x = if length x.windows.got == 0 then RESET_INCORRECT_FIRST_NUMBER else RESET_INCORRECT_SEND_NUMBER
-
 abbrev pub accepts_unit : Parameters → Windowed → Windowed × Acted
 accepts_unit m x = (
   record x { windows = record (acknowledged m.pr x.windows) { got = x.windows.got ++ record { more = m.more; body = m.data_octets } ∷ [] } },
@@ -53,7 +50,7 @@ accepts_unit m x = (
 
 abbrev pub takes_data : Parameters → Windowed → Windowed × Acted
 takes_data m x =
-    if not (is_next m x) then resets (wrong_number x) x
+    if not (is_next m x) then resets (wrong_number x.windows) x
     else if is_used_up x then resets RESET_OUT_OF_WINDOW x
     else if not (is_valid m.pr x.windows) then resets RESET_INCORRECT_RECEIVE_NUMBER x
     else accepts_unit m x

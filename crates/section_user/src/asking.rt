@@ -7,10 +7,10 @@ ghost use Rattle.section_user.specs.Inner.Acts.{KeepsEnd};
 ghost use Rattle.section_model.specs.Line.{agreed_credit};
 
 use crate::side::UserSide;
-use crate::units::{copied, given, units_of};
+use crate::units::{given, units_of};
 use relay_base::causes::RESET_END_USER;
 use relay_base::{Memory, Octets, Outs, Request};
-use section_model::{Acted, Cell, Hand, HandList, UserState};
+use section_model::{Acted, Cell, Hand, HandList, UserState, copied_octets};
 use std::alloc::Global;
 
 /// The user sends a text, which goes in units.
@@ -35,7 +35,7 @@ fn expedites(alloc: Global, request: &Request) -> Result<Acted, Memory>
         return Ok(Acted::nothing(alloc));
     };
     let hand = Hand::Expedited {
-        body: copied(alloc, body)?,
+        body: copied_octets(body)?,
     };
     Acted::handing(alloc, hand)
 }
@@ -71,7 +71,7 @@ impl UserSide {
             class: *class,
             credit: agreed,
             called: None,
-            body: given(alloc, body)?,
+            body: given(body)?,
             importance: None,
         };
         let done = Acted::handing(alloc, hand)?;
@@ -92,7 +92,7 @@ impl UserSide {
         let hand = Hand::Refuse {
             cause: *cause,
             called: None,
-            body: given(alloc, body)?,
+            body: given(body)?,
             importance: None,
         };
         let done = Acted::handing(alloc, hand)?;
@@ -126,7 +126,7 @@ impl UserSide {
         };
         let hand = Hand::End {
             cause: *cause,
-            body: given(alloc, body)?,
+            body: given(body)?,
             importance: None,
         };
         let done = Acted::handing(alloc, hand)?;

@@ -4,11 +4,10 @@ ghost use Rattle.section_model.specs.UserEnd.{collects, overruns, continues, com
 ghost use Rattle.section_user.specs.Side.{ActsAs};
 
 use crate::side::{UserSide, taken};
-use crate::units::copied;
 use relay_base::causes::RELEASE_ACCESS_CONGESTION;
 use relay_base::limits::LONGEST_TEXT;
 use relay_base::{Memory, Octets, Outs, Tell};
-use section_model::{Acted, Hand, HandList, UserState};
+use section_model::{Acted, Hand, HandList, UserState, copied_octets};
 use std::alloc::Global;
 
 /// Whether a text with these octets more is too long.
@@ -58,7 +57,7 @@ impl UserSide {
         ensures ok { IfOk result (λ done. ActsAs (completes body.now) self.old self.new done) }
         ensures err { OnErr result (self.new ≡ self.old) }
     {
-        let mut text = copied(alloc, &self.text)?;
+        let mut text = copied_octets(&self.text)?;
         text.extend(body.as_slice())?;
         let tell = Tell::Text {
             mine: self.mine,

@@ -4,9 +4,9 @@ ghost use Rattle.section_model.specs.UserEnd.{tells_confirm, tells_disconnect, t
 ghost use Rattle.section_user.specs.Side.{ActsAs};
 
 use crate::side::{UserSide, taken};
-use crate::units::{boxed_if_any, copied};
+use crate::units::boxed_if_any;
 use relay_base::{Memory, Octets, Tell};
-use section_model::{Acted, Cell, Hand, UserState};
+use section_model::{Acted, Cell, Hand, UserState, copied_octets};
 use std::alloc::Global;
 
 impl UserSide {
@@ -69,7 +69,7 @@ impl UserSide {
         };
         let tell = Tell::Expedited {
             mine: self.mine,
-            body: copied(alloc, body)?,
+            body: copied_octets(body)?,
         };
         let mut done = Acted::giving(alloc, self.output_to(tell))?;
         done.then = taken(alloc, 0, true)?;

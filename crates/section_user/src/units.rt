@@ -4,15 +4,8 @@ ghost use Rattle.section_model.specs.UserEnd.{given, handed, unit_count, units_o
 
 use relay_base::{BoxedOctets, Memory, Octets};
 use section_model::limits::LONGEST_UNIT;
-use section_model::{Hand, HandList};
+use section_model::{Hand, HandList, copied_octets};
 use std::alloc::Global;
-
-/// A copy of octets.
-pub fn copied(alloc: Global, octets: &Octets) -> Result<Octets, Memory>
-    ensures { IfOk result (λ copy. copy ≡ octets.now) }
-{
-    Octets::from_slice(alloc, octets.as_slice())
-}
 
 /// A copy of octets where they are there, in a place of its own.
 pub fn boxed_if_any(alloc: Global, octets: &Option<Octets>) -> Result<Option<BoxedOctets>, Memory>
@@ -25,13 +18,13 @@ pub fn boxed_if_any(alloc: Global, octets: &Option<Octets>) -> Result<Option<Box
 }
 
 /// The data that a request gives: no octets are no data.
-pub fn given(alloc: Global, body: &Octets) -> Result<Option<Octets>, Memory>
+pub fn given(body: &Octets) -> Result<Option<Octets>, Memory>
     ensures { IfOk result (λ copy. copy ≡ given body.now) }
 {
     if body.is_empty() {
         return Ok(None);
     }
-    Ok(Some(copied(alloc, body)?))
+    Ok(Some(copied_octets(body)?))
 }
 
 /// How many units a text is cut into.

@@ -13,9 +13,9 @@ use Rattle.section_model.specs.declared.cell.SectionState.{SectionState}
 use Rattle.section_model.specs.declared.cell.SectionState.TheVariants.{Asking, Up, Resetting, Ending, Gone}
 use Rattle.section_model.specs.Parameters.{Parameters}
 use Rattle.section_model.specs.Ends.{End, wire, owner, SectionHead, Line, Section, Timers, gives, gives_then, cleared, only_cause}
-use Rattle.section_flow.specs.Windows.{Windows, is_valid, acknowledged}
+use Rattle.section_flow.specs.Windows.{Windows, is_valid, acknowledged, wrong_number}
 use Rattle.section_model.specs.Line.{confirms, hears_error, hears_test, agreed}
-use Rattle.section_model.specs.Windowed.{Windowed, resets, is_next, is_used_up, wrong_number, accepts_unit, takes_data, takes_acknowledgement, takes_expedited as windows_take_expedited, sends_expedited, takes_answer}
+use Rattle.section_model.specs.Windowed.{Windowed, resets, is_next, is_used_up, accepts_unit, takes_data, takes_acknowledgement, takes_expedited as windows_take_expedited, sends_expedited, takes_answer}
 use Rattle.section_model.specs.Acting.{timed, by_windows, line_in, by_line}
 use Rattle.section_flow.proofs.Counting.{count-between}
 use Rattle.connection_law.specs.InStep.{Stage, asking, connected, over, Meets, stage_at, section_stage, AreInStep, ResetIsAwaited, SendsAllWith, InCredit, InWindow, PassesOn}
@@ -114,7 +114,7 @@ pub data_taken : (ticks : Ticks) (m : Parameters) (x : Section) (that : End) →
     → ActsWindowed ticks (at Up x) that (takes_data m (record { head = (at Up x).head; windows = x.windows }))
 data_taken ticks m x that k =
     let w : Windowed = record { head = (at Up x).head; windows = x.windows } in
-    either (ActsWindowed ticks (at Up x) that) (not (is_next m w)) _ _ (λ _. window_resets ticks (wrong_number w) x that k)
+    either (ActsWindowed ticks (at Up x) that) (not (is_next m w)) _ _ (λ _. window_resets ticks (wrong_number w.windows) x that k)
     (λ _. either (ActsWindowed ticks (at Up x) that) (is_used_up w) _ _ (λ _. window_resets ticks 0x04 x that k)
     (λ not_used. either (ActsWindowed ticks (at Up x) that) (not (is_valid m.pr x.windows)) _ _ (λ _. window_resets ticks 0x03 x that k)
     (λ valid. unit_accepted ticks m x that k not_used (not-false _ valid))))

@@ -7,8 +7,8 @@ use Rattle.section_model.specs.declared.hand.Hand.{Hand}
 use Rattle.section_model.specs.declared.hand.Hand.TheVariants as hand
 use Rattle.section_model.specs.declared.hand.Acted.{Acted}
 use Rattle.section_model.specs.Parameters.{Parameters}
-use Rattle.section_model.specs.Windowed.{Windowed, windowed_hears, windowed_fires, windowed_takes, leaves, acknowledges, resets, is_next, is_used_up, wrong_number, accepts_unit, takes_data, takes_acknowledgement, takes_expedited, sends_expedited, takes_answer, queues_unit, passes_expedited, passes_reset, HasCome, counts_left}
-use Rattle.section_flow.specs.Windows.{is_valid, may_leave}
+use Rattle.section_model.specs.Windowed.{Windowed, windowed_hears, windowed_fires, windowed_takes, leaves, acknowledges, resets, is_next, is_used_up, accepts_unit, takes_data, takes_acknowledgement, takes_expedited, sends_expedited, takes_answer, queues_unit, passes_expedited, passes_reset, HasCome, counts_left}
+use Rattle.section_flow.specs.Windows.{is_valid, may_leave, wrong_number}
 use Rattle.connection_law.specs.FlowLaw.{WindowsAreKept, ActsKeep}
 use Rattle.connection_law.proofs.Flow.Taking.{cleared_in}
 use Rattle.connection_law.proofs.Flow.Flowing.{either}
@@ -29,7 +29,7 @@ accepted m x k not_used valid =
 
 data_kept : (m : Parameters) (x : Windowed) → WindowsAreKept x → KeptBy (takes_data m x)
 data_kept m x k =
-    either KeptBy (not (is_next m x)) _ _ (λ _. resets_kept (wrong_number x) x k)
+    either KeptBy (not (is_next m x)) _ _ (λ _. resets_kept (wrong_number x.windows) x k)
     (λ _. either KeptBy (is_used_up x) _ _ (λ _. resets_kept 0x04 x k)
     (λ not_used. either KeptBy (not (is_valid m.pr x.windows)) _ _ (λ _. resets_kept 0x03 x k)
     (λ valid. accepted m x k not_used (not-false _ valid))))

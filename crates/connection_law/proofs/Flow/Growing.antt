@@ -17,9 +17,9 @@ use Rattle.section_flow.specs.declared.unit.Unit.{Unit as DataUnit}
 use Rattle.section_model.specs.declared.hand.Acted.{Acted}
 use Rattle.section_model.specs.Parameters.{Parameters}
 use Rattle.section_model.specs.Ends.{End, wire, owner, Line, Section, User, is_up, is_connected}
-use Rattle.section_flow.specs.Windows.{Windows, is_valid}
+use Rattle.section_flow.specs.Windows.{Windows, is_valid, wrong_number}
 use Rattle.section_model.specs.Line.{line_hears, line_fires, line_takes, passes_accept, passes_refuse, passes_end, keeps_end, passes_unit, counts_passed}
-use Rattle.section_model.specs.Windowed.{Windowed, windowed_hears, windowed_fires, windowed_takes, resets, is_next, is_used_up, wrong_number, takes_data, sends_expedited, queues_unit, passes_expedited, passes_reset, counts_left}
+use Rattle.section_model.specs.Windowed.{Windowed, windowed_hears, windowed_fires, windowed_takes, resets, is_next, is_used_up, takes_data, sends_expedited, queues_unit, passes_expedited, passes_reset, counts_left}
 use Rattle.section_model.specs.UserEnd.{user_takes, user_asks, units_of, tells_confirm as user_confirmed, tells_disconnect, collects, tells_expedited, tells_reset, user_counts_left as user_left, accepts, refuses, sends, expedites as user_expedites, disconnects}
 use Rattle.section_model.specs.Acting.{by_windows, by_line, line_in, is_by_class, in_windows, windows_after, section_hears, section_fires, section_takes, section_takes_by, user_takes_by, end_takes}
 use Rattle.section_model.specs.Laws.{hands_of}
@@ -82,7 +82,7 @@ resets_grow cause x = (cleared_grows x.windows.passed x.windows.got, (tt, tt), i
 data_grows : (m : Parameters) (x : Windowed) → WindowsGrow x (takes_data m x)
 unfolding WindowsGrow NoneLeft NoUnits
 data_grows m x =
-    either (WindowsGrow x) (not (is_next m x)) _ _ (λ _. resets_grow (wrong_number x) x)
+    either (WindowsGrow x) (not (is_next m x)) _ _ (λ _. resets_grow (wrong_number x.windows) x)
     (λ _. either (WindowsGrow x) (is_used_up x) _ _ (λ _. resets_grow 0x04 x)
     (λ _. either (WindowsGrow x) (not (is_valid m.pr x.windows)) _ _ (λ _. resets_grow 0x03 x)
     (λ _. (more_grows x.windows.passed x.windows.got _, (tt, tt), inr (refl, refl)))))

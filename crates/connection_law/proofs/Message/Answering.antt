@@ -18,9 +18,9 @@ use Rattle.section_model.specs.declared.hand.Acted.{Acted}
 use Rattle.section_model.specs.Table.{section_cell}
 use Rattle.section_model.specs.Parameters.{Parameters, Arrival, arrival_in}
 use Rattle.section_model.specs.Ends.{End, wire, owner, Line, Section, User, Connection, turned, gives_then, is_up, is_connected}
-use Rattle.section_flow.specs.Windows.{Windows, is_valid, may_leave}
+use Rattle.section_flow.specs.Windows.{Windows, is_valid, may_leave, wrong_number}
 use Rattle.section_model.specs.Line.{line_hears, line_fires, line_takes}
-use Rattle.section_model.specs.Windowed.{Windowed, windowed_hears, windowed_fires, windowed_takes, is_next, is_used_up, wrong_number, resets, takes_data, sends_expedited, leaves, acknowledges}
+use Rattle.section_model.specs.Windowed.{Windowed, windowed_hears, windowed_fires, windowed_takes, is_next, is_used_up, resets, takes_data, sends_expedited, leaves, acknowledges}
 use Rattle.section_model.specs.UserEnd.{user_asks}
 use Rattle.section_model.specs.Timing.{firing_order, firing, rearmed}
 use Rattle.section_model.specs.Acting.{timed, windows_after, by_windows, line_in, in_windows, section_hears, section_fires, section_takes, section_takes_by, end_takes}
@@ -57,7 +57,7 @@ resets_stay A cause x = λ e. inr (inr (refl, refl, refl))
 data_stays : (A : Type 0) (m : Parameters) (x : Windowed) → WindowsStay A x (takes_data m x)
 unfolding WindowsStay
 data_stays A m x =
-    either (WindowsStay A x) (not (is_next m x)) _ _ (λ _. resets_stay A (wrong_number x) x)
+    either (WindowsStay A x) (not (is_next m x)) _ _ (λ _. resets_stay A (wrong_number x.windows) x)
     (λ _. either (WindowsStay A x) (is_used_up x) _ _ (λ _. resets_stay A 0x04 x)
     (λ _. either (WindowsStay A x) (not (is_valid m.pr x.windows)) _ _ (λ _. resets_stay A 0x03 x)
     (λ _. λ e. inl e)))

@@ -23,8 +23,8 @@ use Rattle.section_model.specs.Table.{section_row, section_cell}
 use Rattle.section_model.specs.Parameters.{Parameters, Arrival, arrival_in}
 use Rattle.section_model.specs.Ends.{End, wire, owner, SectionHead, Section, User, Timers, Connection, turned, gives_then}
 use Rattle.section_model.specs.Line.{line_hears}
-use Rattle.section_model.specs.Windowed.{Windowed, windowed_hears, is_next, is_used_up, wrong_number, resets, takes_data, sends_expedited}
-use Rattle.section_flow.specs.Windows.{is_valid}
+use Rattle.section_model.specs.Windowed.{Windowed, windowed_hears, is_next, is_used_up, resets, takes_data, sends_expedited}
+use Rattle.section_flow.specs.Windows.{is_valid, wrong_number}
 use Rattle.section_model.specs.UserEnd.{user_asks, units_of}
 use Rattle.section_model.specs.Timing.{firing_order, firing, rearmed}
 use Rattle.section_model.specs.Acting.{timed, by_windows, by_line, line_in, in_windows, section_hears}
@@ -122,7 +122,7 @@ data_hears : (A : Section → Type 0) (G : End → List ℕ → Type 0) (ticks :
 unfolding ActsPlain IsPlain AreOther data_among expedited_among
 data_hears A G ticks m x x' that w =
     let reset : (cause : ℕ) → WindowsSend A G ticks x x' that (resets cause w) = λ cause. windows_plain A G ticks x x' that _ (resets_plain cause w) in
-    either (WindowsSend A G ticks x x' that) (not (is_next m w)) _ _ (λ _. reset (wrong_number w))
+    either (WindowsSend A G ticks x x' that) (not (is_next m w)) _ _ (λ _. reset (wrong_number w.windows))
     (λ _. either (WindowsSend A G ticks x x' that) (is_used_up w) _ _ (λ _. reset 0x04)
     (λ _. either (WindowsSend A G ticks x x' that) (not (is_valid m.pr w.windows)) _ _ (λ _. reset 0x03)
     (λ _. windows_plain A G ticks x x' that _ ((refl, refl), (tt, tt)))))

@@ -19,9 +19,9 @@ use Rattle.section_model.specs.declared.hand.Acted.{Acted}
 use Rattle.section_model.specs.Table.{section_cell}
 use Rattle.section_model.specs.Parameters.{Parameters, Arrival, arrival_in}
 use Rattle.section_model.specs.Ends.{End, wire, owner, Line, Section, User, Connection, turned, is_up, is_connected}
-use Rattle.section_flow.specs.Windows.{Windows, is_valid, may_leave}
+use Rattle.section_flow.specs.Windows.{Windows, is_valid, may_leave, wrong_number}
 use Rattle.section_model.specs.Line.{line_hears, line_fires, line_takes}
-use Rattle.section_model.specs.Windowed.{Windowed, windowed_hears, windowed_fires, windowed_takes, is_next, is_used_up, wrong_number, resets, takes_data, sends_expedited, leaves, acknowledges}
+use Rattle.section_model.specs.Windowed.{Windowed, windowed_hears, windowed_fires, windowed_takes, is_next, is_used_up, resets, takes_data, sends_expedited, leaves, acknowledges}
 use Rattle.section_model.specs.UserEnd.{user_asks, user_takes, units_of}
 use Rattle.section_model.specs.Timing.{firing_order, firing, rearmed}
 use Rattle.section_model.specs.Acting.{by_line, line_in, in_windows, section_hears, section_fires, section_takes, section_takes_by, user_takes_by, end_takes}
@@ -89,7 +89,7 @@ resets_over A B cause x = (dropped A x.windows.waiting, (tt, tt))
 data_over : (A B : List ℕ → Type 0) (m : Parameters) (x : Windowed) → WindowsOver A B x (takes_data m x)
 unfolding WindowsOver AreBrought
 data_over A B m x =
-    either (WindowsOver A B x) (not (is_next m x)) _ _ (λ _. resets_over A B (wrong_number x) x)
+    either (WindowsOver A B x) (not (is_next m x)) _ _ (λ _. resets_over A B (wrong_number x.windows) x)
     (λ _. either (WindowsOver A B x) (is_used_up x) _ _ (λ _. resets_over A B 0x04 x)
     (λ _. either (WindowsOver A B x) (not (is_valid m.pr x.windows)) _ _ (λ _. resets_over A B 0x03 x)
     (λ _. (same A x.windows.waiting, (tt, tt)))))

@@ -21,7 +21,8 @@ use Rattle.section_model.specs.Ends.{End, wire, owner, Line, Section, User, is_g
 use Rattle.section_model.specs.Table.{section_cell}
 use Rattle.section_model.specs.Timing.{firing, rearmed}
 use Rattle.section_model.specs.Line.{line_hears, line_fires, line_takes}
-use Rattle.section_model.specs.Windowed.{Windowed, windowed_hears, windowed_fires, windowed_takes, resets, wrong_number, accepts_unit, takes_data, sends_expedited, leaves, acknowledges}
+use Rattle.section_model.specs.Windowed.{Windowed, windowed_hears, windowed_fires, windowed_takes, resets, accepts_unit, takes_data, sends_expedited, leaves, acknowledges}
+use Rattle.section_flow.specs.Windows.{wrong_number}
 use Rattle.section_model.specs.UserEnd.{user_asks, user_takes}
 use Rattle.section_model.specs.Acting.{timed, by_windows, line_in, in_windows, section_hears, section_fires, section_takes, section_takes_by, user_takes_by, end_takes}
 use Rattle.section_model.specs.Step.{hears_checked, in_touch, asking_cell, end_is_gone}
@@ -75,7 +76,7 @@ accepts_reference m x = refl
 
 data_reference : (m : Parameters) (x : Windowed) → WindowsHave x.head.mine (takes_data m x)
 data_reference m x =
-    either (WindowsHave x.head.mine) _ _ _ (resets_reference (wrong_number x) x)
+    either (WindowsHave x.head.mine) _ _ _ (resets_reference (wrong_number x.windows) x)
     (either (WindowsHave x.head.mine) _ _ _ (resets_reference 0x04 x)
     (either (WindowsHave x.head.mine) _ _ _ (resets_reference 0x03 x) (accepts_reference m x)))
 
