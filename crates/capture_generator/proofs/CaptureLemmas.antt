@@ -10,6 +10,8 @@ use Rattle.relay_base.specs.declared.words.Event.TheVariants.{Asked}
 use Rattle.relay_base.specs.declared.words.Request.TheVariants.{Accept}
 use Rattle.plant_core.specs.declared.entry.ControlEvent.{ControlEvent}
 use Rattle.plant_core.specs.declared.entry.ControlEvent.TheVariants.{Plain}
+use Rattle.relay_base.specs.declared.limits.TheConstants.{MOST_GENERATED_LINES}
+use Rattle.capture_form.specs.declared.steps.TheConstants.{MOST_LINES}
 use Rattle.capture_form.specs.Events.{Stamped, phase_events, all_events, AreOfLinks, AreOfPhases}
 use Rattle.capture_form.specs.Links.{comes_on_link, AreOnLinks, AreLinked}
 use Rattle.capture_generator.specs.Generator.{generator_head, Phases, number_after, reference_at, unit_octets, request_octets, data_octets, message_at, event_of_kind, stamped_at, events_after, block_phase, tick_phase, whole_blocks, phases_after}
@@ -187,7 +189,7 @@ length-whole x (suc b) = omega (
   length-whole x b,
 )
 
-few-choice : (none : Bool) (x lines : ℕ) → lines ≤ 199000 → length (all_events (cond none [] (whole_blocks x (lines / 400) ++ block_phase x (lines / 400) (lines % 400) ∷ []))) ≤ 200000
+few-choice : (none : Bool) (x lines : ℕ) → lines ≤ MOST_GENERATED_LINES → length (all_events (cond none [] (whole_blocks x (lines / 400) ++ block_phase x (lines / 400) (lines % 400) ∷ []))) ≤ MOST_LINES
 few-choice true x lines h = omega arith
 few-choice false x lines h = omega (
   arith,
@@ -198,5 +200,5 @@ few-choice false x lines h = omega (
   length-whole x (lines / 400),
 )
 
-pub phases-few : (x lines : ℕ) → lines ≤ 199000 → length (all_events (phases_after x lines)) ≤ 200000
+pub phases-few : (x lines : ℕ) → lines ≤ MOST_GENERATED_LINES → length (all_events (phases_after x lines)) ≤ MOST_LINES
 phases-few x lines h = few-choice (lines == 0) x lines h

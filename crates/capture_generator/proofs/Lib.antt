@@ -1,3 +1,4 @@
+mod DigitLemmas
 mod TallyLemmas
 pub mod CaptureLemmas
 pub mod StepLemmas

@@ -8,11 +8,8 @@ use Rattle.relay_base.specs.declared.words.Output.TheVariants.{Sent, Told, Lost}
 use Rattle.plant_core.specs.declared.entry.Entry.{Entry}
 use Rattle.journal_text.specs.declared.book.Book.{Book}
 use Rattle.capture_generator.specs.declared.tally.Counts.{Counts}
-use Rattle.capture_generator.specs.Counts.{outputs_in, is_sent, is_told, is_lost}
-use Rattle.capture_generator.specs.Inner.Tally.{counts_of, with_output, with_entry, with_journal, with_control, with_lanes}
-
-abbrev no_counts : Counts
-no_counts = record { entries = 0; sent = 0; told = 0; lost = 0 }
+use Rattle.capture_generator.specs.Counts.{journal_outputs, is_sent, is_told, is_lost}
+use Rattle.capture_generator.specs.Inner.Tally.{no_counts, counts_of, with_output, with_entry, with_journal, with_control, with_lanes}
 
 -- so many more of each
 abbrev plus : Counts → ℕ → ℕ → ℕ → ℕ → Counts
@@ -64,12 +61,12 @@ entries-count c (outs ∷ outputs) =
     ∙ same_counts _ _ _ _ _ _ _ _ (ap (λ n. c.entries + n) (omega arith)) (one_more c.sent _ outs outputs) (one_more c.told _ outs outputs) (one_more c.lost _ outs outputs)
 
 -- the journals of lanes are counted as the entries of all
-lanes-fold : (c : Counts) (lanes : List (List Entry)) → with_lanes c lanes ≡ fold with_entry c (flat_map outputs_in lanes)
+lanes-fold : (c : Counts) (lanes : List (List Entry)) → with_lanes c lanes ≡ fold with_entry c (flat_map journal_outputs lanes)
 lanes-fold c [] = refl
 lanes-fold c (journal ∷ lanes) =
     lanes-fold (with_journal c journal) lanes
-    ∙ ap (λ d. fold with_entry d (flat_map outputs_in lanes)) (sym (fold-map with_entry (λ e. e.outs) c journal))
-    ∙ sym (fold-append with_entry c (outputs_in journal) (flat_map outputs_in lanes))
+    ∙ ap (λ d. fold with_entry d (flat_map journal_outputs lanes)) (sym (fold-map with_entry (λ e. e.outs) c journal))
+    ∙ sym (fold-append with_entry c (journal_outputs journal) (flat_map journal_outputs lanes))
 
 none_plus : (outputs : List (List Output))
     → plus_all no_counts outputs ≡ counts (length outputs) (sum_by (count_by is_sent) outputs) (sum_by (count_by is_told) outputs) (sum_by (count_by is_lost) outputs)
@@ -77,8 +74,8 @@ none_plus outputs = same_counts _ _ _ _ _ _ _ _ (omega arith) (omega arith) (ome
 
 pub book_counts : (book : Book) → with_lanes (with_lanes (with_control no_counts book.control) book.conns) book.units ≡ counts_of book
 book_counts book =
-    let units : List (List Output) = flat_map outputs_in book.units in
-    let conns : List (List Output) = flat_map outputs_in book.conns in
+    let units : List (List Output) = flat_map journal_outputs book.units in
+    let conns : List (List Output) = flat_map journal_outputs book.conns in
     let control : List (List Output) = map (λ e. e.outs) book.control in
     lanes-fold _ book.units
     ∙ ap (λ c. fold with_entry c units) (lanes-fold _ book.conns ∙ ap (λ c. fold with_entry c conns) (sym (fold-map with_entry (λ e. e.outs) _ book.control)))

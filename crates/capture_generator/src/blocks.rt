@@ -1,5 +1,6 @@
 //! The phases of generated lines.
 ghost use Rattle.std.specs.Prelude.{◌≡◌, ◌<◌, ◌≤◌, ◌+◌, ◌*◌, ◌++◌, [], ◌∷◌, IfOk, OnOk};
+ghost use Rattle.capture_form.specs.declared.steps.TheConstants.{MOST_LINES};
 ghost use Rattle.capture_generator.specs.Generator.{number_after, events_after, lines_phase, block_phases, tick_phase, whole_blocks, phases_after};
 
 use crate::events::{BLOCK, next_number, stamped_at};
@@ -16,7 +17,7 @@ fn events_after(
     first: u32,
     count: u32,
 ) -> Result<StampedControlList, Memory>
-    requires { first + count ≤ 200000 }
+    requires { first + count ≤ MOST_LINES }
     ensures events { IfOk result (λ events. events ≡ events_after x.old first count) }
     ensures number { OnOk result (x.new ≡ number_after x.old count) }
 {
@@ -44,7 +45,7 @@ fn phase_of(
 
 /// The phase of lines, of which `x` is the number before the first.
 fn block_phase(alloc: Global, x: &mut u32, first: u32, count: u32) -> Result<Phase, Memory>
-    requires { first + count ≤ 200000 }
+    requires { first + count ≤ MOST_LINES }
     ensures phase { IfOk result (λ phase. phase ≡ lines_phase x.old first count) }
     ensures number { OnOk result (x.new ≡ number_after x.old count) }
 {
@@ -94,7 +95,7 @@ fn whole_blocks(alloc: Global, x: &mut u32, count: u32) -> Result<PhaseList, Mem
 
 /// The phases of lines, of which `x` is the number before the first.
 pub fn phases_after(alloc: Global, x: u32, lines: u32) -> Result<PhaseList, Memory>
-    requires { lines < 200000 }
+    requires { lines < MOST_LINES }
     ensures { IfOk result (λ phases. phases ≡ phases_after x lines) }
 {
     if lines == 0 {

@@ -1,5 +1,6 @@
 //! The events of the generator's lines.
 ghost use Rattle.std.specs.Prelude.{◌≡◌, ◌<◌, ◌≤◌, IfOk};
+ghost use Rattle.capture_form.specs.declared.steps.TheConstants.{MOST_LINES};
 ghost use Rattle.capture_generator.specs.Generator.{next_number, reference_at, unit_octets, request_octets, data_octets, message_at, event_of_kind, event_at, stamp_at, stamped_at};
 
 use plant_core::ControlEvent;
@@ -79,7 +80,7 @@ fn acceptance_at(alloc: Global, line: u32) -> Event
 
 /// The event of a line, by its kind 0 to 3: a UDT, a CR, an acceptance, a DT1.
 fn event_of_kind(alloc: Global, kind: u32, line: u32) -> Result<Event, Memory>
-    requires { line < 200000 }
+    requires { line < MOST_LINES }
     ensures { IfOk result (λ event. event ≡ event_of_kind kind line) }
 {
     let octets = match kind {
@@ -93,7 +94,7 @@ fn event_of_kind(alloc: Global, kind: u32, line: u32) -> Result<Event, Memory>
 
 /// Where a line stands.
 fn stamp_at(line: u32) -> Stamp
-    requires { line < 200000 }
+    requires { line < MOST_LINES }
     ensures { result ≡ stamp_at line }
 {
     let block = line / BLOCK;
@@ -106,7 +107,7 @@ fn stamp_at(line: u32) -> Stamp
 
 /// The event of a line that the number `x` picks, with its stamp.
 pub fn stamped_at(alloc: Global, x: u32, line: u32) -> Result<(Stamp, ControlEvent), Memory>
-    requires { line < 200000 }
+    requires { line < MOST_LINES }
     ensures { IfOk result (λ e. e ≡ stamped_at x line) }
 {
     let event = event_of_kind(alloc, x / 65_536 % 4, line)?;

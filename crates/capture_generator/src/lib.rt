@@ -2,6 +2,7 @@
 #![tactic(auto)]
 
 mod blocks;
+mod count;
 mod events;
 mod tally;
 mod whole;

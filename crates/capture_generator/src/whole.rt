@@ -1,5 +1,6 @@
 //! The whole capture.
 ghost use Rattle.std.specs.Prelude.{◌≡◌, ◌≤◌, [], length, IsTrue, IfOk};
+ghost use Rattle.relay_base.specs.declared.limits.TheConstants.{MOST_GENERATED_LINES};
 ghost use Rattle.node_head.specs.Addable.{are_addable};
 ghost use Rattle.node_head.specs.Ranges.{IsHead};
 ghost use Rattle.capture_form.specs.Events.{all_events, IsStamped};
@@ -36,7 +37,7 @@ fn generator_head(alloc: Global) -> Result<Head, Memory>
 
 /// The capture that the generator makes of a number and a count of lines, at most 199,000, as if its text were read.
 pub fn generated(alloc: Global, number: u32, lines: u32) -> Result<Capture, Memory>
-    requires { lines ≤ 199000 }
+    requires { lines ≤ MOST_GENERATED_LINES }
     ensures value { IfOk result (λ c. c ≡ generated_capture number lines) }
     ensures stamped { IfOk result (λ c. IsStamped c.head c.phases) }
     ensures linked { IfOk result (λ c. AreLinked c.phases) }

@@ -3,6 +3,7 @@ use Rattle.std.proofs.Common.{◌≡◌, ℕ, zero, suc, ◌+◌, ◌*◌, ◌/�
 use Rattle.std.specs.Prelude.{◌≢◌}
 use Rattle.std.proofs.lemmas.Bool.{cases_Bool, eqb-true, eqb-false}
 use Rattle.std.proofs.lemmas.Bool.Decides.{nat_tests}
+use Rattle.relay_base.specs.declared.limits.TheConstants.{MOST_GENERATED_LINES}
 use Rattle.relay_base.specs.Giving.{◌>>=◌}
 use Rattle.relay_base.specs.declared.words.Event.{Event}
 use Rattle.relay_base.specs.declared.words.Event.TheVariants.{Tick}
@@ -105,7 +106,7 @@ one_more x q r n at h =
     ∙ ap (λ m. before ++ stamped_at (number_after y (r + 1)) m ∷ []) at
     ∙ more_events y (400 * q) r
 
-event-read : (x q r n : ℕ) → n ≡ 400 * q + r → r < 400 → n < 199000
+event-read : (x q r n : ℕ) → n ≡ 400 * q + r → r < 400 → n < MOST_GENERATED_LINES
     → line_taken generator_head (read_at x q r) (line_at (number_after x (n + 1)) n) ≡ Ok (read_at x q (r + 1))
 event-read x q r n at h few =
     let picked : ℕ = number_after x (n + 1) in
@@ -159,7 +160,7 @@ block-read x q h =
 
 -- ---- all lines
 
-barriers-read : (x q r n : ℕ) → n ≡ 400 * q + r → r < 400 → n < 199000
+barriers-read : (x q r n : ℕ) → n ≡ 400 * q + r → r < 400 → n < MOST_GENERATED_LINES
     → lines_taken generator_head (read_at x q (r + 1)) (barriers_after (n + 1)) ≡ Ok (read_at x ((n + 1) / 400) ((n + 1) % 400))
 unfolding lines_taken
 barriers-read x q r n at h few = elim (cases_Bool ((n + 1) % 400 == 0)) [
@@ -183,7 +184,7 @@ before_all : (x : ℕ) → lines_taken generator_head (reading_from generator_he
 unfolding lines_taken whole_blocks events_after
 before_all x = refl
 
-pub lines-read : (x n : ℕ) → n ≤ 199000 → lines_taken generator_head (reading_from generator_head 6) (lines_after x n) ≡ Ok (read_at x (n / 400) (n % 400))
+pub lines-read : (x n : ℕ) → n ≤ MOST_GENERATED_LINES → lines_taken generator_head (reading_from generator_head 6) (lines_after x n) ≡ Ok (read_at x (n / 400) (n % 400))
 unfolding lines_after
 lines-read x zero h = before_all x
 lines-read x (suc n) h =

@@ -5,6 +5,7 @@ use Rattle.std.proofs.lemmas.Bool.Decides.{nat_tests}
 use Rattle.std.proofs.lemmas.Grind.{flat_map-append}
 use Rattle.std.specs.List.{AllByRecursion, list_all}
 use Rattle.std.specs.Str.{is_utf8, chars}
+use Rattle.relay_base.specs.declared.limits.TheConstants.{MOST_GENERATED_LINES}
 use Rattle.relay_base.specs.Giving.{◌>>=◌}
 use Rattle.toml.proofs.OnLiterals.{toml_on_literals}
 use Rattle.node_head.specs.Lines.{halves, joined}
@@ -101,13 +102,13 @@ none_left (suc n) = not_zero (401 * (suc n / 400) + suc n % 400) (omega arith) �
 phases-read : (x n : ℕ) → phases_read (read_at x (n / 400) (n % 400)) ≡ phases_after x n
 phases-read x n = ap (λ (t : Bool). cond {A = Phases} t [] (whole_blocks x (n / 400) ++ block_phase x (n / 400) (n % 400) ∷ [])) (none_left n)
 
-lines-capture : (x n : ℕ) → n ≤ 199000 → capture_after generator_head 6 (lines_after x n) ≡ Ok (record { head = generator_head; phases = phases_after x n })
+lines-capture : (x n : ℕ) → n ≤ MOST_GENERATED_LINES → capture_after generator_head 6 (lines_after x n) ≡ Ok (record { head = generator_head; phases = phases_after x n })
 lines-capture x n h =
     sym (reader-agrees generator_head 6 (lines_after x n))
     ∙ ap (λ (m : Result Reading CaptureFault). m >>= (λ r. Ok (record { head = generator_head; phases = phases_read r }))) (lines-read x n h)
     ∙ ap (λ (phases : Phases). Ok (record { head = generator_head; phases = phases })) (phases-read x n)
 
-within-read : (x n : ℕ) → n ≤ 199000 → capture_within (joined (head_lines ++ lines_after x n)) ≡ Ok (record { head = generator_head; phases = phases_after x n })
+within-read : (x n : ℕ) → n ≤ MOST_GENERATED_LINES → capture_within (joined (head_lines ++ lines_after x n)) ≡ Ok (record { head = generator_head; phases = phases_after x n })
 within-read x n h =
     ap (λ ls. at_head (begun (halves ls)) >>= capture_from) (lines-joined (head_lines ++ lines_after x n) (all-append IsLine head_lines (lines_after x n) lines-of-head (event-lines x n)))
     ∙ ap (λ (r : Result (Head × ℕ × Lines) HeadFault). at_head r >>= capture_from) (begun-head (lines_after x n))

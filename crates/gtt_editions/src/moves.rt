@@ -42,8 +42,8 @@ pub fn note_opening<R: Wait>(
     requires empty { writer.desk.shown.value.changes.items ≡ [] }
     requires shut { writer.desk.shown.value.opened ≡ false }
     requires going { writer.desk.shown.value.ended ≡ false }
-    ensures opened { let shown = shown_by writer.desk.shown.value in
-        OnOk result.1 (HasOpened shown (view result.0.desk.place) (shown_by result.0.desk.shown.value)) }
+    ensures opened { let shown = shown_by writer.desk.shown.value in let new = result.0.desk in
+        OnOk result.1 (HasOpened shown (view new.place) (shown_by new.shown.value)) }
     ensures settled { OnOk result.1 (drop result.0.behind result.0.log.items ≡ []) }
 {
     match writer.append(Step::Open) {
@@ -77,11 +77,12 @@ fn published_in<R: Wait>(
 /// The same, in place.
 pub fn publish<R: Wait>(rt: &R, writer: &mut PlantWriter, step: Step) -> Result<(), AllocError>
     requires settled { drop writer.old.behind writer.old.log.items ≡ [] }
-    requires current { IsCurrent (view writer.old.desk.place) (shown_by writer.old.desk.shown.value) }
+    requires current { let desk = writer.old.desk in
+        IsCurrent (view desk.place) (shown_by desk.shown.value) }
     requires going { IsGoing (shown_by writer.old.desk.shown.value) }
-    ensures ok { let old = view writer.old.desk.place in let shown = shown_by writer.old.desk.shown.value in
-        let new = view writer.new.desk.place in let shown_new = shown_by writer.new.desk.shown.value in
-        OnOk result (HasPublished step old shown new shown_new) }
+    ensures ok { let old = writer.old.desk in let new = writer.new.desk in
+        let shown = shown_by old.shown.value in let shown_new = shown_by new.shown.value in
+        OnOk result (HasPublished step (view old.place) shown (view new.place) shown_new) }
     ensures settled { OnOk result (drop writer.new.behind writer.new.log.items ≡ []) }
     ensures err { OnErr result (view writer.new.desk.place ≡ view writer.old.desk.place) }
     ensures kept { OnErr result (writer.new.desk.shown.value ≡ writer.old.desk.shown.value) }

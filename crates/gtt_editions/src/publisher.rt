@@ -48,7 +48,8 @@ impl<'r, R: Wait> Model for Publisher<'r, R> {
 
     ghost view = { λ p. publishing (view_of p.writer.desk.place) p.spent };
 
-    ghost invariant = { λ p. IsCurrent (view_of p.writer.desk.place) (shown_by p.writer.desk.shown.value)
+    ghost invariant = { λ p.
+        IsCurrent (view_of p.writer.desk.place) (shown_by p.writer.desk.shown.value)
         × IsGoing (shown_by p.writer.desk.shown.value)
         × (p.spent ≡ false → drop p.writer.behind p.writer.log.items ≡ []) };
 }
@@ -81,7 +82,8 @@ impl<'r, R: Wait> Model for Ended<'r, R> {
 
     ghost view = { λ p. standing (view_of p.writer.desk.place) };
 
-    ghost invariant = { λ p. IsCurrent (view_of p.writer.desk.place) (shown_by p.writer.desk.shown.value) };
+    ghost invariant = { λ p.
+        IsCurrent (view_of p.writer.desk.place) (shown_by p.writer.desk.shown.value) };
 }
 
 impl<'r, R: Wait> Drop for Ended<'r, R> {
@@ -125,7 +127,8 @@ impl<'r, R: Wait> Publisher<'r, R> {
         requires { self.old.opened.number + length self.old.seen.changes < 2 ^ 64 - 1 }
         ensures ok { OnOk result (self.new ≡ with_change self.old change.now) }
         ensures err { OnErr result (self.new ≡ record self.old { spent = true }) }
-        ensures edition { IfOk result (λ n. n ≡ self.new.opened.number + length self.new.seen.changes) }
+        ensures edition { IfOk result (λ number.
+            number ≡ self.new.opened.number + length self.new.seen.changes) }
         ensures spent { IsTrue self.old.spent → IsErr result }
     {
         if self.spent {

@@ -96,15 +96,17 @@ impl Store {
     }
 
     fn is_closed_over(&self, short: &Store) -> bool
-        ensures { IsTrue result → short.now.ended ≡ true →
-            (self.now.ended ≡ true) × (length self.now.changes.items ≡ length short.now.changes.items) }
+        ensures { let long = self.now.changes.items in let part = short.now.changes.items in
+            IsTrue result → short.now.ended ≡ true →
+            (self.now.ended ≡ true) × (length long ≡ length part) }
     {
         !short.ended || (self.ended && self.changes.len() == short.changes.len())
     }
 
     /// Whether what is published here begins with what is published there, and is the same where its end is marked.
     pub fn begins_with(&self, short: &Store) -> bool
-        ensures { IsTrue result → Begins (list_of (shown_by self.now)) (list_of (shown_by short.now)) }
+        ensures { let long = shown_by self.now in let part = shown_by short.now in
+            IsTrue result → Begins (list_of long) (list_of part) }
     {
         self.has_beginning(short) && self.is_closed_over(short)
     }

@@ -36,6 +36,9 @@ pub const SLOTS: u16 = 4_095;
 /// The most octets of an input.
 pub const MOST_BYTES: usize = 67_108_864;
 
+/// The most lines of a generated capture.
+pub const MOST_GENERATED_LINES: u32 = 199_000;
+
 /// The greatest credit (Q.713, 3.10).
 pub const GREATEST_CREDIT: u8 = 127;
 

@@ -25,7 +25,8 @@ pub fn read_all<S: Source>(
     ensures ok { IfOk result (ReadWhole (S.left source.old) (S.left source.new) most) }
     ensures too_long { result ≡ Err ReadAllFault.TooLong
         → TookMore (S.left source.old) (S.left source.new) most }
-    ensures fault { result ≡ Err ReadAllFault.Fault → Rose (S.faults source.old) (S.faults source.new) }
+    ensures fault { result ≡ Err ReadAllFault.Fault
+        → Rose (S.faults source.old) (S.faults source.new) }
     ensures within { result ≡ Err ReadAllFault.Fault
         → TookWithin (S.left source.old) (S.left source.new) most }
     ensures kept { result ≢ Err ReadAllFault.Fault → S.faults source.new ≡ S.faults source.old }

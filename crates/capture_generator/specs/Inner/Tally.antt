@@ -1,16 +1,19 @@
 -- How the code counts.
-use Rattle.std.specs.Prelude.{ℕ, ◌+◌, List, length, fold}
+use Rattle.std.specs.Prelude.{◌+◌, List, length, fold}
 use Rattle.relay_base.specs.declared.words.Output.{Output}
 use Rattle.relay_base.specs.declared.words.Output.TheVariants.{Sent, Told, Lost}
 use Rattle.plant_core.specs.declared.entry.Entry.{Entry}
 use Rattle.plant_core.specs.declared.entry.ControlEntry.{ControlEntry}
 use Rattle.journal_text.specs.declared.book.Book.{Book}
-use Rattle.capture_generator.specs.Counts.{outputs_of, many, is_sent, is_told, is_lost}
+use Rattle.capture_generator.specs.Counts.{outputs_in, many, is_sent, is_told, is_lost}
 use Rattle.capture_generator.specs.declared.tally.Counts.{Counts}
+
+abbrev pub no_counts : Counts
+no_counts = record { entries = 0; sent = 0; told = 0; lost = 0 }
 
 abbrev pub counts_of : Book → Counts
 counts_of book =
-    let outputs = outputs_of book in record {
+    let outputs = outputs_in book in record {
       entries = length outputs;
       sent = many is_sent outputs;
       told = many is_told outputs;
