@@ -13,6 +13,7 @@ mod Slotted
 mod Given
 mod Sides
 mod Standing
+mod Placing
 mod Ticked
 mod Found
 mod Opened

@@ -12,14 +12,10 @@ use Rattle.conn_lane.specs.Inner.Remnants.{Remnant}
 use Rattle.conn_lane.specs.Inner.Ticking.{AreTicked, TickedAt, WokenAt}
 use Rattle.conn_lane.specs.Inner.Views.{OpeningsState}
 use Rattle.conn_lane.specs.Inner.Waking.{is_due, AreRising, WakesAll, is_next, IsWoken, AllWoken}
+use Rattle.conn_lane.proofs.Standing.{any_default}
 use Rattle.conn_lane.proofs.Ticked.{AllTickedTo, ticked_none, tick_heard, tick_asleep, ticked_all, take_next, drop_next, take_whole, drop_whole}
 
 -- Those that sleep.
-
-pub any_default : {X : Type 0} (xs : List X) (n : ℕ) (d e : X) → n < length xs → get_or xs n d ≡ get_or xs n e
-any_default [] n d e within = absurd (omega (arith, within))
-any_default (x ∷ xs) zero d e within = refl
-any_default (x ∷ xs) (suc n) d e within = any_default xs n d e (omega (arith, within))
 
 asleep_for : (now from steps : ℕ) (kept : List (Option DuoState)) (nexts : List Next) (outs : List Output) → from + steps ≤ length kept
     → ((n : ℕ) → from ≤ n → n < from + steps → TickedAt now (get_or kept n None) None) → AllTickedTo now kept from nexts outs → AllTickedTo now kept (from + steps) nexts outs

@@ -1,6 +1,6 @@
 -- What a lane keeps stands for its openings, once a change is made.
 use Rattle.std.proofs.Common.{◌≡◌, ℕ, zero, suc, ◌+◌, ◌<◌, true, false, List, [], ◌∷◌, length, map, get_or, set, All, Option, Some, None, refl, sym, subst, ap, ap₂, ◌∙◌, ⊎_elim, arith}
-use Rattle.std.specs.Prelude.{Vec, IfSome, option_map}
+use Rattle.std.specs.Prelude.{Vec, IfSome, option_map, is_some}
 use Rattle.std.specs.Global.{Global}
 use Rattle.std.specs.List.{list_any}
 use Rattle.std.proofs.lemmas.Bool.{both_ways, false_from_ne_true, or_cases, or_left, or_right, or_parts, or_from}
@@ -19,7 +19,7 @@ use Rattle.conn_lane.specs.Inner.Hearing.{Becomes}
 use Rattle.conn_lane.specs.Inner.Remnants.{Seat, Remnant, sits, takes_slot, remnant_after}
 use Rattle.conn_lane.specs.Inner.Seated.{IsSeated, IsInLane, AreApart, AreOrderly}
 use Rattle.conn_lane.specs.Inner.Stands.{IsOfLane, IsPlaced, Stands}
-use Rattle.conn_lane.specs.Inner.Ticking.{nothing, waited, live_ticked, frozen_if, given, put_seat, put_seats, put_lives, HasHeld, MayGive, AllMayGive}
+use Rattle.conn_lane.specs.Inner.Ticking.{nothing, waited, live_ticked, frozen_if, given, put_seat, put_seats, put_lives, AllAreKept, HasHeld, MayGive, AllMayGive}
 use Rattle.conn_lane.specs.Inner.Uses.{use_of, AreUsed}
 use Rattle.conn_lane.specs.Inner.Views.{OpeningsState, live_at, lives_at}
 use Rattle.conn_lane.proofs.Apart.{takes_later}
@@ -38,6 +38,15 @@ all_set lane freeze keeps orderly placed =
 
 pub count_is : (keeps : List Remnant) (o : OpeningsState) → lives_at o.taken o.kept ≡ map (λ k. k.live) keeps → length o.kept ≡ length keeps
 count_is keeps o lives = omega (arith, ap (λ xs. length xs) lives, length-map o.kept (option_map (live_at o.taken)), length-map keeps (λ (k : Remnant). k.live))
+
+pub any_default : {X : Type 0} (xs : List X) (n : ℕ) (d e : X) → n < length xs → get_or xs n d ≡ get_or xs n e
+any_default [] n d e within = absurd (omega (arith, within))
+any_default (x ∷ xs) zero d e within = refl
+any_default (x ∷ xs) (suc n) d e within = any_default xs n d e (omega (arith, within))
+
+-- a connection that is kept under a number
+pub is_kept : (kept : List (Option DuoState)) (number : ℕ) (d : DuoState) → number < length kept → Some d ≡ get_or kept number (Some d) → is_some (get_or kept number None) ≡ true
+is_kept kept number d within here = ap (λ one. is_some one) (any_default kept number None (Some d) within ∙ sym here)
 
 -- the connection that is kept under a number is that of the opening there
 pub live_there : (keeps : List Remnant) (o : OpeningsState) (number : ℕ) (one : Option DuoState) → number < length keeps → lives_at o.taken o.kept ≡ map (λ k. k.live) keeps → one ≡ get_or o.kept number one
@@ -75,7 +84,12 @@ makes_heard event o keeps number d h untimed still stands for here becomes =
     let became : option_map (live_at o.taken) h.one ≡ later.live =
     ap (λ n. option_map (live_at n) h.one) (sym still) ∙ (becomes.live ∙ sym (ap (λ (r : Remnant). r.live) (after_live event k (live_at o.taken d) live))) in
     record {
-      fits = record { number = omega (arith, for.within, count_is keeps o stands.lives); this = both.this; that = both.that };
+      fits = record {
+        number = omega (arith, for.within, count_is keeps o stands.lives);
+        alive = is_kept o.kept number d (omega (arith, for.within, count_is keeps o stands.lives)) here;
+        this = both.this;
+        that = both.that;
+      };
       taken = refl;
       lane = both_lane h.this h.that o.slots;
       freeze = both_freeze h.this h.that o.slots;
@@ -150,13 +164,13 @@ set_given lane freeze next k this that at =
       in_that = given_in freeze next.that k.that at.in_that;
     }
 
-put_one : (lane freeze : ℕ) (next : Next) (keeps : List Remnant) (o : OpeningsState) → MayGive next keeps → AreSet lane freeze keeps o → CanBePut next o × AreSet lane freeze (put_seat freeze next keeps) (put next o)
-put_one lane freeze next keeps o may are =
+put_one : (lane freeze : ℕ) (next : Next) (keeps : List Remnant) (o : OpeningsState) → MayGive next keeps → is_some (get_or o.kept next.number None) ≡ true → AreSet lane freeze keeps o → CanBePut next o × AreSet lane freeze (put_seat freeze next keeps) (put next o)
+put_one lane freeze next keeps o may alive are =
     let number : ℕ = next.number in
     let k : Remnant = get_or keeps number nothing in
     let there : IsThere keeps number o.slots.lane k.live k.this k.that = subst (λ l. IsThere keeps number l k.live k.this k.that) (sym are.in_lane) (there_set lane freeze number keeps may.number are.apart are.set) in
     let both = both_give next.this next.that keeps number k.live k.live k.this k.that o.slots o.owners there may.this may.that are.used in (
-      record { number = omega (arith, may.number, are.count); this = both.this; that = both.that },
+      record { number = omega (arith, may.number, are.count); alive = alive; this = both.this; that = both.that },
       record {
         count = length-set o.kept number next.one ∙ (are.count ∙ sym (length-set keeps number (given freeze next k)));
         apart = apart_set keeps number (given freeze next k) (λ slot e. given_takes freeze slot next k may.this may.that e) are.apart;
@@ -167,12 +181,12 @@ put_one lane freeze next keeps o may are =
       },
     )
 
-put_each : (lane freeze : ℕ) (nexts : List Next) (keeps : List Remnant) (o : OpeningsState) → AllMayGive freeze nexts keeps → AreSet lane freeze keeps o
+put_each : (lane freeze : ℕ) (nexts : List Next) (keeps : List Remnant) (o : OpeningsState) → AllMayGive freeze nexts keeps → AllAreKept nexts o.kept → AreSet lane freeze keeps o
     → CanAllBePut nexts o × AreSet lane freeze (put_seats freeze nexts keeps) (put_all nexts o)
-put_each lane freeze [] keeps o may are = (tt, are)
-put_each lane freeze (next ∷ nexts) keeps o may are =
-    let one = put_one lane freeze next keeps o may.0 are in
-    let more = put_each lane freeze nexts (put_seat freeze next keeps) (put next o) may.1 one.1 in
+put_each lane freeze [] keeps o may alive are = (tt, are)
+put_each lane freeze (next ∷ nexts) keeps o may alive are =
+    let one = put_one lane freeze next keeps o may.0 alive.0 are in
+    let more = put_each lane freeze nexts (put_seat freeze next keeps) (put next o) may.1 alive.1 one.1 in
     ((one.0, more.0), more.1)
 
 pub kept_put : (nexts : List Next) (o : OpeningsState) → (put_all nexts o).kept ≡ put_lives nexts o.kept
@@ -198,8 +212,8 @@ apart_waited [] apart = tt
 apart_waited (k ∷ keeps) apart = (λ slot takes. free_waited slot keeps (apart.0 slot (waited_fewer slot k takes)), apart_waited keeps apart.1)
 
 pub makes_ticked : (o : OpeningsState) (keeps : List Remnant) (nexts : Vec Next Global) → Stands keeps o → lives_at (o.taken + 1) (put_lives nexts.items o.kept) ≡ map live_ticked keeps
-    → put_seats o.slots.freeze nexts.items (map waited keeps) ≡ map (remnant_after Tick) keeps → AllMayGive o.slots.freeze nexts.items (map waited keeps) → Makes (Ticked nexts) o (o.taken + 1) (map (remnant_after Tick) keeps)
-makes_ticked o keeps nexts stands lives seats gives =
+    → put_seats o.slots.freeze nexts.items (map waited keeps) ≡ map (remnant_after Tick) keeps → AllMayGive o.slots.freeze nexts.items (map waited keeps) → AllAreKept nexts.items o.kept → Makes (Ticked nexts) o (o.taken + 1) (map (remnant_after Tick) keeps)
+makes_ticked o keeps nexts stands lives seats gives alive =
     let lane : ℕ = o.slots.lane in
     let freeze : ℕ = o.slots.freeze in
     let sets : All (IsSet lane freeze) keeps = all_set lane freeze keeps stands.orderly stands.placed in
@@ -215,7 +229,7 @@ makes_ticked o keeps nexts stands lives seats gives =
       in_lane = refl;
       freezes = refl;
     } in
-    let after = put_each lane freeze nexts.items (map waited keeps) (ticked o) gives before in
+    let after = put_each lane freeze nexts.items (map waited keeps) (ticked o) gives alive before in
     let taken : (put_all nexts.items (ticked o)).taken ≡ o.taken + 1 = taken_put nexts.items (ticked o) in
     record {
       fits = after.0;

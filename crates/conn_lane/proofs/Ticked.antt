@@ -1,7 +1,7 @@
 -- A tick, opening by opening.
 use Rattle.std.proofs.Common.{◌≡◌, ℕ, zero, suc, ◌+◌, ◌<◌, ◌&&◌, not, if◌then◌else◌, Bool, true, false, List, [], ◌∷◌, ◌++◌, length, map, get_or, set, take, drop, Option, Some, None, refl, sym, subst, ap, ap₂, ◌∙◌, arith, append-nil, append_assoc, length-take}
-use Rattle.std.specs.Prelude.{IfSome, option_map}
-use Rattle.std.proofs.lemmas.List.{length-map, map-append, map-set}
+use Rattle.std.specs.Prelude.{IfSome, option_map, is_some}
+use Rattle.std.proofs.lemmas.List.{length-map, length-set, map-append, map-set, get_or-map}
 use Rattle.std.proofs.lemmas.List.Elements.{All-get_or}
 use Rattle.relay_base.specs.declared.words.Event.TheVariants.{Tick}
 use Rattle.relay_base.specs.declared.words.Output.{Output}
@@ -18,10 +18,10 @@ use Rattle.conn_lane.specs.Inner.Hearing.{gives, Becomes}
 use Rattle.conn_lane.specs.Inner.Remnants.{Live, Remnant, live_of, seat_after, over_after, remnant_after, part_in, part_at, or_none, all_parts}
 use Rattle.conn_lane.specs.Inner.Seated.{IsSeated}
 use Rattle.conn_lane.specs.Inner.Stands.{IsPlaced, Stands}
-use Rattle.conn_lane.specs.Inner.Ticking.{nothing, waited, live_ticked, frozen_if, given, put_seat, put_seats, put_lives, HasHeld, MayGive, AllMayGive, TickedTo, AreTicked, TickedAt}
+use Rattle.conn_lane.specs.Inner.Ticking.{nothing, waited, live_ticked, frozen_if, given, put_seat, put_seats, put_lives, AllAreKept, HasHeld, MayGive, AllMayGive, TickedTo, AreTicked, TickedAt}
 use Rattle.conn_lane.specs.Inner.Views.{OpeningsState, IsAlive, IsIdle, live_at, lives_at}
 use Rattle.conn_lane.proofs.Sides.{OpeningGives, gives_by, after_live, after_over}
-use Rattle.conn_lane.proofs.Standing.{live_there, count_is}
+use Rattle.conn_lane.proofs.Standing.{live_there, count_is, is_kept}
 
 -- Lists.
 
@@ -68,6 +68,14 @@ seats_push freeze (n ∷ nexts) next keeps = seats_push freeze nexts next (put_s
 gives_push : (freeze : ℕ) (nexts : List Next) (next : Next) (keeps : List Remnant) → AllMayGive freeze nexts keeps → MayGive next (put_seats freeze nexts keeps) → AllMayGive freeze (nexts ++ next ∷ []) keeps
 gives_push freeze [] next keeps all may = (may, tt)
 gives_push freeze (n ∷ nexts) next keeps all may = (all.0, gives_push freeze nexts next (put_seat freeze n keeps) all.1 may)
+
+lives_length : (nexts : List Next) (kept : List (Option DuoState)) → length (put_lives nexts kept) ≡ length kept
+lives_length [] kept = refl
+lives_length (next ∷ nexts) kept = lives_length nexts (set kept next.number next.one) ∙ length-set kept next.number next.one
+
+kept_push : (nexts : List Next) (next : Next) (kept : List (Option DuoState)) → AllAreKept nexts kept → is_some (get_or (put_lives nexts kept) next.number None) ≡ true → AllAreKept (nexts ++ next ∷ []) kept
+kept_push [] next kept all here = (here, tt)
+kept_push (n ∷ nexts) next kept all here = (all.0, kept_push nexts next (set kept n.number n.one) all.1 here)
 
 parts_more : (keeps : List Remnant) (k : Remnant) → all_parts Tick (keeps ++ k ∷ []) ≡ all_parts Tick keeps ++ or_none (part_at Tick k.live)
 parts_more [] k = append-nil (or_none (part_at Tick k.live))
@@ -157,7 +165,7 @@ abbrev ahead : List Remnant → ℕ → List Remnant
 ahead keeps number = map (remnant_after Tick) (take number keeps)
 
 pub ticked_none : (keeps : List Remnant) (o : OpeningsState) → TickedTo keeps o 0 [] []
-ticked_none keeps o = record { lives = refl; seats = refl; gives = tt; parts = refl }
+ticked_none keeps o = record { lives = refl; seats = refl; gives = tt; alive = tt; parts = refl }
 
 next_lives : (keeps : List Remnant) (o : OpeningsState) (number : ℕ) (one : Option DuoState) → number < length keeps → number < length o.kept → option_map (live_at (o.taken + 1)) one ≡ live_ticked (get_or keeps number nothing)
     → map live_ticked (take number keeps) ++ option_map (live_at (o.taken + 1)) one ∷ lives_at (o.taken + 1) (drop (number + 1) o.kept)
@@ -188,9 +196,9 @@ split_seats : (keeps : List Remnant) (number : ℕ) → number < length keeps �
 split_seats keeps number within = ap (map waited) (drop_next number keeps nothing within)
 
 -- one that is put in its place
-put_next : (keeps : List Remnant) (o : OpeningsState) (number : ℕ) (nexts : List Next) (next : Next) (outs more : List Output) → Stands keeps o → number < length keeps → next.number ≡ number
+put_next : (keeps : List Remnant) (o : OpeningsState) (number : ℕ) (nexts : List Next) (next : Next) (outs more : List Output) → Stands keeps o → number < length keeps → next.number ≡ number → is_some (get_or o.kept number None) ≡ true
     → OpeningTicked o.taken o.slots.freeze (get_or keeps number nothing) next.one next.this next.that more → TickedTo keeps o number nexts outs → TickedTo keeps o (number + 1) (nexts ++ next ∷ []) (outs ++ more)
-put_next keeps o number nexts next outs more stands within here at so =
+put_next keeps o number nexts next outs more stands within here alive at so =
     let k : Remnant = get_or keeps number nothing in
     let freeze : ℕ = o.slots.freeze in
     let there : number < length o.kept = omega (arith, within, count_is keeps o stands.lives) in
@@ -203,10 +211,15 @@ put_next keeps o number nexts next outs more stands within here at so =
     let found : get_or (put_seats freeze nexts (map waited keeps)) next.number nothing ≡ waited k =
     ap₂ (λ xs n. get_or xs n nothing) seats here ∙ get_middle (ahead keeps number) seats_rest number (waited k) nothing wide in
     let became : given freeze next (waited k) ≡ remnant_after Tick k = ap₂ (λ s t. record { live = live_ticked k; this = s; that = t }) at.this at.that in
+    let lives : lives_at (o.taken + 1) (put_lives nexts o.kept) ≡ lives_ahead ++ option_map (live_at (o.taken + 1)) (get_or o.kept number None) ∷ lives_rest =
+    so.lives ∙ ap (λ xs. lives_ahead ++ xs) (split_lives o number None there) in
+    let still : option_map (live_at (o.taken + 1)) (get_or (put_lives nexts o.kept) number None) ≡ option_map (live_at (o.taken + 1)) (get_or o.kept number None) =
+    sym (get_or-map (option_map (live_at (o.taken + 1))) (put_lives nexts o.kept) number None None (omega (arith, there, lives_length nexts o.kept)))
+    ∙ (ap (λ xs. get_or xs number None) lives ∙ get_middle lives_ahead lives_rest number (option_map (live_at (o.taken + 1)) (get_or o.kept number None)) None long) in
     record {
       lives = ap (lives_at (o.taken + 1)) (lives_push nexts next o.kept)
           ∙ (map-set (option_map (live_at (o.taken + 1))) (put_lives nexts o.kept) next.number next.one
-          ∙ (ap₂ (λ xs n. set xs n (option_map (live_at (o.taken + 1)) next.one)) (so.lives ∙ ap (λ xs. lives_ahead ++ xs) (split_lives o number None there)) here
+          ∙ (ap₂ (λ xs n. set xs n (option_map (live_at (o.taken + 1)) next.one)) lives here
           ∙ (set_middle lives_ahead lives_rest number (option_map (live_at (o.taken + 1)) (get_or o.kept number None)) (option_map (live_at (o.taken + 1)) next.one) long
           ∙ next_lives keeps o number next.one within there at.live)));
       seats = seats_push freeze nexts next (map waited keeps)
@@ -219,9 +232,17 @@ put_next keeps o number nexts next outs more stands within here at so =
         this = subst (λ (r : Remnant). HasHeld next.this r.this) (sym found) at.held_this;
         that = subst (λ (r : Remnant). HasHeld next.that r.that) (sym found) at.held_that;
       });
+      alive = kept_push nexts next o.kept so.alive
+          (ap (λ n. is_some (get_or (put_lives nexts o.kept) n None)) here ∙ (same_some (get_or (put_lives nexts o.kept) number None) (get_or o.kept number None) still ∙ alive));
       parts = next_outs keeps number outs more within so.parts at.parts;
     }
   where
+    same_some : (x y : Option DuoState) → option_map (live_at (o.taken + 1)) x ≡ option_map (live_at (o.taken + 1)) y → is_some x ≡ is_some y
+    same_some None None e = refl
+    same_some None (Some d) e = absurd (cc)
+    same_some (Some c) None e = absurd (cc)
+    same_some (Some c) (Some d) e = refl
+
     length_middle : {X : Type 0} (before : List X) (x : X) (after : List X) → length before < length (before ++ x ∷ after)
     length_middle [] x after = omega arith
     length_middle (y ∷ before) x after = omega (arith, length_middle before x after)
@@ -241,6 +262,7 @@ stay_next keeps o number nexts one outs stands within here at so =
           ∙ (ap (λ xs. ahead keeps number ++ xs) (split_seats keeps number within)
           ∙ (ap (λ r. ahead keeps number ++ r ∷ map waited (drop (number + 1) keeps)) became ∙ next_seats keeps number within));
       gives = so.gives;
+      alive = so.alive;
       parts = sym (append-nil outs) ∙ next_outs keeps number outs [] within so.parts at.parts;
     }
 
@@ -268,6 +290,7 @@ tick_heard now number kept (Some d) h nexts outs within here at so =
     let inside : number < length keeps = omega (arith, within, ap (λ xs. length xs) same, count_is keeps o stands.lives) in
     let live : (get_or keeps number nothing).live ≡ Some (live_at o.taken d) = live_there keeps o number (Some d) inside stands.lives (here ∙ ap (λ xs. get_or xs number (Some d)) (sym same)) in
     put_next keeps o number nexts (next_of number h) outs h.outs stands inside refl
+    (is_kept o.kept number d (omega (arith, within, ap (λ xs. length xs) same)) (here ∙ ap (λ xs. get_or xs number (Some d)) (sym same)))
     (heard_ticked o.taken o.slots.freeze (get_or keeps number nothing) d h (seated_here keeps o number inside stands) live (freezes_here keeps o number d inside stands live) (subst (λ n. Becomes n Tick d h) (sym is) at))
     (so keeps o stands is same)
 
@@ -302,5 +325,6 @@ ticked_all now number kept nexts outs all so keeps o stands is same =
       lives = t.lives ∙ (ap₂ (λ xs ys. map live_ticked xs ++ lives_at (o.taken + 1) ys) (take_whole number keeps whole) (drop_whole number o.kept long) ∙ append-nil (map live_ticked keeps));
       seats = t.seats ∙ (ap₂ (λ xs ys. map (remnant_after Tick) xs ++ map waited ys) (take_whole number keeps whole) (drop_whole number keeps whole) ∙ append-nil (map (remnant_after Tick) keeps));
       gives = t.gives;
+      alive = t.alive;
       parts = t.parts ∙ ap (all_parts Tick) (take_whole number keeps whole);
     }

@@ -3,6 +3,7 @@ pub mod Finding
 pub mod Grown
 pub mod Hearing
 pub mod Lowest
+pub mod Placing
 pub mod Remnants
 pub mod Seated
 pub mod Stands

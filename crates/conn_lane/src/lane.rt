@@ -35,7 +35,6 @@ use std::marker::Model;
 use timer_wheel::Wheel;
 
 /// The connections of one lane. Its journal is a legal one at all times.
-#[derive(Drop)]
 pub struct ConnLane {
     alloc: Global,
     head: LaneHead,
@@ -43,6 +42,19 @@ pub struct ConnLane {
     journal: EntryList,
     openings: Openings,
     wheel: Wheel,
+}
+
+impl Drop for ConnLane {
+    fn drop(self) {
+        let Self {
+            alloc: _,
+            head: _,
+            number: _,
+            journal: _journal,
+            openings: _openings,
+            wheel: _wheel,
+        } = self;
+    }
 }
 
 impl Model for ConnLane {
@@ -340,6 +352,14 @@ impl ConnLane {
         ensures value { result ≡ self.journal }
         ensures legal { IsConnJournal self.head self.number self.journal }
     {
-        self.journal
+        let Self {
+            alloc: _,
+            head: _,
+            number: _,
+            journal,
+            openings: _openings,
+            wheel: _wheel,
+        } = self;
+        journal
     }
 }

@@ -2,6 +2,7 @@
 #![tactic(auto)]
 
 mod change;
+mod connections;
 mod index;
 mod kept;
 mod lane;

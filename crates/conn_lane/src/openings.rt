@@ -2,6 +2,7 @@
 ghost use Rattle.std.specs.Prelude.{◌≡◌, ◌≤◌, ◌<◌, ◌+◌, ◌++◌, ◌∷◌, [], ℕ, List, Some, None, map, length, replicate, slice_get, false, IfOk, IfSome, OnOk, OnErr};
 ghost use Rattle.relay_base.specs.declared.words.Event.TheVariants.{Tick};
 ghost use Rattle.relay_base.specs.declared.limits.TheConstants.{MOST_LANES, SLOTS};
+ghost use Rattle.std.specs.Option.{option_map};
 ghost use Rattle.section_model.specs.Lane.{is_tick};
 ghost use Rattle.timer_wheel.specs.declared.due.Due.{Due};
 ghost use Rattle.relay_base.specs.References.{slot_of};
@@ -18,6 +19,7 @@ ghost use Rattle.conn_lane.specs.Inner.Changes.{giving_up, taking, put, put_all,
 ghost use Rattle.conn_lane.specs.Inner.Lowest.{lowest_of};
 
 use crate::change::{Change, NewConnection, Next};
+use crate::connections::Connections;
 use crate::index::Index;
 use crate::kept::{Heard, Kept};
 use crate::waking::follow;
@@ -39,7 +41,7 @@ pub type RefList = PlainList<Ref24>;
 pub struct Openings {
     alloc: Global,
     taken: u64,
-    kept: Vec<Option<Kept>>,
+    kept: Connections,
     slots: Slots,
     index: Index,
 }
@@ -49,7 +51,8 @@ impl Model for Openings {
 
     ghost Value = { OpeningsState };
 
-    ghost view = { λ o. record { taken = o.taken; kept = o.kept.items; slots = o.slots; owners = o.index } };
+    ghost view = { λ o.
+        record { taken = o.taken; kept = o.kept.kept; slots = o.slots; owners = o.index } };
 }
 
 /// The local reference that a message or a request names.
@@ -67,8 +70,8 @@ fn reference_in(event: &Event) -> Option<Ref24>
 }
 
 /// What a tick makes of a connection, unless it is over.
-fn tick(alloc: Global, now: u32, one: &Option<Kept>) -> Result<Option<Heard>, Memory>
-    ensures { IfOk result (λ heard. WokenAt now one.now heard) }
+fn tick(alloc: Global, now: u32, one: Option<&Kept>) -> Result<Option<Heard>, Memory>
+    ensures { IfOk result (λ heard. WokenAt now (option_map (λ k. k.now) one.entry) heard) }
 {
     match one {
         Some(one) => {
@@ -83,19 +86,19 @@ fn tick(alloc: Global, now: u32, one: &Option<Kept>) -> Result<Option<Heard>, Me
 fn ticked(
     alloc: Global,
     now: u32,
-    kept: &[Option<Kept>],
+    kept: &Connections,
     due: &[Due],
 ) -> Result<(Vec<Next>, Outs), Memory>
-    requires wakes { WakesAll now kept.now 0 due.now }
+    requires wakes { WakesAll now kept.now.kept 0 due.now }
     ensures ticked { (keeps : List Remnant) (o : OpeningsState) → Stands keeps o → o.taken ≡ now →
-        o.kept ≡ kept.now → IfOk result (λ r. AreTicked keeps o r.0.items r.1) }
-    ensures woken { IfOk result (λ r. AllWoken due.now kept.now r.0.items) }
+        o.kept ≡ kept.now.kept → IfOk result (λ r. AreTicked keeps o r.0.items r.1) }
+    ensures woken { IfOk result (λ r. AllWoken due.now kept.now.kept r.0.items) }
 {
     let mut nexts = Vec::new(alloc);
     let mut outs = Outs::new(alloc);
     for timer in due {
         let number = timer.conn as usize;
-        if let Some(heard) = tick(alloc, now, &kept[number])? {
+        if let Some(heard) = tick(alloc, now, kept.get(number))? {
             outs.append(heard.outs)?;
             nexts.push(Next {
                 number,
@@ -126,7 +129,7 @@ impl Openings {
         Ok(Openings {
             alloc,
             taken: 0,
-            kept: Vec::new(alloc),
+            kept: Connections::new(alloc),
             slots,
             index,
         })
@@ -166,7 +169,7 @@ impl Openings {
         let Some(number) = self.number_of(event) else {
             return Ok((Change::Nothing, None));
         };
-        let Some(one) = &self.kept[number] else {
+        let Some(one) = self.kept.get(number) else {
             return Ok((Change::Nothing, None));
         };
         match one.hear(self.alloc, self.taken as u32, event)? {
@@ -251,15 +254,15 @@ impl Openings {
     {
         // Room for a connection and for timers is taken here, so that the journal grows last of what may lack memory.
         wheel.reserve_more(change.count())?;
-        self.kept.reserve(1)?;
+        self.kept.reserve()?;
         journal.push(entry)?;
-        follow(wheel, &change, self.kept.len(), self.taken);
+        follow(wheel, &change, self.kept.opened(), self.taken);
         match change {
             Change::Nothing => {}
             Change::Heard(next) => self.put(next),
             Change::Opened(NewConnection { one, this, that }) => {
-                let number = self.kept.len();
-                self.kept.push_reserved(Some(one));
+                let number = self.kept.opened();
+                self.kept.open(one);
                 self.take(this, number);
                 self.take(that, number);
             }
@@ -290,7 +293,7 @@ impl Openings {
             this,
             that,
         } = next;
-        self.kept[number] = one;
+        self.kept.put(number, one);
         self.give_up(this);
         self.give_up(that);
     }

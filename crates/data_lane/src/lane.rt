@@ -18,7 +18,6 @@ use std::mem;
 const REFERENCES: u32 = 1_048_576;
 
 /// The units of one lane. Its journal is a legal one at all times.
-#[derive(Drop)]
 pub struct DataLane {
     alloc: Global,
     head: LaneHead,
@@ -27,6 +26,19 @@ pub struct DataLane {
     /// How many users' units were cut into segments, as far as references tell them apart.
     cut: u32,
     bench: Bench,
+}
+
+impl Drop for DataLane {
+    fn drop(self) {
+        let Self {
+            alloc: _,
+            head: _,
+            number: _,
+            journal: _journal,
+            cut: _,
+            bench: _bench,
+        } = self;
+    }
 }
 
 impl Model for DataLane {
@@ -151,6 +163,14 @@ impl DataLane {
         ensures value { result ≡ self.journal }
         ensures legal { IsDataJournal self.head self.number self.journal }
     {
-        self.journal
+        let Self {
+            alloc: _,
+            head: _,
+            number: _,
+            journal,
+            cut: _,
+            bench: _bench,
+        } = self;
+        journal
     }
 }

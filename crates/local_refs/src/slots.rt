@@ -38,7 +38,8 @@ impl Model for Slots {
 
     ghost Value = { LaneSlots };
 
-    ghost view = { λ s. record { lane = s.lane; freeze = s.freeze; states = swept_all s.passed s.states.items } };
+    ghost view = { λ s.
+        record { lane = s.lane; freeze = s.freeze; states = swept_all s.passed s.states.items } };
 
     ghost invariant = { λ s. (length s.states.items ≡ SLOTS) × (s.lane < MOST_LANES)
         × (s.passed < s.soonest) × (s.soonest ≤ LONGEST) × (s.soonest ≤ soonest_in s.states.items)
@@ -50,7 +51,8 @@ impl Slots {
     pub fn new(alloc: Global, lane: u8, freeze: u32) -> Result<Slots, Memory>
         requires lane { lane < MOST_LANES }
         ensures { let states = replicate SLOTS Free in
-            IfOk result (λ slots. slots ≡ record { lane = lane; freeze = freeze; states = states }) }
+            IfOk result (λ slots.
+                slots ≡ record { lane = lane; freeze = freeze; states = states }) }
     {
         let mut states = Vec::new(alloc);
         states.resize(SLOTS as usize, SlotState::Free)?;

@@ -58,7 +58,8 @@ impl Section<'_> {
         users: &[Ssn],
         found: &[Replicate],
     ) -> Result<Replicate, HeadRefused>
-        ensures { Reads result (replicate_of own users.now found.now self.now.place (members_of self.now)) }
+        ensures { let members = members_of self.now in
+            Reads result (replicate_of own users.now found.now self.now.place members) }
     {
         let ssn = self.user(alloc, users, found)?;
         let point = self.other_point(alloc, own)?;

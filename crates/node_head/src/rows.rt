@@ -79,7 +79,8 @@ impl Section<'_> {
         found: &[Row],
         selector: &Selector,
     ) -> Result<Digits, HeadRefused>
-        ensures value { Reads result (prefix_at found.now selector.now self.now.place (members_of self.now)) }
+        ensures value { let members = members_of self.now in
+            Reads result (prefix_at found.now selector.now self.now.place members) }
         ensures apart { IfOk result (λ d. has_row selector.now d found.now ≡ false) }
     {
         let text = self.text(alloc, "digits")?;

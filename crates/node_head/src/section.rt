@@ -249,7 +249,8 @@ impl<'a> Section<'a> {
     #[tactic(auto, using(crate::proofs::HeadLemmas::failures), unfolding(crate::specs::Keys::number_at))]
     pub fn number(&self, alloc: Global, key: &str, bounds: &Bounds) -> Result<u32, HeadRefused>
         requires { IsBounds bounds.now }
-        ensures value { Reads result (number_at self.now.place (members_of self.now) key.now bounds.now) }
+        ensures value { let members = members_of self.now in
+            Reads result (number_at self.now.place members key.now bounds.now) }
         ensures most { IfOk result (λ n. n ≤ bounds.now.most) }
     {
         let Some(value) = self.value(key) else {
@@ -271,7 +272,8 @@ impl<'a> Section<'a> {
     pub fn octet(&self, alloc: Global, key: &str, bounds: &Bounds) -> Result<u8, HeadRefused>
         requires bounds { IsBounds bounds.now }
         requires small { bounds.now.most < OCTET_VALUES }
-        ensures value { Reads result (number_at self.now.place (members_of self.now) key.now bounds.now) }
+        ensures value { let members = members_of self.now in
+            Reads result (number_at self.now.place members key.now bounds.now) }
         ensures most { IfOk result (λ n. n ≤ bounds.now.most) }
     {
         let number = self.number(alloc, key, bounds)?;
@@ -290,7 +292,8 @@ impl<'a> Section<'a> {
     /// The text at a key.
     #[tactic(auto, using(crate::proofs::HeadLemmas::failures), unfolding(crate::specs::Keys::text_at))]
     pub fn text(&self, alloc: Global, key: &str) -> Result<&'a str, HeadRefused>
-        ensures { ReadsAs (λ t. t.now) result (text_at self.now.place (members_of self.now) key.now) }
+        ensures {
+            ReadsAs (λ t. t.now) result (text_at self.now.place (members_of self.now) key.now) }
     {
         let Some(value) = self.value(key) else {
             return Err(self.refuse(alloc, HeadKind::Missing, key));

@@ -17,7 +17,8 @@ impl Section<'_> {
     #[tactic(auto, unfolding(crate::specs::Timers::ticks_at))]
     fn ticks(&self, alloc: Global, key: &str, default: u32, least: u32) -> Result<u32, HeadRefused>
         requires { default ≤ MOST_TICKS }
-        ensures value { Reads result (ticks_at self.now.place (members_of self.now) key.now default least) }
+        ensures value { let members = members_of self.now in
+            Reads result (ticks_at self.now.place members key.now default least) }
         ensures most { IfOk result (λ n. n ≤ MOST_TICKS) }
     {
         self.number(alloc, key, &Bounds::usual(default, least, MOST_TICKS))

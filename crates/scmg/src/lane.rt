@@ -15,7 +15,6 @@ use std::marker::Model;
 use std::mem;
 
 /// The control lane: it takes edits, status, messages of management, coordinated changes and ticks. Its journal is a legal one at all times.
-#[derive(Drop)]
 pub struct ControlLane {
     alloc: Global,
     head: ControlHead,
@@ -25,13 +24,26 @@ pub struct ControlLane {
     start: Mark<Plant>,
 }
 
+impl Drop for ControlLane {
+    fn drop(self) {
+        let Self {
+            alloc: _,
+            head: _head,
+            journal: _journal,
+            kept: _kept,
+            start: _start,
+        } = self;
+    }
+}
+
 impl Model for ControlLane {
     ghost use Rattle.scmg.specs.Lane.{ControlState};
     ghost use Rattle.scmg.specs.Inner.Kept.{IsLane};
 
     ghost Value = { ControlState };
 
-    ghost view = { λ l. record { head = l.head; start = l.start.value.routing; journal = l.journal } };
+    ghost view = { λ l.
+        record { head = l.head; start = l.start.value.routing; journal = l.journal } };
 
     ghost invariant = { λ l. IsLane l.head l.start.value.routing l.journal l.kept };
 }
@@ -57,7 +69,8 @@ fn prepare(
     event: &ControlEvent,
 ) -> Result<(ControlEntry, Act), Memory>
     ensures entry { let outs = (effect_of head.now kept.now.control event.now).outs in
-        let entry : ControlEntry = record { stamp = stamp; event = event.now; published = None; outs = outs }
+        let entry : ControlEntry =
+            record { stamp = stamp; event = event.now; published = None; outs = outs }
         in IfOk result (λ x. x.0 ≡ entry) }
     ensures act { IfOk result (λ x. x.1 ≡ (effect_of head.now kept.now.control event.now).act) }
 {
@@ -163,7 +176,8 @@ impl ControlLane {
         requires edition { plant.edition ≡ 0 }
         requires users { plant.routing.users ≡ head.now.users }
         ensures { let start = plant.routing
-            in IfOk result (λ lane. lane ≡ record { head = head.now; start = start; journal = [] }) }
+            in IfOk result (λ lane.
+                lane ≡ record { head = head.now; start = start; journal = [] }) }
     {
         let head = copy_of(head)?;
         let start = Mark::after(&plant);
@@ -198,7 +212,14 @@ impl ControlLane {
         ensures value { result ≡ self.journal }
         ensures legal { IsControlJournal self.head self.start self.journal }
     {
-        self.journal
+        let Self {
+            alloc: _,
+            head: _head,
+            journal,
+            kept: _kept,
+            start: _start,
+        } = self;
+        journal
     }
 
     /// Takes an event: it takes all its memory, publishes the change where there is one, and then changes the lane. The publisher has published

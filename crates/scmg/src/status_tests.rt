@@ -30,7 +30,10 @@ impl Model for StatusTests {
 
     ghost Value = { TestsState };
 
-    ghost view = { λ s. record { tests = map (after_quiet s.passed) s.list.items; has_room = nat_lt (vec_len s.list) (vec_capacity s.list) } };
+    ghost view = { λ s.
+        record {
+            tests = map (after_quiet s.passed) s.list.items;
+            has_room = nat_lt (vec_len s.list) (vec_capacity s.list) } };
 
     ghost invariant = { λ s. All (λ t. s.first ≤ t.left) s.list.items };
 }

@@ -35,7 +35,7 @@ pub struct Alarm {
 #[derive(Drop)]
 pub struct DueList {
     timers: Vec<Due>,
-    room: u32,
+    room: usize,
 }
 
 impl Model for DueList {
@@ -62,12 +62,12 @@ impl DueList {
     }
 
     /// Takes memory for so many timers in all.
-    pub fn reserve(&mut self, timers: u32) -> Result<(), Memory>
+    pub fn reserve(&mut self, timers: usize) -> Result<(), Memory>
         ensures ok { OnOk result (self.new ≡ record self.old { room = max self.old.room timers }) }
         ensures err { OnErr result (self.new ≡ self.old) }
     {
         if timers > self.room {
-            self.timers.reserve(timers as usize)?;
+            self.timers.reserve(timers)?;
             self.room = timers;
         }
         Ok(())

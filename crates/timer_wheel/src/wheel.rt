@@ -24,7 +24,7 @@ pub struct Wheel {
     /// The nodes of no timer. All nodes together are as many as the timers that there is room for.
     spare: Vec<Box<Node>>,
     alloc: Global,
-    room: u32,
+    room: usize,
     /// The ticks that were taken since the count began.
     passed: u64,
 }
@@ -40,7 +40,8 @@ impl Model for Wheel {
 
     ghost view = { λ w. record { armed = armed_at w.passed (alarms w.tree); room = w.room } };
 
-    ghost invariant = { λ w. IsTurned w.passed w.tree × (vec_len w.spare + length (alarms w.tree) ≡ w.room)
+    ghost invariant = { λ w.
+        IsTurned w.passed w.tree × (vec_len w.spare + length (alarms w.tree) ≡ w.room)
         × (w.room ≤ vec_capacity w.spare) × (w.passed ≤ 2 ^ 63) };
 }
 
@@ -63,11 +64,19 @@ impl Wheel {
         ensures ok { OnOk result (self.new ≡ record self.old { room = max self.old.room timers }) }
         ensures err { OnErr result (self.new ≡ self.old) }
     {
+        self.reserve_all(timers as usize)
+    }
+
+    /// Takes memory for so many running timers in all.
+    fn reserve_all(&mut self, timers: usize) -> Result<(), Memory>
+        ensures ok { OnOk result (self.new ≡ record self.old { room = max self.old.room timers }) }
+        ensures err { OnErr result (self.new ≡ self.old) }
+    {
         if timers <= self.room {
             return Ok(());
         }
         let before = self.spare.len();
-        self.spare.reserve(timers as usize)?;
+        self.spare.reserve(timers)?;
         match grow(self.alloc, &mut self.spare, timers - self.room) {
             Ok(()) => {
                 self.room = timers;
@@ -81,30 +90,26 @@ impl Wheel {
     }
 
     /// How many timers run.
-    pub fn running(&self) -> u32
+    pub fn running(&self) -> usize
         ensures { result ≡ length self.now.armed }
     {
-        self.room - self.spare.len() as u32
+        self.room - self.spare.len()
     }
 
-    /// Takes memory for so many timers beside those that run.
+    /// Takes memory for so many timers beside those that run. No memory has room for more than a `usize` counts.
     pub fn reserve_more(&mut self, more: usize) -> Result<(), Memory>
         ensures ok { let timers = length self.old.armed + more in
             OnOk result (self.new ≡ record self.old { room = max self.old.room timers }) }
         ensures err { OnErr result (self.new ≡ self.old) }
     {
-        let Ok(more) = u32::try_from(more) else {
-            return Err(Memory);
-        };
-        match self.running().checked_add(more) {
-            Some(timers) => self.reserve(timers),
-            None => Err(Memory),
-        }
+        let timers = self.running().checked_add(more).ok_or(Memory)?;
+        self.reserve_all(timers)
     }
 
     /// Stops a timer, if it runs.
     pub fn cancel(&mut self, conn: u32, timer: u8)
-        ensures { self.new ≡ record self.old { armed = others (timer_of conn timer) self.old.armed } }
+        ensures {
+            self.new ≡ record self.old { armed = others (timer_of conn timer) self.old.armed } }
     {
         let (before, behind) = part(self.tree.take(), Due { conn, timer }, &mut self.spare);
         self.tree = join(before, behind);
@@ -144,7 +149,7 @@ impl Wheel {
 }
 
 /// Makes so many more nodes.
-fn grow(alloc: Global, spare: &mut Vec<Box<Node>>, more: u32) -> Result<(), Memory>
+fn grow(alloc: Global, spare: &mut Vec<Box<Node>>, more: usize) -> Result<(), Memory>
     requires room { vec_len spare.old + more ≤ vec_capacity spare.old }
     ensures ok { OnOk result (vec_len spare.new ≡ vec_len spare.old + more) }
     ensures longer { vec_len spare.old ≤ vec_len spare.new }

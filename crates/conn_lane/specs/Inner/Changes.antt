@@ -1,5 +1,5 @@
 -- What an event changes in what a lane keeps.
-use Rattle.std.specs.Prelude.{◌≡◌, ℕ, ◌+◌, ◌<◌, List, [], ◌∷◌, ◌++◌, length, slice_set, Option, Some, None, IfSome}
+use Rattle.std.specs.Prelude.{◌≡◌, ℕ, ◌+◌, ◌<◌, true, List, [], ◌∷◌, ◌++◌, length, get_or, slice_set, Option, Some, None, is_some, IfSome}
 use Rattle.relay_base.specs.References.{slot_of}
 use Rattle.relay_base.specs.declared.limits.TheConstants.{SLOTS}
 use Rattle.local_refs.specs.Slots.{LaneSlots, free_references, with_state, frozen_for, after_tick, IsHeld}
@@ -80,6 +80,7 @@ CanGiveUp mine slots = IfSome mine (λ m. IsHeld slots m × (slot_of m < SLOTS +
 
 pub record CanBePut (next : Next) (o : OpeningsState) : Type 0 where
   pub number : next.number < length o.kept
+  pub alive : is_some (get_or o.kept next.number None) ≡ true
   pub this : CanGiveUp next.this o.slots
   pub that : CanGiveUp next.that (given_up next.this o.slots)
 

@@ -1,5 +1,5 @@
 -- A tick over what a lane keeps: freezes are lowered, and then what ends give up in this tick begins to be frozen.
-use Rattle.std.specs.Prelude.{◌≡◌, ℕ, ◌+◌, ◌<◌, false, List, [], ◌∷◌, ◌++◌, length, map, take, drop, get_or, slice_set, Option, Some, None, option_map, IfSome}
+use Rattle.std.specs.Prelude.{◌≡◌, ℕ, ◌+◌, ◌<◌, true, false, List, [], ◌∷◌, ◌++◌, length, map, take, drop, get_or, slice_set, Option, Some, None, option_map, is_some, IfSome}
 use Rattle.relay_base.specs.declared.words.Event.TheVariants.{Tick}
 use Rattle.relay_base.specs.declared.words.Output.{Output}
 use Rattle.section_coupling.specs.Duos.{DuoState}
@@ -39,6 +39,11 @@ abbrev pub put_lives : List Next → List (Option DuoState) → List (Option Duo
 put_lives [] kept = kept
 put_lives (next ∷ more) kept = put_lives more (slice_set kept next.number next.one)
 
+-- each is kept yet where its next is put in its place
+abbrev pub AllAreKept : List Next → List (Option DuoState) → Type 0
+AllAreKept [] kept = Unit {0}
+AllAreKept (next ∷ more) kept = (is_some (get_or kept next.number None) ≡ true) × AllAreKept more (slice_set kept next.number next.one)
+
 -- an end that isn't gone has the reference that it gives up
 abbrev pub HasHeld : Option ℕ → Option Seat → Type 0
 HasHeld mine seat = IfSome mine (λ m. seat ≡ Some (record { mine = m; left = None }))
@@ -59,6 +64,7 @@ pub record TickedTo (keeps : List Remnant) (o : OpeningsState) (number : ℕ) (n
   pub seats : put_seats o.slots.freeze nexts (map waited keeps)
       ≡ map (remnant_after Tick) (take number keeps) ++ map waited (drop number keeps)
   pub gives : AllMayGive o.slots.freeze nexts (map waited keeps)
+  pub alive : AllAreKept nexts o.kept
   pub parts : outs ≡ all_parts Tick (take number keeps)
 
 -- at all
@@ -66,6 +72,7 @@ pub record AreTicked (keeps : List Remnant) (o : OpeningsState) (nexts : List Ne
   pub lives : lives_at (o.taken + 1) (put_lives nexts o.kept) ≡ map live_ticked keeps
   pub seats : put_seats o.slots.freeze nexts (map waited keeps) ≡ map (remnant_after Tick) keeps
   pub gives : AllMayGive o.slots.freeze nexts (map waited keeps)
+  pub alive : AllAreKept nexts o.kept
   pub parts : outs ≡ all_parts Tick keeps
 
 -- at one, whose connection may be over

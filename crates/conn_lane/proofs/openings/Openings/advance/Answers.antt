@@ -7,8 +7,8 @@ pub loop-next-init : goal.loop-next-init
 loop-next-init c =
     let S : Type 0 = OpeningsState in
     let items = c.into_iter-next-iterator.ensures.into_iter_gives.0 in
-    let same : ◌≡◌ {A = S} (record { taken = c.self.inside.taken + 1; kept = c.self.inside.kept.items; slots = c.tick.new.self; owners = c.self.inside.index }) (ticked c.args.self.now) =
-    ap (λ s. record { taken = c.self.inside.taken + 1; kept = c.self.inside.kept.items; slots = s; owners = c.self.inside.index }) c.tick.ensures ∙ ap ticked c.self.view_is in
+    let same : ◌≡◌ {A = S} (record { taken = c.self.inside.taken + 1; kept = c.self.inside.kept.kept; slots = c.tick.new.self; owners = c.self.inside.index }) (ticked c.args.self.now) =
+    ap (λ s. record { taken = c.self.inside.taken + 1; kept = c.self.inside.kept.kept; slots = s; owners = c.self.inside.index }) c.tick.ensures ∙ ap ticked c.self.view_is in
     record {
       may_go_on = tt;
       ends = tt;

@@ -6,10 +6,10 @@ use Rattle.conn_lane.proofs.openings.Openings.write.Goals as goal
 
 pub follow-requires-clause-below : goal.follow-requires-clause-below
 follow-requires-clause-below c =
-    let many : length c.args.self.now.kept ≡ c.len.result = omega (
+    let many : length c.args.self.now.kept ≡ c.opened.result = omega (
       arith,
       ap (λ (v : OpeningsState). length v.kept) c.self.view_is,
-      ap (λ xs. length xs) c.in_ok-reserve.ensures.items,
-      c.len.ensures,
+      ap (λ xs. length xs) c.in_ok-reserve.ensures.kept,
+      c.opened.ensures,
     ) in
     subst (λ n. AreBelow n c.args.change) many (below_fits c.args.change c.args.self.now c.requires.fits)
