@@ -1,0 +1,6 @@
+//! What is written of a book: its print, the line of its counts, or the M3UA messages of what it sends.
+#![tactic(auto)]
+
+mod report;
+
+pub use report::{Report, write_report};

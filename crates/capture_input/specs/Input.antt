@@ -1,0 +1,71 @@
+-- What is read of a source, and the capture that it states.
+use Rattle.std.specs.Prelude.{◌≡◌, ◌⊎◌, ℕ, codes, List, Option, Ok, Err}
+use Rattle.std.specs.declared.result.Result.{Result}
+use Rattle.std.specs.Io.KnownBytes.{Consumes, IsAtEnd}
+use Rattle.relay_base.specs.Streams.{TookMore}
+use Rattle.relay_base.specs.declared.limits.TheConstants.{MOST_BYTES}
+use Rattle.node_head.specs.declared.fault.HeadFault.{HeadFault}
+use Rattle.capture_form.specs.Capture.{capture_of}
+use Rattle.capture_form.specs.declared.fault.LineFault.{LineFault}
+use Rattle.capture_form.specs.declared.fault.Limit.{Limit}
+use Rattle.capture_form.specs.declared.fault.CaptureFault.TheVariants as refused
+use Rattle.capture_form.specs.declared.capture.Capture.{Capture}
+use Rattle.m3ua_port.specs.declared.fault.PortFault.{PortFault}
+use Rattle.m3ua_capture.specs.Note.{stream_note}
+use Rattle.m3ua_capture.specs.Streams.{at_capture, stream_capture}
+use Rattle.m3ua_capture.specs.declared.fault.StreamFault.{StreamFault}
+use Rattle.m3ua_capture.specs.declared.fault.StreamFault.TheVariants as stream
+use Rattle.capture_input.specs.declared.input.Form.{Form}
+use Rattle.capture_input.specs.declared.input.Form.TheVariants.{Lines, Stream}
+
+-- The bytes that a device tells before a call and after it: those that a source still has, or those that a sink holds.
+pub record Bytes : Type 0 where
+  pub before : Option (List ℕ)
+  pub after : Option (List ℕ)
+
+abbrev pub bytes : Option (List ℕ) → Option (List ℕ) → Bytes
+bytes before after = record { before = before; after = after }
+
+-- the capture that an input states, or its first fault
+abbrev pub input_of : Form → List ℕ → Result Capture StreamFault
+input_of Lines came = at_capture (capture_of came)
+input_of Stream came = stream_capture came
+
+-- the source was read to its end, and this is said of what its bytes state
+abbrev pub ReadAs : Form → Bytes → (Result Capture StreamFault → Type 0) → Type 0
+ReadAs form read P = (came : List ℕ) × Consumes read.before read.after came × IsAtEnd read.after × P (input_of form came)
+
+-- one byte more than an input may have was taken
+abbrev pub ReadTooMuch : Bytes → Type 0
+ReadTooMuch read = TookMore read.before read.after MOST_BYTES
+
+-- the first fault is of the head; of a line; a passed limit; of a message; and this is said of its note
+abbrev pub IsHeadFault : (List ℕ → Type 0) → Result Capture StreamFault → Type 0
+IsHeadFault Said parts = (f : HeadFault) × (let fault = stream.Capture (refused.Head f) in (parts ≡ Err fault) × Said (stream_note fault))
+
+abbrev pub IsLineFault : (List ℕ → Type 0) → Result Capture StreamFault → Type 0
+IsLineFault Said parts = (f : LineFault) × (let fault = stream.Capture (refused.Line f) in (parts ≡ Err fault) × Said (stream_note fault))
+
+abbrev pub IsTooLong : (List ℕ → Type 0) → Result Capture StreamFault → Type 0
+IsTooLong Said parts = (l : Limit) × (let fault = stream.Capture (refused.TooLong l) in (parts ≡ Err fault) × Said (stream_note fault))
+
+abbrev pub IsPortFault : (List ℕ → Type 0) → Result Capture StreamFault → Type 0
+IsPortFault Said parts = (f : PortFault) × (let fault = stream.Port f in (parts ≡ Err fault) × Said (stream_note fault))
+
+-- too many bytes came, or they pass another limit
+abbrev pub PassesLimit : Form → Bytes → (List ℕ → Type 0) → Type 0
+PassesLimit form read Said = (ReadTooMuch read × Said (codes "too long bytes\n")) ⊎ ReadAs form read (IsTooLong Said)
+
+-- ---- the status of bytes that are told
+
+abbrev pub due_status : Result Capture StreamFault → ℕ
+due_status (Ok capture) = 0
+due_status (Err (stream.Capture (refused.Head f))) = 2
+due_status (Err (stream.Capture (refused.Line f))) = 3
+due_status (Err (stream.Capture (refused.TooLong l))) = 4
+due_status (Err (stream.Capture refused.Memory)) = 7
+due_status (Err (stream.Port f)) = 8
+
+-- the status is that of the bytes, or memory ran out
+abbrev pub IsDue : Form → ℕ → List ℕ → Type 0
+IsDue form status came = (status ≡ due_status (input_of form came)) ⊎ (status ≡ 7)

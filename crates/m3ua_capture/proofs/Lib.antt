@@ -1,0 +1,3 @@
+mod FrameLemmas
+mod PartLemmas
+pub mod CaptureLemmas

@@ -1,0 +1,3 @@
+pub mod Note
+pub mod Streams
+pub mod Inner
