@@ -10,6 +10,7 @@ use Rattle.clap.specs.Takes.{default_passes, is_valid, level_passes, settle_pass
 use Rattle.clap.specs.declared.parser.ArgMatches.{ArgMatches}
 use Rattle.clap.specs.declared.parser.ArgMatches.TheViews.{out-ArgMatches}
 use Rattle.clap.proofs.OnLiterals.{clap_on_literals}
+use Rattle.relay_base.specs.declared.limits.TheConstants.{MOST_GENERATED_LINES}
 use Rattle.relay_base.specs.Decimal.{is_number, digits_value, number_of}
 use Rattle.command_words.specs.Commands.{same, within, number_in, generate_of, generate_in, command_in}
 use Rattle.command_words.specs.Inner.Parser.{generate_app, relay_app, command_found, command_of_rows, is_refused}
@@ -194,9 +195,9 @@ gen-plain a b xs ys first second = record {
 
 gen-holds : (number lines : List ℕ) (c : Command) → generate_in number lines ≡ Some c → Holds (codes "gen" ∷ number ∷ lines ∷ [])
 gen-holds number lines c h =
-    let some = given_some (number_in 0 4294967295 number) (number_in 1 199000 lines) c h in
+    let some = given_some (number_in 0 4294967295 number) (number_in 1 MOST_GENERATED_LINES lines) c h in
     let n = begins 0 4294967295 some.0 number some.2 in
-    let l = begins 1 199000 some.1 lines some.3 in
+    let l = begins 1 MOST_GENERATED_LINES some.1 lines some.3 in
     subst (λ w. Holds (codes "gen" ∷ w ∷ lines ∷ [])) (sym n.whole)
     (subst (λ w. Holds (codes "gen" ∷ (n.first ∷ n.more) ∷ w ∷ [])) (sym l.whole) (gen-plain n.first l.first n.more l.more n.plain l.plain))
 

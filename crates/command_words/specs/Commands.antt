@@ -2,6 +2,7 @@
 use Rattle.std.specs.Prelude.{ℕ, ◌&&◌, nat_eq, nat_le, codes, Bool, List, [], ◌∷◌, if◌then◌else◌, Option, Some, None}
 use lib.Pointwise.{pointwise}
 use Rattle.relay_base.specs.Decimal.{number_of}
+use Rattle.relay_base.specs.declared.limits.TheConstants.{MOST_GENERATED_LINES}
 use Rattle.command_words.specs.declared.command.Command.{Command}
 use Rattle.command_words.specs.declared.command.Command.TheVariants.{Run, Generate}
 
@@ -27,7 +28,7 @@ generate_of _ _ = None
 
 -- what `gen` is given: a number, and how many lines
 abbrev pub generate_in : List ℕ → List ℕ → Option Command
-generate_in number lines = generate_of (number_in 0 4294967295 number) (number_in 1 199000 lines)
+generate_in number lines = generate_of (number_in 0 4294967295 number) (number_in 1 MOST_GENERATED_LINES lines)
 
 -- the command that words state: `run` alone, or `gen` with a number and lines
 abbrev pub command_in : List (List ℕ) → Option Command

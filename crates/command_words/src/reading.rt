@@ -11,6 +11,7 @@ use crate::parser::parser;
 use clap::error::ErrorKind;
 use clap::{ArgMatches, Error};
 use relay_base::Memory;
+use relay_base::limits::MOST_GENERATED_LINES;
 use std::alloc::Global;
 
 fn is_dashed(word: &str) -> bool
@@ -49,7 +50,7 @@ fn generate_in(number: &str, lines: &str) -> Option<Command>
     ensures { result ≡ generate_in number.now lines.now }
 {
     let number = number_in(0, 4_294_967_295, number)?;
-    let lines = number_in(1, 199_000, lines)?;
+    let lines = number_in(1, MOST_GENERATED_LINES, lines)?;
     Some(Command::Generate { number, lines })
 }
 
@@ -69,7 +70,8 @@ fn command_found(
     lines: Option<&str>,
     words: &[String],
 ) -> Option<Command>
-    ensures { result ≡ command_found name.now (given number.entry) (given lines.entry) (texts words.now) }
+    ensures { let asked = given number.entry in let most = given lines.entry in
+        result ≡ command_found name.now asked most (texts words.now) }
 {
     match words {
         [word] if name == "run" && word.as_str() == name => Some(Command::Run),
@@ -94,7 +96,8 @@ fn command_of_matches(matches: &ArgMatches<'_>, words: &[String]) -> Option<Comm
 
 /// What comes of an error of the parser: no command, or want of memory.
 fn refusal(error: &Error) -> Result<Option<Command>, Memory>
-    ensures { IfOk result (λ command. (command ≡ None) × (kind_of error.now ≢ ErrorKind.OutOfMemory)) }
+    ensures { IfOk result (λ command.
+        (command ≡ None) × (kind_of error.now ≢ ErrorKind.OutOfMemory)) }
 {
     match error.kind() {
         ErrorKind::OutOfMemory => Err(Memory),

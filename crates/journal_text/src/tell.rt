@@ -73,7 +73,8 @@ fn conn_text(
     calling: &Option<BoxedOctets>,
     body: &Option<BoxedOctets>,
 ) -> Result<String, AllocError>
-    ensures { Gives result (tell_text (Tell.Conn mine class credit called.now calling.now body.now)) }
+    ensures { let told = Tell.Conn mine class credit called.now calling.now body.now in
+        Gives result (tell_text told) }
 {
     let mine = mine.number();
     let called = octets_text(alloc, called.as_slice())?;

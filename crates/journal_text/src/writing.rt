@@ -140,7 +140,8 @@ fn carry_book<K: Sink>(
 /// in memory whole. After an error a front of it was written.
 pub fn write_book<K: Sink>(alloc: Global, book: &Book, out: &mut K) -> Result<(), WriteFault>
     ensures ok { OnOk result (Appends (K.held out.old) (K.held out.new) (book_text book.now)) }
-    ensures err { OnErr result (AppendedPart (K.held out.old) (K.held out.new) (book_text book.now)) }
+    ensures err { let text = book_text book.now in
+        OnErr result (AppendedPart (K.held out.old) (K.held out.new) text) }
     ensures fault { result ≡ Err WriteFault.Sink → Rose (K.faults out.old) (K.faults out.new) }
     ensures kept { result ≢ Err WriteFault.Sink → K.faults out.new ≡ K.faults out.old }
 {

@@ -1,6 +1,7 @@
 -- What a command states.
 use Rattle.std.proofs.Common.{◌≡◌, ℕ, ◌≤◌, ◌&&◌, nat_le, codes, Bool, true, false, List, [], ◌∷◌, Some, None, refl, subst, if◌then◌else◌, leb-true}
 use Rattle.std.specs.Prelude.{Option}
+use Rattle.relay_base.specs.declared.limits.TheConstants.{MOST_GENERATED_LINES}
 use Rattle.command_words.specs.declared.command.Command.{Command}
 use Rattle.command_words.specs.declared.command.Command.TheVariants.{Run, Generate}
 use Rattle.relay_base.specs.Decimal.{number_of}
@@ -37,11 +38,11 @@ only-if true x number lines most f e = f e
 only-if false x number lines most f e = absurd (cc)
 
 -- `gen` has at most 199,000 lines
-pub lines-most : (words : List (List ℕ)) (number lines : ℕ) → command_in words ≡ Some (Generate number lines) → lines ≤ 199000
+pub lines-most : (words : List (List ℕ)) (number lines : ℕ) → command_in words ≡ Some (Generate number lines) → lines ≤ MOST_GENERATED_LINES
 lines-most [] number lines e = absurd (cc)
-lines-most (word ∷ []) number lines e = only-if (same word (codes "run")) (Some Run) number lines 199000 (λ f. absurd (cc)) e
+lines-most (word ∷ []) number lines e = only-if (same word (codes "run")) (Some Run) number lines MOST_GENERATED_LINES (λ f. absurd (cc)) e
 lines-most (word ∷ first ∷ []) number lines e = absurd (cc)
 lines-most (word ∷ first ∷ last ∷ []) number lines e =
-    only-if (same word (codes "gen")) (generate_in first last) number lines 199000
-    (made-most (number_in 0 4294967295 first) (number_in 1 199000 last) number lines 199000 (in-most 1 199000 last)) e
+    only-if (same word (codes "gen")) (generate_in first last) number lines MOST_GENERATED_LINES
+    (made-most (number_in 0 4294967295 first) (number_in 1 MOST_GENERATED_LINES last) number lines MOST_GENERATED_LINES (in-most 1 MOST_GENERATED_LINES last)) e
 lines-most (word ∷ first ∷ last ∷ next ∷ more) number lines e = absurd (cc)

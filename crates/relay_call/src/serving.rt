@@ -1,6 +1,7 @@
 //! What each command does, up to the reason why it stops.
 ghost use Rattle.std.specs.Prelude.{◌≡◌, ◌≢◌, ◌<◌, ◌≤◌, ◌^◌, ◌⊎◌, ◌++◌, codes, ℕ, IfOk, IfErr, OnOk, OnErr, Ok, Err, Some, None, map, string_bytes, length};
 ghost use Rattle.relay_base.specs.Causes.{Rose};
+ghost use Rattle.relay_base.specs.declared.limits.TheConstants.{MOST_GENERATED_LINES};
 ghost use Rattle.journal_text.specs.Book.{IsEmpty};
 ghost use Rattle.node_head.specs.Ranges.{IsHead};
 ghost use Rattle.capture_form.specs.Events.{all_events, IsStamped};
@@ -129,7 +130,7 @@ fn generate<R: Threads + Wait + Sync, K: Sink, P: Pace>(
     pace: &P,
     book: &mut Book,
 ) -> Result<(), Stop>
-    requires lines { lines ≤ 199000 }
+    requires lines { lines ≤ MOST_GENERATED_LINES }
     requires empty { IsEmpty book.old }
     ensures ok { let written = bytes (K.held out.old) (K.held out.new) in
         let capture = generated_capture number lines in

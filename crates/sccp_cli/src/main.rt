@@ -10,7 +10,7 @@ use relay_call::relay;
 use std::alloc::{AllocFailed, Global};
 use std::env::Args;
 use std::process::ExitCode;
-use std::{env, io};
+use std::{env, io, mem};
 
 /// The words after the program's name, in their order.
 fn words(alloc: Global, args: Args) -> Result<Vec<String>, AllocFailed<String>>
@@ -46,7 +46,7 @@ fn main(rt: HostRuntime) -> ExitCode {
         faults: 0,
     };
     let mut book = Book::new(alloc);
-    ExitCode::from(relay(
+    let status = relay(
         &rt,
         alloc,
         words.as_slice(),
@@ -55,5 +55,8 @@ fn main(rt: HostRuntime) -> ExitCode {
         &mut notes,
         &NoPace,
         &mut book,
-    ))
+    );
+    // the process ends: its memory is given back whole, and not entry by entry
+    mem::forget(book);
+    ExitCode::from(status)
 }
