@@ -52,7 +52,7 @@ impl Slots {
         requires lane { lane < MOST_LANES }
         ensures { let states = replicate SLOTS Free in
             IfOk result (λ slots.
-                slots ≡ record { lane = lane; freeze = freeze; states = states }) }
+            slots ≡ record { lane = lane; freeze = freeze; states = states }) }
     {
         let mut states = Vec::new(alloc);
         states.resize(SLOTS as usize, SlotState::Free)?;

@@ -292,8 +292,7 @@ impl<'a> Section<'a> {
     /// The text at a key.
     #[tactic(auto, using(crate::proofs::HeadLemmas::failures), unfolding(crate::specs::Keys::text_at))]
     pub fn text(&self, alloc: Global, key: &str) -> Result<&'a str, HeadRefused>
-        ensures {
-            ReadsAs (λ t. t.now) result (text_at self.now.place (members_of self.now) key.now) }
+        ensures { ReadsAs (λ t. t.now) result (text_at self.now.place (members_of self.now) key.now) }
     {
         let Some(value) = self.value(key) else {
             return Err(self.refuse(alloc, HeadKind::Missing, key));

@@ -70,7 +70,7 @@ fn prepare(
 ) -> Result<(ControlEntry, Act), Memory>
     ensures entry { let outs = (effect_of head.now kept.now.control event.now).outs in
         let entry : ControlEntry =
-            record { stamp = stamp; event = event.now; published = None; outs = outs }
+        record { stamp = stamp; event = event.now; published = None; outs = outs }
         in IfOk result (λ x. x.0 ≡ entry) }
     ensures act { IfOk result (λ x. x.1 ≡ (effect_of head.now kept.now.control event.now).act) }
 {
@@ -177,7 +177,7 @@ impl ControlLane {
         requires users { plant.routing.users ≡ head.now.users }
         ensures { let start = plant.routing
             in IfOk result (λ lane.
-                lane ≡ record { head = head.now; start = start; journal = [] }) }
+            lane ≡ record { head = head.now; start = start; journal = [] }) }
     {
         let head = copy_of(head)?;
         let start = Mark::after(&plant);

@@ -32,8 +32,9 @@ impl Model for StatusTests {
 
     ghost view = { λ s.
         record {
-            tests = map (after_quiet s.passed) s.list.items;
-            has_room = nat_lt (vec_len s.list) (vec_capacity s.list) } };
+          tests = map (after_quiet s.passed) s.list.items;
+          has_room = nat_lt (vec_len s.list) (vec_capacity s.list);
+        } };
 
     ghost invariant = { λ s. All (λ t. s.first ≤ t.left) s.list.items };
 }

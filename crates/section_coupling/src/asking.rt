@@ -144,7 +144,7 @@ fn user_asks(
     requires event { event.now ≡ Requested user.side.ssn request.now }
     ensures asks { IfOk result (λ r.
         user_asks (asking_cell user.side.state request.now) request.now (user_at user)
-            ≡ (user_at r.0, r.1)) }
+        ≡ (user_at r.0, r.1)) }
     ensures sound { IfOk result (λ r. SoundOwner r.0 × SoundActed r.1) }
 {
     let cell = asking_cell(user.side.state, request);

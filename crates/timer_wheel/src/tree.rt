@@ -151,8 +151,7 @@ pub(crate) fn without_due(tree: Tree, tick: u64, spare: &mut Vec<Box<Node>>) -> 
     requires room { vec_len spare.old + length (alarms tree) ≤ vec_capacity spare.old }
     ensures alarms { alarms result ≡ filter (not_fires tick) (alarms tree) }
     ensures sound { IsSound result }
-    ensures nodes {
-        vec_len spare.new + length (alarms result) ≡ vec_len spare.old + length (alarms tree) }
+    ensures nodes { vec_len spare.new + length (alarms result) ≡ vec_len spare.old + length (alarms tree) }
     ensures capacity { vec_capacity spare.new ≡ vec_capacity spare.old }
 {
     match tree {

@@ -108,8 +108,7 @@ impl Wheel {
 
     /// Stops a timer, if it runs.
     pub fn cancel(&mut self, conn: u32, timer: u8)
-        ensures {
-            self.new ≡ record self.old { armed = others (timer_of conn timer) self.old.armed } }
+        ensures { self.new ≡ record self.old { armed = others (timer_of conn timer) self.old.armed } }
     {
         let (before, behind) = part(self.tree.take(), Due { conn, timer }, &mut self.spare);
         self.tree = join(before, behind);
