@@ -1,5 +1,7 @@
 -- What an end hands back.
 use Rattle.std.proofs.Common.{◌≡◌, ℕ, zero, suc, ◌&&◌, not, nat_lt, length, Bool, true, false, List, [], ◌∷◌, ◌++◌, fold, if◌then◌else◌, Some, None, refl, subst, sym, ap, ◌∙◌}
+use Rattle.relay_base.specs.declared.causes.TheConstants.{RELEASE_ACCESS_CONGESTION}
+use Rattle.relay_base.specs.declared.limits.TheConstants.{LONGEST_TEXT}
 use Rattle.section_model.specs.declared.cell.Cell.{Cell}
 use Rattle.section_model.specs.declared.cell.Cell.TheVariants as cell
 use Rattle.section_model.specs.declared.hand.Hand.{Hand}
@@ -175,9 +177,9 @@ user_answers cell.TellDisconnect h x = takes h
 user_answers cell.TellUnit h x = takes h
   where
     takes : (h : Hand) → AreAnswers (hands_of (collects h x).1)
-    takes (hand.Unit more body) = by_tests (nat_lt 8192 (length (x.text ++ body))) more
+    takes (hand.Unit more body) = by_tests (nat_lt LONGEST_TEXT (length (x.text ++ body))) more
       where
-        by_tests : (a b : Bool) → (let r : User × Acted = (if a then (record x { state = Gone }, record { first = hand.End 0x07 None None ∷ []; outs = output_to x (tell.Disc x.mine 0x07 None) ∷ []; then = [] })
+        by_tests : (a b : Bool) → (let r : User × Acted = (if a then (record x { state = Gone }, record { first = hand.End RELEASE_ACCESS_CONGESTION None None ∷ []; outs = output_to x (tell.Disc x.mine RELEASE_ACCESS_CONGESTION None) ∷ []; then = [] })
             else (if b then (record x { text = x.text ++ body }, gives_then [] (hand.Left 1 false ∷ []))
             else (record x { text = [] }, gives_then (output_to x (tell.Text x.mine (x.text ++ body)) ∷ []) (hand.Left 1 false ∷ [])))) in AreAnswers (hands_of r.1))
         by_tests true b = (tt, tt)

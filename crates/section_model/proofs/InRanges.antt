@@ -3,6 +3,7 @@ use Rattle.std.proofs.Common.{ℕ, ◌+◌, ◌≤◌, ◌==◌, ◌&&◌, nat_l
 use Rattle.std.specs.Prelude.{Option, Some, None, IsTrue}
 use Rattle.std.specs.List.{list_all}
 use Rattle.std.proofs.lemmas.Bool.{and_from}
+use Rattle.relay_base.specs.declared.limits.TheConstants.{GREATEST_OCTET, LONGEST_DATA, LONGEST_EXPEDITED, LONGEST_PARAMETER}
 use Rattle.q713_shape.specs.Format.{is_option_length}
 use Rattle.q713_shape.specs.Writing.{have_lengths, is_option, are_options, fits_pointer, pointers, optional_skip_of, are_in_range}
 use Rattle.q713_codec.specs.Names.{Message}
@@ -26,32 +27,32 @@ one name (Some octet) h = h
 
 called-option : (x : Option (List ℕ)) → IsAddress x → IsTrue (is_option 0x03 x)
 called-option None h = refl
-called-option (Some octets) h = le-leb (length octets) 255 h
+called-option (Some octets) h = le-leb (length octets) LONGEST_PARAMETER h
 
 calling-option : (x : Option (List ℕ)) → IsAddress x → IsTrue (is_option 0x04 x)
 calling-option None h = refl
-calling-option (Some octets) h = le-leb (length octets) 255 h
+calling-option (Some octets) h = le-leb (length octets) LONGEST_PARAMETER h
 
 data-option : (x : Option (List ℕ)) → IsData x → IsTrue (is_option 0x0F x)
 data-option None h = refl
-data-option (Some octets) h = both (le-leb 1 (length octets) h.0) (le-leb (length octets) 128 h.1)
+data-option (Some octets) h = both (le-leb 1 (length octets) h.0) (le-leb (length octets) LONGEST_DATA h.1)
 
 -- the only variable parameter
 only : (least most : ℕ) (octets : List ℕ) → IsWithin least most octets → IsTrue ((nat_le least (length octets) && nat_le (length octets) most) && true)
 only least most octets h = both (both (le-leb least (length octets) h.0) (le-leb (length octets) most h.1)) refl
 
 -- the pointer of the optional part
-skip-fits : (before size : ℕ) → before ≤ 254 → IsTrue (fits_pointer false (optional_skip_of before size))
+skip-fits : (before size : ℕ) → 1 + before ≤ GREATEST_OCTET → IsTrue (fits_pointer false (optional_skip_of before size))
 skip-fits before size h = by_test (size == 0)
   where
     by_test : (test : Bool) → IsTrue (fits_pointer false (if test then 0 else 1 + before))
     by_test true = refl
-    by_test false = le-leb (1 + before) 255 (omega arith)
+    by_test false = le-leb (1 + before) GREATEST_OCTET (omega arith)
 
 pub cr-in_range : (slr class : ℕ) (called : List ℕ) (credit : Option ℕ) (calling body : Option (List ℕ)) (hop importance : Option ℕ) → length called ≤ 253 → IsAddress calling → IsData body → InRange (Cr slr class called credit calling body hop importance)
 cr-in_range slr class called credit calling body hop importance short address content =
     in_range (Cr slr class called credit calling body hop importance)
-    (only 0 255 called (omega arith, omega arith))
+    (only 0 LONGEST_PARAMETER called (omega arith, omega arith))
     (both (one 0x09 credit refl) (both (calling-option calling address) (both (data-option body content) (both (one 0x11 hop refl) (both (one 0x12 importance refl) refl)))))
     (both refl (both (skip-fits _ _ (omega (arith, short, length-append called []))) refl))
 
@@ -73,14 +74,14 @@ rlsd-in_range dlr slr cause body importance content =
     (both (data-option body content) (both (one 0x12 importance refl) refl))
     (both (skip-fits 0 _ (omega arith)) refl)
 
-pub dt1-in_range : (dlr segmenting : ℕ) (body : List ℕ) → IsWithin 1 255 body → InRange (Dt1 dlr segmenting body)
-dt1-in_range dlr segmenting body h = in_range (Dt1 dlr segmenting body) (only 1 255 body h) refl refl
+pub dt1-in_range : (dlr segmenting : ℕ) (body : List ℕ) → IsWithin 1 LONGEST_PARAMETER body → InRange (Dt1 dlr segmenting body)
+dt1-in_range dlr segmenting body h = in_range (Dt1 dlr segmenting body) (only 1 LONGEST_PARAMETER body h) refl refl
 
-pub dt2-in_range : (dlr : ℕ) (sequencing body : List ℕ) → IsWithin 1 255 body → InRange (Dt2 dlr sequencing body)
-dt2-in_range dlr sequencing body h = in_range (Dt2 dlr sequencing body) (only 1 255 body h) refl refl
+pub dt2-in_range : (dlr : ℕ) (sequencing body : List ℕ) → IsWithin 1 LONGEST_PARAMETER body → InRange (Dt2 dlr sequencing body)
+dt2-in_range dlr sequencing body h = in_range (Dt2 dlr sequencing body) (only 1 LONGEST_PARAMETER body h) refl refl
 
-pub ed-in_range : (dlr : ℕ) (body : List ℕ) → IsWithin 1 32 body → InRange (Ed dlr body)
-ed-in_range dlr body h = in_range (Ed dlr body) (only 1 32 body h) refl refl
+pub ed-in_range : (dlr : ℕ) (body : List ℕ) → IsWithin 1 LONGEST_EXPEDITED body → InRange (Ed dlr body)
+ed-in_range dlr body h = in_range (Ed dlr body) (only 1 LONGEST_EXPEDITED body h) refl refl
 
 -- messages of a fixed part alone
 pub rlc-in_range : (dlr slr : ℕ) → InRange (Rlc dlr slr)

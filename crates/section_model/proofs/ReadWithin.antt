@@ -2,6 +2,7 @@
 use Rattle.std.proofs.Common.{◌≡◌, ℕ, zero, suc, ◌≤◌, nat_le, List, [], ◌∷◌, length, slice_get, slice_index_or, IfOk, IfSome, refl, subst, arith, leb-true}
 use Rattle.std.specs.Prelude.{Option, Some, None, IsTrue}
 use Rattle.std.proofs.lemmas.Bool.{and_parts}
+use Rattle.relay_base.specs.declared.limits.TheConstants.{LONGEST_DATA, LONGEST_EXPEDITED, LONGEST_PARAMETER}
 use Rattle.q713_shape.specs.declared.rules.VarRule.{VarRule}
 use Rattle.q713_shape.specs.Format.{Values, is_length_of}
 use Rattle.q713_shape.specs.Reading.{values_of}
@@ -32,17 +33,17 @@ option (first ∷ names) (value ∷ values) (suc place) name e h =
 
 called : (x : Option (List ℕ)) → IsTrue (is_option 0x03 x) → IsAddress x
 called None h = tt
-called (Some octets) h = leb-true (length octets) 255 h
+called (Some octets) h = leb-true (length octets) LONGEST_PARAMETER h
 
 calling : (x : Option (List ℕ)) → IsTrue (is_option 0x04 x) → IsAddress x
 calling None h = tt
-calling (Some octets) h = leb-true (length octets) 255 h
+calling (Some octets) h = leb-true (length octets) LONGEST_PARAMETER h
 
 data_within : (x : Option (List ℕ)) → IsTrue (is_option 0x0F x) → IsData x
 data_within None h = tt
 data_within (Some octets) h =
-    let both = and_parts (nat_le 1 (length octets)) (nat_le (length octets) 128) h in
-    (leb-true 1 (length octets) both.0, leb-true (length octets) 128 both.1)
+    let both = and_parts (nat_le 1 (length octets)) (nat_le (length octets) LONGEST_DATA) h in
+    (leb-true 1 (length octets) both.0, leb-true (length octets) LONGEST_DATA both.1)
 
 -- the message that values are has the lengths, where the values have those of its format
 abbrev Reads : Kind → Type 0
@@ -68,13 +69,13 @@ rlsd-within : Reads (kind_of rlsd_format rlsd_of)
 rlsd-within values h = data_within (slice_index_or values.options 0 None) (option (user_data ∷ importance ∷ []) values.options 0 0x0F refl h.options)
 
 dt1-within : Reads (kind_of dt1_format dt1_of)
-dt1-within values h = only (within user_data 1 255) values.vars h.count h.vars
+dt1-within values h = only (within user_data 1 LONGEST_PARAMETER) values.vars h.count h.vars
 
 dt2-within : Reads (kind_of dt2_format dt2_of)
-dt2-within values h = only (within user_data 1 255) values.vars h.count h.vars
+dt2-within values h = only (within user_data 1 LONGEST_PARAMETER) values.vars h.count h.vars
 
 ed-within : Reads (kind_of ed_format ed_of)
-ed-within values h = only (within user_data 1 32) values.vars h.count h.vars
+ed-within values h = only (within user_data 1 LONGEST_EXPEDITED) values.vars h.count h.vars
 
 -- of each type
 abbrev AllRead : List Kind → Type 0
