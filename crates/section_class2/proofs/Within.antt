@@ -2,6 +2,7 @@
 use Rattle.std.proofs.Common.{◌≡◌, ℕ, ◌==◌, ◌||◌, ◌&&◌, nat_le, [], ◌∷◌, Bool, true, false, List, if◌then◌else◌, Ok, Err, IfOk, refl, subst, sym}
 use Rattle.std.specs.Prelude.{Option, Some, None, IfSome, OnErr}
 use Rattle.std.specs.declared.result.Result.{Result}
+use Rattle.relay_base.specs.declared.causes.TheConstants.{ERROR_CLASS_MISMATCH, REFUSAL_UNQUALIFIED, RELEASE_INCONSISTENT_DATA, RELEASE_UNQUALIFIED}
 use Rattle.relay_base.specs.declared.errors.Memory.{Memory}
 use Rattle.relay_base.specs.declared.words.Event.{Event}
 use Rattle.relay_base.specs.declared.words.Event.TheVariants.{Message as Arrived}
@@ -46,12 +47,12 @@ agrees m x = (
 
 abbrev disagrees : SectionLine → SectionLine × Acted
 disagrees x = (
-  released 0x05 None None x,
-  gives_then (rlsd x.head (only_cause 0x05) ∷ []) (hand.Refuse 0x0F None None None ∷ []),
+  released RELEASE_INCONSISTENT_DATA None None x,
+  gives_then (rlsd x.head (only_cause RELEASE_INCONSISTENT_DATA) ∷ []) (hand.Refuse REFUSAL_UNQUALIFIED None None None ∷ []),
 )
 
 abbrev fails : SectionLine → SectionLine × Acted
-fails x = (in_state Gone x, gives_then [] (hand.End 0x0F None None ∷ []))
+fails x = (in_state Gone x, gives_then [] (hand.End RELEASE_UNQUALIFIED None None ∷ []))
 
 abbrev is_same : Parameters → SectionLine → Bool
 is_same m x = m.slr == x.head.other && m.class == x.head.class
@@ -63,8 +64,8 @@ hears-keeps cell.Confirm point m x k =
     let y = reached point m.slr x in
     either KeepsLengths (is_agreed m y) (agrees m y) (disagrees y) k tt
 hears-keeps cell.ConfirmLate point m x k = tt
-hears-keeps cell.ErrorReceived point m x k = either KeepsLengths (m.cause == 3) (breaks 0x0F x) (fails x) tt k
-hears-keeps cell.TestReceived point m x k = either KeepsLengths (is_same m x) (x, no_effect) (breaks 0x05 x) k tt
+hears-keeps cell.ErrorReceived point m x k = either KeepsLengths (m.cause == ERROR_CLASS_MISMATCH) (breaks RELEASE_UNQUALIFIED x) (fails x) tt k
+hears-keeps cell.TestReceived point m x k = either KeepsLengths (is_same m x) (x, no_effect) (breaks RELEASE_INCONSISTENT_DATA x) k tt
 hears-keeps _ point m x k = k
 
 hears-hands : (c : Cell) (point : ℕ) (a : Arrival) (x : SectionLine) → ArrivalWithin a → (c ≡ cell.TakeData → a.occasion ≡ on.Dt1) → Hands (line_hears c point a.parameters x)
@@ -75,8 +76,8 @@ hears-hands cell.Confirm point a x w dt1 =
 hears-hands cell.Refused point a x w dt1 = (tt, ((w.0, w.1), tt))
 hears-hands cell.Released point a x w dt1 = (tt, (w.1, tt))
 hears-hands cell.TakeData point a x w dt1 = (tt, (subst (λ o. IsDataOf o a.parameters.data_octets) (dt1 refl) w.2, tt))
-hears-hands cell.ErrorReceived point a x w dt1 = either Hands (a.parameters.cause == 3) (breaks 0x0F x) (fails x) (tt, (tt, tt)) (tt, (tt, tt))
-hears-hands cell.TestReceived point a x w dt1 = either Hands (is_same a.parameters x) (x, no_effect) (breaks 0x05 x) (tt, tt) (tt, (tt, tt))
+hears-hands cell.ErrorReceived point a x w dt1 = either Hands (a.parameters.cause == ERROR_CLASS_MISMATCH) (breaks RELEASE_UNQUALIFIED x) (fails x) (tt, (tt, tt)) (tt, (tt, tt))
+hears-hands cell.TestReceived point a x w dt1 = either Hands (is_same a.parameters x) (x, no_effect) (breaks RELEASE_INCONSISTENT_DATA x) (tt, tt) (tt, (tt, tt))
 hears-hands _ point a x w dt1 = (tt, tt)
 
 arrives-hands : (c : Cell) (point : ℕ) (bytes : List ℕ) (arrived : Option Arrival) (x : SectionLine) → arrival_in bytes ≡ arrived → (c ≡ cell.TakeData → IfSome arrived (λ a. a.occasion ≡ on.Dt1)) → Hands (line_hears_arrival c point arrived x)
