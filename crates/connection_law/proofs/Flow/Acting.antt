@@ -2,6 +2,8 @@
 use Rattle.std.proofs.Common.{◌≡◌, ℕ, ◌+◌, ◌-◌, ◌≤◌, ◌==◌, ◌&&◌, ◌||◌, nat_le, not, true, false, List, [], ◌∷◌, ◌++◌, length, Option, Some, None, refl, arith, zero-le}
 use Rattle.std.proofs.lemmas.Bool.{eqb-false, not-false}
 use Rattle.std.proofs.lemmas.List.{length_push}
+use Rattle.relay_base.specs.declared.causes.TheConstants.{ERROR_CLASS_MISMATCH, REFUSAL_UNQUALIFIED, RELEASE_INCONSISTENT_DATA, RELEASE_UNQUALIFIED, RESET_INCORRECT_RECEIVE_NUMBER, RESET_OUT_OF_WINDOW, RESET_REMOTE_PROCEDURE_ERROR}
+use Rattle.relay_base.specs.declared.limits.TheConstants.{GREATEST_CREDIT}
 use Rattle.section_model.specs.declared.hand.Hand.{Hand}
 use Rattle.section_flow.specs.declared.unit.Unit.{Unit as DataUnit}
 use Rattle.section_model.specs.declared.hand.Hand.TheVariants as hand
@@ -57,7 +59,7 @@ not_renewing : (x : Section) (that : End) → ResetIsAwaited (wire (at Up x)) th
 not_renewing x (wire y) r = tt
 not_renewing x (owner u) r = r
 
-pub cleared_flows : (credit : ℕ) → credit ≤ 127 → InCredit credit (cleared credit) × InWindow (cleared credit) × PassesOn (cleared credit) 0 []
+pub cleared_flows : (credit : ℕ) → credit ≤ GREATEST_CREDIT → InCredit credit (cleared credit) × InWindow (cleared credit) × PassesOn (cleared credit) 0 []
 cleared_flows credit fits = let c = cleared_in credit fits in (c.0, c.1, nothing_passed credit 0 [] refl refl)
 
 pub resets_as : (s : SectionState) (ticks : Ticks) (cause : ℕ) (x : Section) (that : End) (outs : List Output) → Meets connected (section_stage s) → AreInStep (wire (at Up x)) that
@@ -115,8 +117,8 @@ pub data_taken : (ticks : Ticks) (m : Parameters) (x : Section) (that : End) →
 data_taken ticks m x that k =
     let w : Windowed = record { head = (at Up x).head; windows = x.windows } in
     either (ActsWindowed ticks (at Up x) that) (not (is_next m w)) _ _ (λ _. window_resets ticks (wrong_number w.windows) x that k)
-    (λ _. either (ActsWindowed ticks (at Up x) that) (is_used_up w) _ _ (λ _. window_resets ticks 0x04 x that k)
-    (λ not_used. either (ActsWindowed ticks (at Up x) that) (not (is_valid m.pr x.windows)) _ _ (λ _. window_resets ticks 0x03 x that k)
+    (λ _. either (ActsWindowed ticks (at Up x) that) (is_used_up w) _ _ (λ _. window_resets ticks RESET_OUT_OF_WINDOW x that k)
+    (λ not_used. either (ActsWindowed ticks (at Up x) that) (not (is_valid m.pr x.windows)) _ _ (λ _. window_resets ticks RESET_INCORRECT_RECEIVE_NUMBER x that k)
     (λ valid. unit_accepted ticks m x that k not_used (not-false _ valid))))
 
 -- AK.
@@ -135,7 +137,7 @@ acknowledgement_taken ticks m x that k =
           let w = acked_in_window m.pr x.windows valid f.1.1 in (f.0, (f.1.0, (w.0, w.1, omega arith), f.1.2), f.2),
       k.5,
     ))
-    (λ _. window_resets ticks 0x03 x that k)
+    (λ _. window_resets ticks RESET_INCORRECT_RECEIVE_NUMBER x that k)
 
 -- ED and EA.
 
@@ -143,7 +145,7 @@ pub expedited_taken : (ticks : Ticks) (m : Parameters) (x : Section) (that : End
     → ActsWindowed ticks (at Up x) that (windows_take_expedited m (record { head = (at Up x).head; windows = x.windows }))
 unfolding ActsWindowed
 expedited_taken ticks m x that k =
-    either (ActsWindowed ticks (at Up x) that) x.windows.owed _ _ (λ _. window_resets ticks 0x06 x that k)
+    either (ActsWindowed ticks (at Up x) that) x.windows.owed _ _ (λ _. window_resets ticks RESET_REMOTE_PROCEDURE_ERROR x that k)
     (λ _. let x' : Section = record (at Up x) { windows = record x.windows { owed = true } } in
     acts_then_at ticks (at Up x) x' that [] (hand.Expedited m.data_octets)
     (λ t. takes_expedited ticks m.data_octets that (record x' { timers = t }) (other_first (record x' { timers = t }) that k)))
@@ -209,22 +211,22 @@ pub refusal_heard : (ticks : Ticks) (cause : ℕ) (called body : Option (List �
 refusal_heard ticks cause called body importance x that k =
     refuses_as ticks cause called body importance (at Asking x) (at Gone x) that [] k.0 tt (agreement (at Asking x) that k)
 
-agreed_fits : (x : SectionHead) (m : Parameters) → x.credit ≤ 127 → agreed x m ≤ 127
-agreed_fits x m fits = either (λ (n : ℕ). n ≤ 127) (m.class == 3) _ _ (λ _. omega (arith, fits)) (λ _. zero-le)
+agreed_fits : (x : SectionHead) (m : Parameters) → x.credit ≤ GREATEST_CREDIT → agreed x m ≤ GREATEST_CREDIT
+agreed_fits x m fits = either (λ (n : ℕ). n ≤ GREATEST_CREDIT) (m.class == 3) _ _ (λ _. omega (arith, fits)) (λ _. zero-le)
 
 pub confirmation_heard : (ticks : Ticks) (point : ℕ) (m : Parameters) (x : Section) (that : End) → AreInStep (wire (at Asking x)) that
     → ActsLine ticks (at Asking x) that (confirms point m (line_in (at Asking x)))
 unfolding ActsLine
 confirmation_heard ticks point m x that k =
     let a = agreed (at Asking x).head m in
-    let fits : a ≤ 127 = agreed_fits (at Asking x).head m k.2.0 in
+    let fits : a ≤ GREATEST_CREDIT = agreed_fits (at Asking x).head m k.2.0 in
     let up : Section = record x { head = record x.head { point = point; other = m.slr; state = Up; class = m.class; credit = a }; windows = cleared a } in
-    let ending : Section = record x { head = record x.head { point = point; other = m.slr; state = Ending }; kept = only_cause 0x05 } in
+    let ending : Section = record x { head = record x.head { point = point; other = m.slr; state = Ending }; kept = only_cause RELEASE_INCONSISTENT_DATA } in
     either (ActsLine ticks (at Asking x) that) ((m.class == 2 || m.class == 3) && nat_le m.class x.head.class) _ _
     (λ _. acts_then_at ticks (at Asking x) up that [] (hand.Accept m.class a m.called m.body m.importance)
     (λ t. takes_acceptance 1 ticks m.class a m.called m.body m.importance that (wire (record up { timers = t })) k.0 k.3.1
     (tt, refl, fits, fits, tt, refl, refl, cleared_flows a fits) tt))
-    (λ _. refuses_as ticks 0x0F None None None (at Asking x) ending that _ k.0 tt (agreement (at Asking x) that k))
+    (λ _. refuses_as ticks REFUSAL_UNQUALIFIED None None None (at Asking x) ending that _ k.0 tt (agreement (at Asking x) that k))
 
 -- What ends a connection.
 
@@ -232,16 +234,16 @@ pub failure_heard : (s : SectionState) (ticks : Ticks) (m : Parameters) (x : Sec
     → ActsLine ticks (at s x) that (hears_error m (line_in (at s x)))
 unfolding ActsLine
 failure_heard Up ticks m x that o k =
-    either (ActsLine ticks (at Up x) that) (m.cause == 3) _ _ (λ _. ends_as Ending ticks 0x0F None None (only_cause 0x0F) (at Up x) that _ tt tt k) (λ _. ends_as Gone ticks 0x0F None None x.kept (at Up x) that [] tt tt k)
+    either (ActsLine ticks (at Up x) that) (m.cause == ERROR_CLASS_MISMATCH) _ _ (λ _. ends_as Ending ticks RELEASE_UNQUALIFIED None None (only_cause RELEASE_UNQUALIFIED) (at Up x) that _ tt tt k) (λ _. ends_as Gone ticks RELEASE_UNQUALIFIED None None x.kept (at Up x) that [] tt tt k)
 failure_heard Resetting ticks m x that o k =
-    either (ActsLine ticks (at Resetting x) that) (m.cause == 3) _ _ (λ _. ends_as Ending ticks 0x0F None None (only_cause 0x0F) (at Resetting x) that _ tt tt k) (λ _. ends_as Gone ticks 0x0F None None x.kept (at Resetting x) that [] tt tt k)
+    either (ActsLine ticks (at Resetting x) that) (m.cause == ERROR_CLASS_MISMATCH) _ _ (λ _. ends_as Ending ticks RELEASE_UNQUALIFIED None None (only_cause RELEASE_UNQUALIFIED) (at Resetting x) that _ tt tt k) (λ _. ends_as Gone ticks RELEASE_UNQUALIFIED None None x.kept (at Resetting x) that [] tt tt k)
 failure_heard _ ticks m x that o k = absurd o
 
 pub test_heard : (s : SectionState) (ticks : Ticks) (m : Parameters) (x : Section) (that : End) → Meets connected (section_stage s) → AreInStep (wire (at s x)) that
     → ActsLine ticks (at s x) that (hears_test m (line_in (at s x)))
 unfolding ActsLine
 test_heard Up ticks m x that o k =
-    either (ActsLine ticks (at Up x) that) (m.slr == x.head.other && m.class == x.head.class) _ _ (λ _. acts_alone ticks (at Up x) (at Up x) that [] k) (λ _. ends_as Ending ticks 0x05 None None (only_cause 0x05) (at Up x) that _ tt tt k)
+    either (ActsLine ticks (at Up x) that) (m.slr == x.head.other && m.class == x.head.class) _ _ (λ _. acts_alone ticks (at Up x) (at Up x) that [] k) (λ _. ends_as Ending ticks RELEASE_INCONSISTENT_DATA None None (only_cause RELEASE_INCONSISTENT_DATA) (at Up x) that _ tt tt k)
 test_heard Resetting ticks m x that o k =
-    either (ActsLine ticks (at Resetting x) that) (m.slr == x.head.other && m.class == x.head.class) _ _ (λ _. acts_alone ticks (at Resetting x) (at Resetting x) that [] k) (λ _. ends_as Ending ticks 0x05 None None (only_cause 0x05) (at Resetting x) that _ tt tt k)
+    either (ActsLine ticks (at Resetting x) that) (m.slr == x.head.other && m.class == x.head.class) _ _ (λ _. acts_alone ticks (at Resetting x) (at Resetting x) that [] k) (λ _. ends_as Ending ticks RELEASE_INCONSISTENT_DATA None None (only_cause RELEASE_INCONSISTENT_DATA) (at Resetting x) that _ tt tt k)
 test_heard _ ticks m x that o k = absurd o

@@ -1,5 +1,7 @@
 -- A user's end acts upon a request.
 use Rattle.std.proofs.Common.{ℕ, ◌≤◌, ◌==◌, List, [], ◌∷◌, ◌++◌, map, if◌then◌else◌, Option, Some, None, refl, subst, arith, zero-le, length-append}
+use Rattle.relay_base.specs.declared.causes.TheConstants.{RESET_END_USER}
+use Rattle.relay_base.specs.declared.limits.TheConstants.{GREATEST_CREDIT}
 use Rattle.relay_base.specs.declared.words.Request.{Request}
 use Rattle.relay_base.specs.declared.words.Request.TheVariants as request
 use Rattle.relay_base.specs.declared.words.Reason.{Reason}
@@ -24,8 +26,8 @@ use Rattle.connection_law.proofs.Flow.Flowing.{either, OnWay, units_taken, secti
 other_first : (u : User) (x : Section) → AreInStep (owner u) (wire x) → AreInStep (wire x) (owner u)
 other_first u x k = kept_back (record { this = owner u; that = wire x }) k
 
-agreed_fits : (class credit most : ℕ) → most ≤ 127 → (if class == 3 then granted credit most else 0) ≤ 127
-agreed_fits class credit most fits = either (λ (n : ℕ). n ≤ 127) (class == 3) _ _ (λ _. omega (arith, fits)) (λ _. zero-le)
+agreed_fits : (class credit most : ℕ) → most ≤ GREATEST_CREDIT → (if class == 3 then granted credit most else 0) ≤ GREATEST_CREDIT
+agreed_fits class credit most fits = either (λ (n : ℕ). n ≤ GREATEST_CREDIT) (class == 3) _ _ (λ _. omega (arith, fits)) (λ _. zero-le)
 
 asked_can_end : (s : Stage) → Meets asked s → CanEnd s
 asked_can_end asking m = tt
@@ -56,7 +58,7 @@ asks_as : (r : Request) (s : UserState) (ticks : Ticks) (u : User) (x : Section)
 unfolding user_asks user_row
 asks_as (request.Accept mine class credit body) user.Offered ticks u x k =
     let a = (if class == 3 then granted credit u.credit else 0) in
-    let fits : a ≤ 127 = agreed_fits class credit u.credit k.2.0 in
+    let fits : a ≤ GREATEST_CREDIT = agreed_fits class credit u.credit k.2.0 in
     let ready : User = record u { state = user.Ready; class = class; credit = a } in
     handed_on ticks (owner ready) (wire x) [] (hand.Accept class a None (given body) None)
     (takes_acceptance 1 ticks class a None (given body) None (wire x) (owner ready) k.0 tt (tt, refl, fits, fits, tt, k.3.0.1, k.3.0.0, tt) tt)
@@ -87,7 +89,7 @@ asks_as (request.Expedite mine body) s ticks u x k = alone ticks (owner (user_at
 asks_as (request.Reset mine) user.Ready ticks u x k =
     let renewing : User = record u { state = user.Renewing; text = []; got = []; passed = 0 } in
     let b = other_first (user_at user.Ready u) x k in
-    handed_on ticks (owner renewing) (wire x) [] (hand.Reset 0)
+    handed_on ticks (owner renewing) (wire x) [] (hand.Reset RESET_END_USER)
     (section_takes_reset 1 ticks 0 x.head.state x (owner renewing) (k.0, tt, b.1, b.2, tt, λ three. (tt, refl, refl, tt), λ two. (refl, tt)))
 asks_as (request.Reset mine) s ticks u x k = alone ticks (owner (user_at s u)) (wire x) [] k
 asks_as (request.Disc mine cause body) user.Calling ticks u x k =

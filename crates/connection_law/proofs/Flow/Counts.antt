@@ -1,6 +1,7 @@
 -- A section keeps its own counts in order, act by act.
 use Rattle.std.proofs.Common.{◌≡◌, ℕ, ◌+◌, ◌-◌, ◌≤◌, ◌==◌, true, false, not, List, length, Option, Some, None, arith}
 use Rattle.std.proofs.lemmas.Bool.{not-false}
+use Rattle.relay_base.specs.declared.causes.TheConstants.{RESET_INCORRECT_RECEIVE_NUMBER, RESET_OUT_OF_WINDOW, RESET_REMOTE_PROCEDURE_ERROR}
 use Rattle.section_model.specs.declared.cell.Cell.{Cell}
 use Rattle.section_model.specs.declared.cell.Cell.TheVariants as cell
 use Rattle.section_model.specs.declared.hand.Hand.{Hand}
@@ -30,14 +31,14 @@ accepted m x k not_used valid =
 data_kept : (m : Parameters) (x : Windowed) → WindowsAreKept x → KeptBy (takes_data m x)
 data_kept m x k =
     either KeptBy (not (is_next m x)) _ _ (λ _. resets_kept (wrong_number x.windows) x k)
-    (λ _. either KeptBy (is_used_up x) _ _ (λ _. resets_kept 0x04 x k)
-    (λ not_used. either KeptBy (not (is_valid m.pr x.windows)) _ _ (λ _. resets_kept 0x03 x k)
+    (λ _. either KeptBy (is_used_up x) _ _ (λ _. resets_kept RESET_OUT_OF_WINDOW x k)
+    (λ not_used. either KeptBy (not (is_valid m.pr x.windows)) _ _ (λ _. resets_kept RESET_INCORRECT_RECEIVE_NUMBER x k)
     (λ valid. accepted m x k not_used (not-false _ valid))))
 
 acknowledgement_kept : (m : Parameters) (x : Windowed) → WindowsAreKept x → KeptBy (takes_acknowledgement m x)
 unfolding KeptBy
 acknowledgement_kept m x k =
-    either KeptBy (is_valid m.pr x.windows) _ _ (λ valid. let w = acked_in_window m.pr x.windows valid k.2 in (k.0, k.1, (w.0, w.1, omega arith))) (λ _. resets_kept 0x03 x k)
+    either KeptBy (is_valid m.pr x.windows) _ _ (λ valid. let w = acked_in_window m.pr x.windows valid k.2 in (k.0, k.1, (w.0, w.1, omega arith))) (λ _. resets_kept RESET_INCORRECT_RECEIVE_NUMBER x k)
 
 expedites_kept : (body : Option (List ℕ)) (x : Windowed) → WindowsAreKept x → KeptBy (sends_expedited body x)
 unfolding KeptBy
@@ -46,7 +47,7 @@ expedites_kept (Some body) x k = k
 
 expedited_kept : (m : Parameters) (x : Windowed) → WindowsAreKept x → KeptBy (takes_expedited m x)
 unfolding KeptBy
-expedited_kept m x k = either KeptBy x.windows.owed _ _ (λ _. resets_kept 0x06 x k) (λ _. k)
+expedited_kept m x k = either KeptBy x.windows.owed _ _ (λ _. resets_kept RESET_REMOTE_PROCEDURE_ERROR x k) (λ _. k)
 
 answer_kept : (x : Windowed) → WindowsAreKept x → KeptBy (takes_answer x)
 unfolding KeptBy

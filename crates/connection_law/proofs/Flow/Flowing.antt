@@ -2,6 +2,8 @@
 use Rattle.std.proofs.Common.{◌≡◌, ℕ, suc, ◌+◌, ◌≤◌, ◌==◌, ◌&&◌, nat_lt, not, Bool, true, false, List, [], ◌∷◌, ◌++◌, length, drop, map, fold, if◌then◌else◌, Some, None, refl, sym, subst, ◌∙◌, arith, append_assoc, append-nil}
 use Rattle.std.proofs.lemmas.Bool.{eqb-true, eqb-false, false≢true}
 use Rattle.std.proofs.lemmas.List.{drop-append-le, length_push}
+use Rattle.relay_base.specs.declared.causes.TheConstants.{RELEASE_ACCESS_CONGESTION}
+use Rattle.relay_base.specs.declared.limits.TheConstants.{GREATEST_CREDIT, LONGEST_TEXT}
 use Rattle.section_model.specs.declared.hand.Hand.{Hand}
 use Rattle.section_flow.specs.declared.unit.Unit.{Unit as DataUnit}
 use Rattle.section_model.specs.declared.hand.Hand.TheVariants as hand
@@ -44,7 +46,7 @@ abbrev pub LeftOn : ℕ → End → End → Type 0
 LeftOn units taker giver =
     Meets (stage_at taker) (stage_at giver)
     × (class_at taker ≡ class_at giver)
-    × ((credit_at taker ≤ 127) × (credit_at giver ≤ 127))
+    × ((credit_at taker ≤ GREATEST_CREDIT) × (credit_at giver ≤ GREATEST_CREDIT))
     × IsFresh giver
     × Meets connected (stage_at taker)
     × (class_at taker ≡ 3 → ResetIsAwaited taker giver × FlowsWith taker (passed_at giver) (got_at giver) × FlowsWith giver (passed_at taker + units) (got_at taker) × (passed_at taker + units ≤ length (got_at taker)))
@@ -186,7 +188,7 @@ Resets taker giver =
     Meets connected (stage_at taker)
     × Meets connected (stage_at giver)
     × (class_at taker ≡ class_at giver)
-    × ((credit_at taker ≤ 127) × (credit_at giver ≤ 127))
+    × ((credit_at taker ≤ GREATEST_CREDIT) × (credit_at giver ≤ GREATEST_CREDIT))
     × IsFresh giver
     × (class_at taker ≡ 3 → NotRenewing taker × (passed_at giver ≡ 0) × (got_at giver ≡ []) × FlowsWith giver 0 [])
     × (class_at taker ≡ 2 → SendsAll taker giver × SendsAll giver taker)
@@ -239,7 +241,7 @@ OnWay units taker giver =
     Meets connected (stage_at taker)
     × Meets connected (stage_at giver)
     × (class_at taker ≡ class_at giver)
-    × ((credit_at taker ≤ 127) × (credit_at giver ≤ 127))
+    × ((credit_at taker ≤ GREATEST_CREDIT) × (credit_at giver ≤ GREATEST_CREDIT))
     × IsFresh giver
     × (class_at taker ≡ 3 → ResetIsAwaited taker giver × FlowsWith giver (passed_at taker) (got_at taker) × UnitsOnWay units taker giver)
     × IsSection taker
@@ -345,12 +347,12 @@ Came taker x =
     AreInStep taker (wire x) × Meets connected (section_stage x.head.state) × (class_at taker ≡ 3 → x.windows.passed + 1 ≤ length x.windows.got)
 
 breaks_off : (ticks : Ticks) (v : User) (outs : List Output) (x : Section) → AreInStep (owner v) (wire x) → Meets connected (section_stage x.head.state)
-    → UserEnds 1 ticks (wire x) (user_at user.Gone v, record { first = hand.End 0x07 None None ∷ []; outs = outs; then = [] })
+    → UserEnds 1 ticks (wire x) (user_at user.Gone v, record { first = hand.End RELEASE_ACCESS_CONGESTION None None ∷ []; outs = outs; then = [] })
 unfolding UserEnds TakesInStep exchange
 breaks_off ticks v outs x k o =
     let b : AreInStep (wire x) (owner v) = kept_back (record { this = owner v; that = wire x }) k in
-    kept_back (exchange 1 ticks (end_takes ticks (hand.End 0x07 None None) (wire x)) (owner (user_at user.Gone v))).0
-    (takes_end 0 ticks 0x07 None None (wire x) (owner (user_at user.Gone v)) (open_can_end (section_stage x.head.state) o) tt (b.1, b.2, (tt, tt), λ three. ((b.4 three).1, tt), λ two. ((b.5 two).0, tt)))
+    kept_back (exchange 1 ticks (end_takes ticks (hand.End RELEASE_ACCESS_CONGESTION None None) (wire x)) (owner (user_at user.Gone v))).0
+    (takes_end 0 ticks RELEASE_ACCESS_CONGESTION None None (wire x) (owner (user_at user.Gone v)) (open_can_end (section_stage x.head.state) o) tt (b.1, b.2, (tt, tt), λ three. ((b.4 three).1, tt), λ two. ((b.5 two).0, tt)))
 
 collected : (ticks : Ticks) (v v' : User) (outs : List Output) (x : Section) → Came (owner v) x
     → AreInStep (owner v') (wire x) → (v'.class ≡ v.class) → UserEnds 1 ticks (wire x) (v', gives_then outs (hand.Left 1 false ∷ []))
@@ -368,13 +370,13 @@ user_takes_unit : (ticks : Ticks) (more : Bool) (body : List ℕ) (s : UserState
     → TakesInStep 1 ticks (hand.Unit more body) (owner (user_at s v)) (wire x)
 unfolding TakesInStep UserEnds user_takes user_row
 user_takes_unit ticks more body user.Ready v x k =
-    either (UserEnds 1 ticks (wire x)) (nat_lt 8192 (length (v.text ++ body))) _ _
+    either (UserEnds 1 ticks (wire x)) (nat_lt LONGEST_TEXT (length (v.text ++ body))) _ _
     (λ long. breaks_off ticks (user_at user.Ready v) _ x k.0 k.1)
     (λ short. either (UserEnds 1 ticks (wire x)) more _ _
     (λ _. collected ticks (user_at user.Ready v) (record (user_at user.Ready v) { text = v.text ++ body }) _ x k k.0 refl)
     (λ _. collected ticks (user_at user.Ready v) (record (user_at user.Ready v) { text = [] }) _ x k k.0 refl))
 user_takes_unit ticks more body user.Renewing v x k =
-    either (UserEnds 1 ticks (wire x)) (nat_lt 8192 (length (v.text ++ body))) _ _
+    either (UserEnds 1 ticks (wire x)) (nat_lt LONGEST_TEXT (length (v.text ++ body))) _ _
     (λ long. breaks_off ticks (user_at user.Renewing v) _ x k.0 k.1)
     (λ short. either (UserEnds 1 ticks (wire x)) more _ _
     (λ _. collected ticks (user_at user.Renewing v) (record (user_at user.Renewing v) { text = v.text ++ body }) _ x k k.0 refl)
@@ -403,7 +405,7 @@ UnitOf u before taker x =
     Meets connected (stage_at taker)
     × Meets connected (section_stage x.head.state)
     × (class_at taker ≡ x.head.class)
-    × ((credit_at taker ≤ 127) × (x.head.credit ≤ 127))
+    × ((credit_at taker ≤ GREATEST_CREDIT) × (x.head.credit ≤ GREATEST_CREDIT))
     × (class_at taker ≡ 3 → ResetIsAwaited taker (wire x) × FlowsWith (wire x) (passed_at taker) (got_at taker) × FlowsWith taker x.windows.passed before
     × (x.windows.passed ≤ length before) × (x.windows.got ≡ before ++ u ∷ []))
     × (class_at taker ≡ 2 → SendsAll (wire x) taker × SendsAllWith taker (x.windows.passed + 1) x.windows.got)

@@ -1,6 +1,8 @@
 -- What came in at an end goes on, or begins anew, act by act.
 use Rattle.std.proofs.Common.{◌≡◌, ℕ, ◌+◌, ◌≤◌, ◌==◌, ◌&&◌, ◌||◌, nat_le, nat_lt, not, true, false, List, [], ◌∷◌, ◌++◌, length, if◌then◌else◌, Option, Some, None, refl, sym, arith, zero-le, append-nil, append_assoc, length-append, add-zero, inl, inr, ◌⊎◌}
 use Rattle.std.proofs.lemmas.Bool.{eqb-false}
+use Rattle.relay_base.specs.declared.causes.TheConstants.{ERROR_CLASS_MISMATCH, RESET_INCORRECT_RECEIVE_NUMBER, RESET_OUT_OF_WINDOW, RESET_REMOTE_PROCEDURE_ERROR}
+use Rattle.relay_base.specs.declared.limits.TheConstants.{LONGEST_TEXT}
 use Rattle.plant_core.specs.declared.terms.Ticks.{Ticks}
 use Rattle.relay_base.specs.declared.words.Request.{Request}
 use Rattle.relay_base.specs.declared.words.Request.TheVariants as request
@@ -83,8 +85,8 @@ data_grows : (m : Parameters) (x : Windowed) → WindowsGrow x (takes_data m x)
 unfolding WindowsGrow NoneLeft NoUnits
 data_grows m x =
     either (WindowsGrow x) (not (is_next m x)) _ _ (λ _. resets_grow (wrong_number x.windows) x)
-    (λ _. either (WindowsGrow x) (is_used_up x) _ _ (λ _. resets_grow 0x04 x)
-    (λ _. either (WindowsGrow x) (not (is_valid m.pr x.windows)) _ _ (λ _. resets_grow 0x03 x)
+    (λ _. either (WindowsGrow x) (is_used_up x) _ _ (λ _. resets_grow RESET_OUT_OF_WINDOW x)
+    (λ _. either (WindowsGrow x) (not (is_valid m.pr x.windows)) _ _ (λ _. resets_grow RESET_INCORRECT_RECEIVE_NUMBER x)
     (λ _. (more_grows x.windows.passed x.windows.got _, (tt, tt), inr (refl, refl)))))
 
 expedites_grow : (body : Option (List ℕ)) (x : Windowed) → WindowsGrow x (sends_expedited body x)
@@ -95,8 +97,8 @@ expedites_grow (Some body) x = (same_grows x.windows.passed x.windows.got, (refl
 windows_hear : (c : Cell) (m : Parameters) (x : Windowed) → WindowsGrow x (windowed_hears c m x)
 unfolding windowed_hears WindowsGrow NoneLeft NoUnits
 windows_hear cell.TakeNumberedData m x = data_grows m x
-windows_hear cell.TakeAcknowledgement m x = either (WindowsGrow x) (is_valid m.pr x.windows) _ _ (λ _. (same_grows x.windows.passed x.windows.got, tt, inr (refl, refl))) (λ _. resets_grow 0x03 x)
-windows_hear cell.TakeExpedited m x = either (WindowsGrow x) x.windows.owed _ _ (λ _. resets_grow 0x06 x) (λ _. (same_grows x.windows.passed x.windows.got, (tt, tt), inr (refl, refl)))
+windows_hear cell.TakeAcknowledgement m x = either (WindowsGrow x) (is_valid m.pr x.windows) _ _ (λ _. (same_grows x.windows.passed x.windows.got, tt, inr (refl, refl))) (λ _. resets_grow RESET_INCORRECT_RECEIVE_NUMBER x)
+windows_hear cell.TakeExpedited m x = either (WindowsGrow x) x.windows.owed _ _ (λ _. resets_grow RESET_REMOTE_PROCEDURE_ERROR x) (λ _. (same_grows x.windows.passed x.windows.got, (tt, tt), inr (refl, refl)))
 windows_hear cell.TakeExpeditedAcknowledgement m x =
     either (WindowsGrow x) x.windows.unanswered _ _ (λ _. expedites_grow x.windows.waiting (record x { windows = record x.windows { unanswered = false } })) (λ _. (same_grows x.windows.passed x.windows.got, tt, inr (refl, refl)))
 windows_hear cell.ResetByPeer m x = (cleared_grows x.windows.passed x.windows.got, (tt, tt), inl refl)
@@ -163,7 +165,7 @@ line_hear cell.Confirm point m x before =
 line_hear cell.Refused point m x before = (same_grows x.passed x.got, (tt, tt), inl refl)
 line_hear cell.Released point m x before = (same_grows x.passed x.got, (tt, tt), inl refl)
 line_hear cell.TakeData point m x before = (more_grows x.passed x.got _, (tt, tt), inl refl)
-line_hear cell.ErrorReceived point m x before = either (LineFine x) (m.cause == 3) _ _ (λ _. (same_grows x.passed x.got, (tt, tt), inl refl)) (λ _. (same_grows x.passed x.got, (tt, tt), inl refl))
+line_hear cell.ErrorReceived point m x before = either (LineFine x) (m.cause == ERROR_CLASS_MISMATCH) _ _ (λ _. (same_grows x.passed x.got, (tt, tt), inl refl)) (λ _. (same_grows x.passed x.got, (tt, tt), inl refl))
 line_hear cell.TestReceived point m x before = either (LineFine x) (m.slr == x.head.other && m.class == x.head.class) _ _ (λ _. (same_grows x.passed x.got, tt, inl refl)) (λ _. (same_grows x.passed x.got, (tt, tt), inl refl))
 line_hear _ point m x before = (same_grows x.passed x.got, tt, inl refl)
 
@@ -371,7 +373,7 @@ user_takes_grow cell.TellUnit h u none = by_hand h
   where
     by_hand : (h : Hand) → UserGrows u (collects h u)
     by_hand (hand.Unit more body) =
-        either (UserGrows u) (nat_lt 8192 (length (u.text ++ body))) _ _ (λ _. same_grows u.passed u.got)
+        either (UserGrows u) (nat_lt LONGEST_TEXT (length (u.text ++ body))) _ _ (λ _. same_grows u.passed u.got)
         (λ _. either (UserGrows u) more _ _ (λ _. same_grows u.passed u.got) (λ _. same_grows u.passed u.got))
     by_hand _ = same_grows u.passed u.got
 user_takes_grow cell.TellExpedited h u none = by_hand h

@@ -1,6 +1,7 @@
 -- A section hears a message, or one of its timers fires.
 use Rattle.std.proofs.Common.{◌≡◌, ℕ, ◌==◌, List, [], ◌∷◌, ◌++◌, if◌then◌else◌, Option, Some, None, false, ◌∙◌}
 use Rattle.std.proofs.lemmas.Bool.{eqb-false}
+use Rattle.relay_base.specs.declared.causes.TheConstants.{REFUSAL_ESTABLISHMENT_EXPIRED, RELEASE_INACTIVITY_EXPIRED, RELEASE_RESET_EXPIRED}
 use Rattle.section_model.specs.declared.hand.Hand.TheVariants as hand
 use Rattle.section_flow.specs.declared.unit.Unit.{Unit as DataUnit}
 use Rattle.section_model.specs.declared.hand.Acted.{Acted}
@@ -157,13 +158,13 @@ Fires ticks timer s x that = Acts ticks (at s x) that (fired (section_cell s (fi
 fires_as : (t : Timer) (s : SectionState) (ticks : Ticks) (x : Section) (that : End) → AreInStep (wire (at s x)) that → Fires ticks t s x that
 unfolding section_row line_fires windowed_fires
 fires_as timer.Connect Asking ticks x that k =
-    refuses_as ticks 0x0C None None None (at Asking x) (at Gone x) that [] k.0 tt (agreement (at Asking x) that k)
+    refuses_as ticks REFUSAL_ESTABLISHMENT_EXPIRED None None None (at Asking x) (at Gone x) that [] k.0 tt (agreement (at Asking x) that k)
 fires_as timer.Connect Waning ticks x that k = acts_alone ticks _ _ that _ (over_as Gone (at Waning x) that tt tt k)
 fires_as timer.Connect _ ticks x that k = acts_alone ticks _ _ that _ k
-fires_as timer.Reset Resetting ticks x that k = ends_as Ending ticks 0x0C None None (only_cause 0x0C) (at Resetting x) that _ tt tt k
+fires_as timer.Reset Resetting ticks x that k = ends_as Ending ticks RELEASE_RESET_EXPIRED None None (only_cause RELEASE_RESET_EXPIRED) (at Resetting x) that _ tt tt k
 fires_as timer.Reset _ ticks x that k = acts_alone ticks _ _ that _ k
-fires_as timer.Iar Up ticks x that k = ends_as Ending ticks 0x0D None None (only_cause 0x0D) (at Up x) that _ tt tt k
-fires_as timer.Iar Resetting ticks x that k = ends_as Ending ticks 0x0D None None (only_cause 0x0D) (at Resetting x) that _ tt tt k
+fires_as timer.Iar Up ticks x that k = ends_as Ending ticks RELEASE_INACTIVITY_EXPIRED None None (only_cause RELEASE_INACTIVITY_EXPIRED) (at Up x) that _ tt tt k
+fires_as timer.Iar Resetting ticks x that k = ends_as Ending ticks RELEASE_INACTIVITY_EXPIRED None None (only_cause RELEASE_INACTIVITY_EXPIRED) (at Resetting x) that _ tt tt k
 fires_as timer.Iar _ ticks x that k = acts_alone ticks _ _ that _ k
 fires_as timer.Ias Up ticks x that k = by_class ticks (at Up x) _ _ that k k
 fires_as timer.Ias Resetting ticks x that k = by_class ticks (at Resetting x) _ _ that k k

@@ -1,5 +1,6 @@
 -- One end takes what the other hands to it.
 use Rattle.std.proofs.Common.{◌≡◌, ℕ, suc, ◌≤◌, List, [], ◌∷◌, Option, refl, subst, zero-le}
+use Rattle.relay_base.specs.declared.limits.TheConstants.{GREATEST_CREDIT}
 use Rattle.section_model.specs.declared.hand.Hand.{Hand}
 use Rattle.section_flow.specs.declared.unit.Unit.{Unit as DataUnit}
 use Rattle.section_model.specs.declared.hand.Hand.TheVariants as hand
@@ -50,7 +51,7 @@ handed_on ticks e that outs h k =
 abbrev pub Agree : End → End → Type 0
 Agree this that =
     (class_at this ≡ class_at that)
-    × ((credit_at this ≤ 127) × (credit_at that ≤ 127))
+    × ((credit_at this ≤ GREATEST_CREDIT) × (credit_at that ≤ GREATEST_CREDIT))
     × (IsFresh this × IsFresh that)
     × (class_at this ≡ 3 → Flows this that × Flows that this)
     × (class_at this ≡ 2 → SendsAll this that × SendsAll that this)
@@ -115,7 +116,7 @@ section_takes_end n ticks cause body importance Gone y giver may m k = (m, k.0, 
 
 user_takes_end : (n : ℕ) (ticks : Ticks) (cause : ℕ) (body : Option (List ℕ)) (importance : Option ℕ) (s : UserState) (u : User) (giver : End)
     → Meets over (stage_at giver) → (class_at (owner u) ≡ class_at giver)
-    → ((credit_at (owner u) ≤ 127) × (credit_at giver ≤ 127)) → IsFresh giver → (class_at (owner u) ≡ 3 → Flows giver (owner u)) → (class_at (owner u) ≡ 2 → SendsAll giver (owner u))
+    → ((credit_at (owner u) ≤ GREATEST_CREDIT) × (credit_at giver ≤ GREATEST_CREDIT)) → IsFresh giver → (class_at (owner u) ≡ 3 → Flows giver (owner u)) → (class_at (owner u) ≡ 2 → SendsAll giver (owner u))
     → TakesInStep n ticks (hand.End cause body importance) (owner (user_at s u)) giver
 unfolding TakesInStep exchange user_takes user_row
 user_takes_end n ticks cause body importance user.Gone u giver m c fits fresh flows all =
@@ -139,7 +140,7 @@ section_takes_refusal n ticks cause called body importance _ y giver may m k = a
 
 user_takes_refusal : (n : ℕ) (ticks : Ticks) (cause : ℕ) (called body : Option (List ℕ)) (importance : Option ℕ) (s : UserState) (u : User) (giver : End)
     → Meets over (stage_at giver) → (class_at (owner u) ≡ class_at giver)
-    → ((credit_at (owner u) ≤ 127) × (credit_at giver ≤ 127)) → IsFresh giver → (class_at (owner u) ≡ 3 → Flows giver (owner u)) → (class_at (owner u) ≡ 2 → SendsAll giver (owner u))
+    → ((credit_at (owner u) ≤ GREATEST_CREDIT) × (credit_at giver ≤ GREATEST_CREDIT)) → IsFresh giver → (class_at (owner u) ≡ 3 → Flows giver (owner u)) → (class_at (owner u) ≡ 2 → SendsAll giver (owner u))
     → TakesInStep n ticks (hand.Refuse cause called body importance) (owner (user_at s u)) giver
 unfolding TakesInStep exchange user_takes user_row
 user_takes_refusal n ticks cause called body importance user.Gone u giver m c fits fresh flows all =
@@ -163,13 +164,13 @@ pub nothing_left : (e : End) → SendsAllWith e 0 []
 nothing_left (wire x) = refl
 nothing_left (owner u) = tt
 
-pub cleared_in : (credit : ℕ) → credit ≤ 127 → InCredit credit (cleared credit) × InWindow (cleared credit)
+pub cleared_in : (credit : ℕ) → credit ≤ GREATEST_CREDIT → InCredit credit (cleared credit) × InWindow (cleared credit)
 cleared_in credit fits = ((zero-le, zero-le, zero-le), (zero-le, zero-le, fits))
 
 -- an end that has accepted, of this class
 abbrev pub Accepted : ℕ → ℕ → End → Type 0
 Accepted class credit giver =
-    Meets connected (stage_at giver) × (class ≡ class_at giver) × (credit ≤ 127) × (credit_at giver ≤ 127) × IsFresh giver
+    Meets connected (stage_at giver) × (class ≡ class_at giver) × (credit ≤ GREATEST_CREDIT) × (credit_at giver ≤ GREATEST_CREDIT) × IsFresh giver
     × (passed_at giver ≡ 0) × (got_at giver ≡ []) × FlowsWith giver 0 []
 
 up_awaited : (y : Section) (giver : End) → NotRenewing giver → ResetIsAwaited (wire (at Up y)) giver

@@ -1,6 +1,7 @@
 -- An ED stays unanswered until EA comes on its section, or the counts are cleared.
 use Rattle.std.proofs.Common.{◌≡◌, ℕ, zero, suc, ◌==◌, ◌&&◌, ◌||◌, nat_lt, is_some, not, if◌then◌else◌, Bool, true, false, List, [], ◌∷◌, fold, Option, Some, None, refl, ◌∙◌, ap, subst, inl, inr, ◌⊎◌}
 use Rattle.std.proofs.lemmas.Bool.{false≢true}
+use Rattle.relay_base.specs.declared.causes.TheConstants.{RESET_INCORRECT_RECEIVE_NUMBER, RESET_OUT_OF_WINDOW, RESET_REMOTE_PROCEDURE_ERROR}
 use Rattle.relay_base.specs.declared.words.Event.{Event}
 use Rattle.relay_base.specs.declared.words.Event.TheVariants.{Message as Arrived, Asked as Requested, Tick}
 use Rattle.relay_base.specs.declared.words.Request.{Request}
@@ -58,17 +59,17 @@ data_stays : (A : Type 0) (m : Parameters) (x : Windowed) → WindowsStay A x (t
 unfolding WindowsStay
 data_stays A m x =
     either (WindowsStay A x) (not (is_next m x)) _ _ (λ _. resets_stay A (wrong_number x.windows) x)
-    (λ _. either (WindowsStay A x) (is_used_up x) _ _ (λ _. resets_stay A 0x04 x)
-    (λ _. either (WindowsStay A x) (not (is_valid m.pr x.windows)) _ _ (λ _. resets_stay A 0x03 x)
+    (λ _. either (WindowsStay A x) (is_used_up x) _ _ (λ _. resets_stay A RESET_OUT_OF_WINDOW x)
+    (λ _. either (WindowsStay A x) (not (is_valid m.pr x.windows)) _ _ (λ _. resets_stay A RESET_INCORRECT_RECEIVE_NUMBER x)
     (λ _. λ e. inl e)))
 
 windows_hear : (c : Cell) (o : Occasion) (A : Type 0) (m : Parameters) (x : Windowed) → IsCellOf c o → (o ≡ on.Ea → A) → WindowsStay A x (windowed_hears c m x)
 unfolding windowed_hears WindowsStay
 windows_hear cell.TakeNumberedData o A m x is answers = data_stays A m x
 windows_hear cell.TakeAcknowledgement o A m x is answers =
-    either (WindowsStay A x) (is_valid m.pr x.windows) _ _ (λ _. λ e. inl e) (λ _. resets_stay A 0x03 x)
+    either (WindowsStay A x) (is_valid m.pr x.windows) _ _ (λ _. λ e. inl e) (λ _. resets_stay A RESET_INCORRECT_RECEIVE_NUMBER x)
 windows_hear cell.TakeExpedited o A m x is answers =
-    either (WindowsStay A x) x.windows.owed _ _ (λ _. resets_stay A 0x06 x) (λ _. λ e. inl e)
+    either (WindowsStay A x) x.windows.owed _ _ (λ _. resets_stay A RESET_REMOTE_PROCEDURE_ERROR x) (λ _. λ e. inl e)
 windows_hear cell.TakeExpeditedAcknowledgement o A m x is answers = λ e. inr (inl (answers is))
 windows_hear cell.ResetByPeer o A m x is answers = λ e. inr (inr (refl, refl, refl))
 windows_hear cell.ResetComplete o A m x is answers = λ e. inl e

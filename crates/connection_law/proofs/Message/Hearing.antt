@@ -1,6 +1,7 @@
 -- What an event sends before units leave.
 use Rattle.std.proofs.Common.{◌≡◌, ℕ, ◌==◌, ◌&&◌, ◌||◌, not, Bool, true, false, List, [], ◌∷◌, fold, Option, Some, None, refl, sym, subst}
 use Rattle.std.proofs.lemmas.Bool.{false≢true}
+use Rattle.relay_base.specs.declared.causes.TheConstants.{RESET_INCORRECT_RECEIVE_NUMBER, RESET_OUT_OF_WINDOW, RESET_REMOTE_PROCEDURE_ERROR}
 use Rattle.relay_base.specs.declared.words.Event.{Event}
 use Rattle.relay_base.specs.declared.words.Event.TheVariants.{Message as Arrived, Asked as Requested, Tick}
 use Rattle.relay_base.specs.declared.words.Request.{Request}
@@ -123,8 +124,8 @@ unfolding ActsPlain IsPlain AreOther data_among expedited_among
 data_hears A G ticks m x x' that w =
     let reset : (cause : ℕ) → WindowsSend A G ticks x x' that (resets cause w) = λ cause. windows_plain A G ticks x x' that _ (resets_plain cause w) in
     either (WindowsSend A G ticks x x' that) (not (is_next m w)) _ _ (λ _. reset (wrong_number w.windows))
-    (λ _. either (WindowsSend A G ticks x x' that) (is_used_up w) _ _ (λ _. reset 0x04)
-    (λ _. either (WindowsSend A G ticks x x' that) (not (is_valid m.pr w.windows)) _ _ (λ _. reset 0x03)
+    (λ _. either (WindowsSend A G ticks x x' that) (is_used_up w) _ _ (λ _. reset RESET_OUT_OF_WINDOW)
+    (λ _. either (WindowsSend A G ticks x x' that) (not (is_valid m.pr w.windows)) _ _ (λ _. reset RESET_INCORRECT_RECEIVE_NUMBER)
     (λ _. windows_plain A G ticks x x' that _ ((refl, refl), (tt, tt)))))
 
 expedited_hears : (A : Section → Type 0) (G : End → List ℕ → Type 0) (ticks : Ticks) (m : Parameters) (x : Section) (t : Timers) (that : End) → G (wire x) m.data_octets
@@ -148,10 +149,10 @@ windows_hear cell.TakeNumberedData o A G ticks m x t that is answers brings = da
 windows_hear cell.TakeAcknowledgement o A G ticks m x t that is answers brings =
     either (WindowsSend A G ticks x (record x { timers = t }) that) (is_valid m.pr x.windows) _ _
     (λ _. windows_plain A G ticks x (record x { timers = t }) that _ ((refl, refl), tt))
-    (λ _. windows_plain A G ticks x (record x { timers = t }) that _ (resets_plain 0x03 (record { head = x.head; windows = x.windows })))
+    (λ _. windows_plain A G ticks x (record x { timers = t }) that _ (resets_plain RESET_INCORRECT_RECEIVE_NUMBER (record { head = x.head; windows = x.windows })))
 windows_hear cell.TakeExpedited o A G ticks m x t that is answers brings =
     either (WindowsSend A G ticks x (record x { timers = t }) that) x.windows.owed _ _
-    (λ _. windows_plain A G ticks x (record x { timers = t }) that _ (resets_plain 0x06 (record { head = x.head; windows = x.windows })))
+    (λ _. windows_plain A G ticks x (record x { timers = t }) that _ (resets_plain RESET_REMOTE_PROCEDURE_ERROR (record { head = x.head; windows = x.windows })))
     (λ _. expedited_hears A G ticks m x t that (brings is))
 windows_hear cell.TakeExpeditedAcknowledgement o A G ticks m x t that is answers brings =
     either (WindowsSend A G ticks x (record x { timers = t }) that) x.windows.unanswered _ _

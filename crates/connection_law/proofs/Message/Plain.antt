@@ -1,6 +1,8 @@
 -- Acts of which no DT2 and no ED comes.
 use Rattle.std.proofs.Common.{◌≡◌, ℕ, ◌==◌, ◌&&◌, ◌||◌, nat_le, nat_lt, if◌then◌else◌, Bool, true, false, List, [], ◌∷◌, ◌++◌, length, map, refl}
 use Rattle.std.proofs.lemmas.List.Elements.{filter-append}
+use Rattle.relay_base.specs.declared.causes.TheConstants.{ERROR_CLASS_MISMATCH}
+use Rattle.relay_base.specs.declared.limits.TheConstants.{LONGEST_TEXT}
 use Rattle.relay_base.specs.declared.words.Output.{Output}
 use Rattle.plant_core.specs.declared.terms.Ticks.{Ticks}
 use Rattle.q713_shape.specs.Writing.{octets_of}
@@ -71,7 +73,7 @@ line_hears_plain cell.Confirm point m x =
 line_hears_plain cell.Refused point m x = ((refl, refl), (tt, tt))
 line_hears_plain cell.Released point m x = ((refl, refl), (tt, tt))
 line_hears_plain cell.TakeData point m x = ((refl, refl), (tt, tt))
-line_hears_plain cell.ErrorReceived point m x = either LinePlain (m.cause == 3) _ _ (λ _. ((refl, refl), (tt, tt))) (λ _. ((refl, refl), (tt, tt)))
+line_hears_plain cell.ErrorReceived point m x = either LinePlain (m.cause == ERROR_CLASS_MISMATCH) _ _ (λ _. ((refl, refl), (tt, tt))) (λ _. ((refl, refl), (tt, tt)))
 line_hears_plain cell.TestReceived point m x = either LinePlain (m.slr == x.head.other && m.class == x.head.class) _ _ (λ _. ((refl, refl), tt)) (λ _. ((refl, refl), (tt, tt)))
 line_hears_plain _ point m x = ((refl, refl), tt)
 
@@ -158,7 +160,7 @@ left_other false units is_expedited = tt
 collects_plain : (h : Hand) (x : User) → UserPlain (collects h x)
 unfolding UserPlain ActsPlain IsPlain AreOther data_among expedited_among
 collects_plain (hand.Unit more body) x =
-    either UserPlain (nat_lt 8192 (length (x.text ++ body))) _ _ (λ _. ((refl, refl), (tt, tt)))
+    either UserPlain (nat_lt LONGEST_TEXT (length (x.text ++ body))) _ _ (λ _. ((refl, refl), (tt, tt)))
     (λ _. either UserPlain more _ _ (λ _. ((refl, refl), (tt, tt))) (λ _. ((refl, refl), (tt, tt))))
 collects_plain _ x = ((refl, refl), tt)
 

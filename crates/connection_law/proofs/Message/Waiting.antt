@@ -1,6 +1,7 @@
 -- Expedited data that waits on an end was handed over by the other.
 use Rattle.std.proofs.Common.{◌≡◌, ℕ, zero, suc, ◌==◌, ◌&&◌, ◌||◌, nat_lt, is_some, not, true, false, List, [], ◌∷◌, ◌++◌, fold, Option, Some, None, unwrap_or, refl, ap, subst, inl, inr, ◌⊎◌}
 use Rattle.std.proofs.lemmas.Option.{none-some}
+use Rattle.relay_base.specs.declared.causes.TheConstants.{RESET_INCORRECT_RECEIVE_NUMBER, RESET_OUT_OF_WINDOW, RESET_REMOTE_PROCEDURE_ERROR}
 use Rattle.relay_base.specs.declared.words.Event.{Event}
 use Rattle.relay_base.specs.declared.words.Event.TheVariants.{Message as Arrived, Asked as Requested, Tick}
 use Rattle.relay_base.specs.declared.words.Request.{Request}
@@ -90,8 +91,8 @@ data_over : (A B : List ℕ → Type 0) (m : Parameters) (x : Windowed) → Wind
 unfolding WindowsOver AreBrought
 data_over A B m x =
     either (WindowsOver A B x) (not (is_next m x)) _ _ (λ _. resets_over A B (wrong_number x.windows) x)
-    (λ _. either (WindowsOver A B x) (is_used_up x) _ _ (λ _. resets_over A B 0x04 x)
-    (λ _. either (WindowsOver A B x) (not (is_valid m.pr x.windows)) _ _ (λ _. resets_over A B 0x03 x)
+    (λ _. either (WindowsOver A B x) (is_used_up x) _ _ (λ _. resets_over A B RESET_OUT_OF_WINDOW x)
+    (λ _. either (WindowsOver A B x) (not (is_valid m.pr x.windows)) _ _ (λ _. resets_over A B RESET_INCORRECT_RECEIVE_NUMBER x)
     (λ _. (same A x.windows.waiting, (tt, tt)))))
 
 leaves_over : (A B : List ℕ → Type 0) (body : Option (List ℕ)) (x : Windowed) → WindowsOver A B x (sends_expedited body x)
@@ -103,9 +104,9 @@ windows_hear : (c : Cell) (o : Occasion) (A B : List ℕ → Type 0) (m : Parame
 unfolding windowed_hears WindowsOver AreBrought
 windows_hear cell.TakeNumberedData o A B m x is brings = data_over A B m x
 windows_hear cell.TakeAcknowledgement o A B m x is brings =
-    either (WindowsOver A B x) (is_valid m.pr x.windows) _ _ (λ _. (same A x.windows.waiting, tt)) (λ _. resets_over A B 0x03 x)
+    either (WindowsOver A B x) (is_valid m.pr x.windows) _ _ (λ _. (same A x.windows.waiting, tt)) (λ _. resets_over A B RESET_INCORRECT_RECEIVE_NUMBER x)
 windows_hear cell.TakeExpedited o A B m x is brings =
-    either (WindowsOver A B x) x.windows.owed _ _ (λ _. resets_over A B 0x06 x) (λ _. (same A x.windows.waiting, (brings is, tt)))
+    either (WindowsOver A B x) x.windows.owed _ _ (λ _. resets_over A B RESET_REMOTE_PROCEDURE_ERROR x) (λ _. (same A x.windows.waiting, (brings is, tt)))
 windows_hear cell.TakeExpeditedAcknowledgement o A B m x is brings =
     either (WindowsOver A B x) x.windows.unanswered _ _
     (λ _. leaves_over A B x.windows.waiting (record x { windows = record x.windows { unanswered = false } })) (λ _. (same A x.windows.waiting, tt))

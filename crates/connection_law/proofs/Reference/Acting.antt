@@ -1,6 +1,7 @@
 -- An act of one end: no act writes the local reference, and an end that is gone stays so.
 use Rattle.std.proofs.Common.{◌≡◌, ℕ, ◌==◌, true, false, List, Option, Some, None, refl, ap}
 use Rattle.std.proofs.lemmas.Bool.{false≢true}
+use Rattle.relay_base.specs.declared.causes.TheConstants.{ERROR_CLASS_MISMATCH, RESET_INCORRECT_RECEIVE_NUMBER, RESET_OUT_OF_WINDOW}
 use Rattle.relay_base.specs.declared.words.Request.{Request}
 use Rattle.relay_base.specs.declared.words.Request.TheVariants as request
 use Rattle.relay_base.specs.declared.words.Output.{Output}
@@ -41,7 +42,7 @@ WindowsHave mine done = done.0.head.mine ≡ mine
 line_hears_reference : (c : Cell) (point : ℕ) (m : Parameters) (x : Line) → LineHas x.head.mine (line_hears c point m x)
 unfolding line_hears LineHas
 line_hears_reference cell.Confirm point m x = either (LineHas x.head.mine) _ _ _ refl refl
-line_hears_reference cell.ErrorReceived point m x = either (LineHas x.head.mine) (m.cause == 3) _ _ refl refl
+line_hears_reference cell.ErrorReceived point m x = either (LineHas x.head.mine) (m.cause == ERROR_CLASS_MISMATCH) _ _ refl refl
 line_hears_reference cell.TestReceived point m x = either (LineHas x.head.mine) _ _ _ refl refl
 line_hears_reference _ point m x = refl
 
@@ -77,8 +78,8 @@ accepts_reference m x = refl
 data_reference : (m : Parameters) (x : Windowed) → WindowsHave x.head.mine (takes_data m x)
 data_reference m x =
     either (WindowsHave x.head.mine) _ _ _ (resets_reference (wrong_number x.windows) x)
-    (either (WindowsHave x.head.mine) _ _ _ (resets_reference 0x04 x)
-    (either (WindowsHave x.head.mine) _ _ _ (resets_reference 0x03 x) (accepts_reference m x)))
+    (either (WindowsHave x.head.mine) _ _ _ (resets_reference RESET_OUT_OF_WINDOW x)
+    (either (WindowsHave x.head.mine) _ _ _ (resets_reference RESET_INCORRECT_RECEIVE_NUMBER x) (accepts_reference m x)))
 
 expedites_reference : (waiting : Option (List ℕ)) (x : Windowed) → WindowsHave x.head.mine (sends_expedited waiting x)
 unfolding WindowsHave
