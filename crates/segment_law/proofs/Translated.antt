@@ -3,6 +3,7 @@ use Rattle.std.proofs.Common.{◌≡◌, ℕ, ◌+◌, ◌-◌, ◌*◌, ◌/◌
 use Rattle.std.specs.Prelude.{◌==◌, ◌&&◌, nat_le, not, is_some, slice_index, Option, Some, None, Ok, Err, IfOk, unwrap_or}
 use Rattle.std.specs.declared.result.Result.{Result}
 use Rattle.std.proofs.lemmas.Bool.{leb-true}
+use Rattle.relay_base.specs.declared.limits.TheConstants.{MOST_DIGITS}
 use Rattle.relay_base.specs.Giving.{◌>>=◌}
 use Rattle.sccp_address.specs.Form.{Form, TitleForm, no_title, bcd, other}
 use Rattle.sccp_address.specs.Digits.{halves, digits_in, digit_octets}
@@ -27,7 +28,7 @@ use Rattle.relay_base.proofs.GivingLemmas.{bound}
 -- a title has at most 24 digits
 abbrev pub IsFew : TitleForm → Type 0
 IsFew no_title = Unit {0}
-IsFew (bcd selector digits) = length digits ≤ 24
+IsFew (bcd selector digits) = length digits ≤ MOST_DIGITS
 IsFew (other gti octets) = Unit {0}
 
 last-of-and : (a b c : Bool) → (a && b && c) ≡ true → c ≡ true
@@ -35,7 +36,7 @@ last-of-and true true c e = e
 last-of-and true false c e = cc
 last-of-and false b c e = cc
 
-digits-few : (odd : Bool) (octets : List ℕ) → length octets ≤ 12 → length (digits_in odd octets) ≤ 24
+digits-few : (odd : Bool) (octets : List ℕ) → 2 * length octets ≤ MOST_DIGITS → length (digits_in odd octets) ≤ MOST_DIGITS
 unfolding digits_in
 digits-few true octets few = omega (arith, length-take (2 * length octets - 1) (halves octets), length-halves octets)
 digits-few false octets few = omega (arith, length-halves octets)
@@ -49,7 +50,7 @@ title-few gti octets = by_tests (gti == 0) (is_title_short gti octets) (is_bcd g
     by_tests true short digits e = tt
     by_tests false true digits e = tt
     by_tests false false true e =
-        let within : 2 * (length octets - lead_of gti) ≤ 24 = leb-true (2 * (length octets - lead_of gti)) 24 (last-of-and (has_digits gti) (is_some (parity_of gti octets)) (nat_le (2 * (length octets - lead_of gti)) 24) e) in
+        let within : 2 * (length octets - lead_of gti) ≤ MOST_DIGITS = leb-true (2 * (length octets - lead_of gti)) MOST_DIGITS (last-of-and (has_digits gti) (is_some (parity_of gti octets)) (nat_le (2 * (length octets - lead_of gti)) MOST_DIGITS) e) in
         digits-few (encoding_of gti octets == 1) (drop (lead_of gti) octets) (omega (arith, length-drop (lead_of gti) octets))
     by_tests false false false e = tt
 
