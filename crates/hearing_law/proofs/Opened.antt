@@ -4,6 +4,7 @@ use Rattle.std.specs.List.{range_with_len}
 use Rattle.std.proofs.lemmas.Bool.{not-true}
 use Rattle.std.proofs.lemmas.Nat.{div-mul-add}
 use Rattle.std.proofs.lemmas.List.Elements.{All-nil, All-head, All-tail, All-map, All-take, All-weaker, filter_passes}
+use Rattle.relay_base.specs.declared.causes.TheConstants.{REFUSAL_UNQUALIFIED}
 use Rattle.plant_core.specs.declared.answer.Rewrite.{Rewrite}
 use Rattle.plant_core.specs.declared.answer.Answer.{Answer}
 use Rattle.plant_core.specs.declared.answer.Answer.TheVariants.{Local, Forward, Refused}
@@ -37,7 +38,7 @@ by_cr_among P terms w (Local ssn) [] good = tt
 by_cr_among P terms w (Local ssn) (mine ∷ refs) good = (All-head P mine refs good, tt)
 by_cr_among P terms w (Forward point rewrite hop) refs good = by_test (fits w rewrite hop)
   where
-    by_test : (b : Bool) → AreAmong P (if b then opened_through terms w point rewrite hop refs else not_opened (cref_to w 0x0F ∷ [])).connection
+    by_test : (b : Bool) → AreAmong P (if b then opened_through terms w point rewrite hop refs else not_opened (cref_to w REFUSAL_UNQUALIFIED ∷ [])).connection
     by_test true = through_among P terms w point rewrite hop refs good
     by_test false = tt
 
