@@ -2,6 +2,7 @@
 use Rattle.std.proofs.Common.{◌≡◌, ℕ, zero, suc, ◌+◌, ◌-◌, ◌*◌, ◌/◌, ◌%◌, ◌<◌, ◌≤◌, List, [], ◌∷◌, ◌++◌, length, take, drop, get_or, Bool, true, false, if◌then◌else◌, refl, sym, ap, append_assoc, append-nil, length-drop, replicate, All, ◌∙◌, arith}
 use Rattle.std.proofs.lemmas.List.{take_more, take_all}
 use Rattle.std.specs.Prelude.{◌==◌}
+use Rattle.relay_base.specs.declared.limits.TheConstants.{DIGIT_VALUES}
 use lib.Seq.{take-append_seam}
 use Rattle.sccp_address.specs.Spelling.{is_odd}
 use Rattle.sccp_address.specs.Digits.{halves, digits_in, digit_octets}
@@ -99,22 +100,22 @@ take-digits false octets count e =
     take_all count (halves octets) whole
 
 -- digits read back
-halves-digit_octets : (digits : List ℕ) → All (λ d. d < 16) digits → halves (digit_octets digits) ≡ digits ++ replicate (length digits % 2) 0
+halves-digit_octets : (digits : List ℕ) → All (λ d. d < DIGIT_VALUES) digits → halves (digit_octets digits) ≡ digits ++ replicate (length digits % 2) 0
 halves-digit_octets [] small = refl
 halves-digit_octets (last ∷ []) small =
-    let below : last < 16 = small 0 0 (omega arith) in
+    let below : last < DIGIT_VALUES = small 0 0 (omega arith) in
     let low : last % 16 ≡ last = omega arith in
     let high : last / 16 ≡ 0 = omega arith in
     rw (low, high) refl
 halves-digit_octets (low ∷ high ∷ rest) small =
-    let below_low : low < 16 = small 0 0 (omega arith) in
-    let below_high : high < 16 = small 1 0 (omega arith) in
+    let below_low : low < DIGIT_VALUES = small 0 0 (omega arith) in
+    let below_high : high < DIGIT_VALUES = small 1 0 (omega arith) in
     let first : (low + 16 * high) % 16 ≡ low = omega arith in
     let second : (low + 16 * high) / 16 ≡ high = omega arith in
     let parity : suc (suc (length rest)) % 2 ≡ length rest % 2 = omega arith in
     rw (first, second, parity) (ap (λ l. low ∷ high ∷ l) (halves-digit_octets rest (λ k d h. small (suc (suc k)) d (omega (arith, h)))))
 
-pub digits_in-digit_octets : (digits : List ℕ) → All (λ d. d < 16) digits → digits_in (is_odd digits) (digit_octets digits) ≡ digits
+pub digits_in-digit_octets : (digits : List ℕ) → All (λ d. d < DIGIT_VALUES) digits → digits_in (is_odd digits) (digit_octets digits) ≡ digits
 unfolding digits_in
 digits_in-digit_octets digits small = of_parity (length digits % 2) refl (omega arith)
   where

@@ -3,7 +3,8 @@ use Rattle.std.proofs.Common.{◌≡◌, ℕ, suc, ◌+◌, ◌-◌, ◌*◌, �
 use Rattle.std.specs.Prelude.{◌==◌, ◌&&◌, ◌||◌, is_some, IfSome}
 use Rattle.std.proofs.lemmas.Bool.{ne_eqb, le-ltb, le-leb, eqb-true, ltb-true}
 use Rattle.std.proofs.lemmas.Bool.Decides.{eqb_tells}
-use Rattle.relay_base.specs.declared.limits.TheConstants.{MOST_DIGITS}
+use Rattle.relay_base.specs.declared.limits.TheConstants.{MOST_DIGITS, POINT_CODES}
+use Rattle.sccp_address.specs.declared.address.TheConstants.{NATURES, NUMBERING_PLANS, TITLE_INDICATORS}
 use Rattle.sccp_address.specs.declared.address.Selector.{Selector}
 use Rattle.sccp_address.specs.declared.titles.Parity.TheVariants.{Odd, Even}
 use Rattle.sccp_address.specs.Form.{Form, TitleForm, no_title, bcd, other}
@@ -33,20 +34,20 @@ has_point p s gti o = bit-is p (indicator p s gti o % 2) (omega (arith, bit-belo
 has_ssn : (p s : Bool) (gti : ℕ) (o : Bool) → (indicator p s gti o / 2 % 2 == 1) ≡ s
 has_ssn p s gti o = bit-is s (indicator p s gti o / 2 % 2) (omega (arith, bit-below p, bit-below s))
 
-has_gti : (p s : Bool) (gti : ℕ) (o : Bool) → gti < 16 → indicator p s gti o / 4 % 16 ≡ gti
+has_gti : (p s : Bool) (gti : ℕ) (o : Bool) → gti < TITLE_INDICATORS → indicator p s gti o / 4 % 16 ≡ gti
 has_gti p s gti o h = omega (arith, bit-below p, bit-below s)
 
-has_route : (p s : Bool) (gti : ℕ) (o : Bool) → gti < 16 → (indicator p s gti o / 64 % 2 == 1) ≡ o
+has_route : (p s : Bool) (gti : ℕ) (o : Bool) → gti < TITLE_INDICATORS → (indicator p s gti o / 64 % 2 == 1) ≡ o
 has_route p s gti o h = bit-is o (indicator p s gti o / 64 % 2) (omega (arith, bit-below p, bit-below s, bit-below o))
 
 -- The point code and the subsystem number.
 
-point_back : (p : Option ℕ) (rest : List ℕ) → IfSome p (λ point. point < 16384) → point_at (is_some p) (point_octets p ++ rest) ≡ Ok (p, rest)
+point_back : (p : Option ℕ) (rest : List ℕ) → IfSome p (λ point. point < POINT_CODES) → point_at (is_some p) (point_octets p ++ rest) ≡ Ok (p, rest)
 unfolding point_at
 point_back None rest h = refl
 point_back (Some point) rest h =
     let whole : nat_lt (suc (suc (length rest))) 2 ≡ false = le-ltb (suc (suc (length rest))) 2 (omega arith) in
-    let value : (point % 256 + 256 * (point / 256)) % 16384 ≡ point = omega arith in
+    let value : (point % 256 + 256 * (point / 256)) % POINT_CODES ≡ point = omega arith in
     rw (whole, value) refl
 
 ssn_back : (s : Option ℕ) (rest : List ℕ) → ssn_at (is_some s) (ssn_octets s ++ rest) ≡ Ok (s, rest)
@@ -76,7 +77,7 @@ encoding-of : (odd : Bool) (plan : ℕ) → (16 * plan + encoding odd) % 16 ≡ 
 encoding-of true plan = omega arith
 encoding-of false plan = omega arith
 
-encoding-of_nature : (odd : Bool) (nature : ℕ) → nature < 128 → 2 - (128 * bit odd + nature) / 128 ≡ encoding odd
+encoding-of_nature : (odd : Bool) (nature : ℕ) → nature < NATURES → 2 - (128 * bit odd + nature) / 128 ≡ encoding odd
 encoding-of_nature true nature h = omega arith
 encoding-of_nature false nature h = omega arith
 
@@ -124,11 +125,11 @@ not-true false h = refl
 abbrev back : Selector → List ℕ → Type 0
 back s digits = title_at s.gti (lead_octets s (is_odd digits) ++ digit_octets digits) ≡ Ok (bcd s digits)
 
-nature-of : (odd : Bool) (nature : ℕ) → nature < 128 → (128 * bit odd + nature) % 128 ≡ nature
+nature-of : (odd : Bool) (nature : ℕ) → nature < NATURES → (128 * bit odd + nature) % 128 ≡ nature
 nature-of true nature h = omega arith
 nature-of false nature h = omega arith
 
-nature_back : (nai : ℕ) (digits : List ℕ) → nai < 128 → HasFewDigits (bcd (record { gti = 1; tt = 0; np = 0; nai = nai }) digits)
+nature_back : (nai : ℕ) (digits : List ℕ) → nai < NATURES → HasFewDigits (bcd (record { gti = 1; tt = 0; np = 0; nai = nai }) digits)
     → back (record { gti = 1; tt = 0; np = 0; nai = nai }) digits
 nature_back nai digits h few =
     let small : nai % 128 ≡ nai = omega arith in
@@ -143,7 +144,7 @@ plan_back type plan digits few =
     (encoding-of (is_odd digits) plan)
     (ap (λ (n : ℕ). let s : Selector = record { gti = 3; tt = type; np = n; nai = 0 } in s) (plan-of (is_odd digits) plan)) refl few
 
-whole_back : (type plan nature : ℕ) (digits : List ℕ) → nature < 128 → HasFewDigits (bcd (record { gti = 4; tt = type; np = plan; nai = nature }) digits)
+whole_back : (type plan nature : ℕ) (digits : List ℕ) → nature < NATURES → HasFewDigits (bcd (record { gti = 4; tt = type; np = plan; nai = nature }) digits)
     → back (record { gti = 4; tt = type; np = plan; nai = nature }) digits
 whole_back type plan nature digits h few =
     let small : nature % 128 ≡ nature = omega arith in
@@ -165,22 +166,22 @@ carried_back s digits carried few =
     elim (eqb_tells s.gti 1) [
       | inl one ↦
           let fields = rw (one.0) at carried in
-          let parts = both (s.tt == 0 && s.np == 0) (nat_lt s.nai 128) fields in
+          let parts = both (s.tt == 0 && s.np == 0) (nat_lt s.nai NATURES) fields in
           let zeros = both (s.tt == 0) (s.np == 0) parts.0 in
           subst (λ t. back t digits) (selector-is s 1 0 0 s.nai one.1 (eqb-true s.tt 0 zeros.0) (eqb-true s.np 0 zeros.1) refl)
-          (nature_back s.nai digits (ltb-true s.nai 128 parts.1) few)
+          (nature_back s.nai digits (ltb-true s.nai NATURES parts.1) few)
       | inr not_one ↦ elim (eqb_tells s.gti 3) [
         | inl three ↦
             let fields = rw (not_one.0, three.0) at carried in
-            let parts = both (nat_lt s.np 16) (s.nai == 0) fields in
+            let parts = both (nat_lt s.np NUMBERING_PLANS) (s.nai == 0) fields in
             subst (λ t. back t digits) (selector-is s 3 s.tt s.np 0 three.1 refl refl (eqb-true s.nai 0 parts.1))
             (plan_back s.tt s.np digits few)
         | inr not_three ↦ elim (eqb_tells s.gti 4) [
           | inl four ↦
               let fields = rw (not_one.0, not_three.0, four.0) at carried in
-              let parts = both (nat_lt s.np 16) (nat_lt s.nai 128) fields in
+              let parts = both (nat_lt s.np NUMBERING_PLANS) (nat_lt s.nai NATURES) fields in
               subst (λ t. back t digits) (selector-is s 4 s.tt s.np s.nai four.1 refl refl refl)
-              (whole_back s.tt s.np s.nai digits (ltb-true s.nai 128 parts.1) few)
+              (whole_back s.tt s.np s.nai digits (ltb-true s.nai NATURES parts.1) few)
           | inr not_four ↦ (let none = rw (not_one.0, not_three.0, not_four.0) at carried in cc)
         ]
       ]
@@ -190,9 +191,9 @@ carried_back s digits carried few =
 other_back : (gti : ℕ) (octets : List ℕ) → IsTrue (is_in_form (other gti octets)) → title_at gti octets ≡ Ok (other gti octets)
 unfolding title_at
 other_back gti octets h =
-    let digital = both (not (gti == 0) && nat_lt gti 16 && not (is_title_short gti octets)) (not (is_bcd gti octets)) h in
-    let short = both (not (gti == 0) && nat_lt gti 16) (not (is_title_short gti octets)) digital.0 in
-    let zero = both (not (gti == 0)) (nat_lt gti 16) short.0 in
+    let digital = both (not (gti == 0) && nat_lt gti TITLE_INDICATORS && not (is_title_short gti octets)) (not (is_bcd gti octets)) h in
+    let short = both (not (gti == 0) && nat_lt gti TITLE_INDICATORS) (not (is_title_short gti octets)) digital.0 in
+    let zero = both (not (gti == 0)) (nat_lt gti TITLE_INDICATORS) short.0 in
     rw (not-true (gti == 0) zero.0, not-true (is_title_short gti octets) short.1, not-true (is_bcd gti octets) digital.1) refl
 
 title_back : (t : TitleForm) → IsTrue (is_in_form t) → HasFewDigits t → title_at (gti_of t) (title_octets t) ≡ Ok t
@@ -201,7 +202,7 @@ title_back no_title h few = refl
 title_back (bcd s digits) h few = carried_back s digits h few
 title_back (other gti octets) h few = other_back gti octets h
 
-gti_below : (t : TitleForm) → IsTrue (is_in_form t) → gti_of t < 16
+gti_below : (t : TitleForm) → IsTrue (is_in_form t) → gti_of t < TITLE_INDICATORS
 gti_below no_title h = omega arith
 gti_below (bcd s digits) h =
     elim (eqb_tells s.gti 1) [
@@ -215,9 +216,9 @@ gti_below (bcd s digits) h =
       ]
     ]
 gti_below (other gti octets) h =
-    let digital = both (not (gti == 0) && nat_lt gti 16 && not (is_title_short gti octets)) (not (is_bcd gti octets)) h in
-    let short = both (not (gti == 0) && nat_lt gti 16) (not (is_title_short gti octets)) digital.0 in
-    ltb-true gti 16 ((both (not (gti == 0)) (nat_lt gti 16) short.0).1)
+    let digital = both (not (gti == 0) && nat_lt gti TITLE_INDICATORS && not (is_title_short gti octets)) (not (is_bcd gti octets)) h in
+    let short = both (not (gti == 0) && nat_lt gti TITLE_INDICATORS) (not (is_title_short gti octets)) digital.0 in
+    ltb-true gti TITLE_INDICATORS ((both (not (gti == 0)) (nat_lt gti TITLE_INDICATORS) short.0).1)
 
 -- The whole address.
 

@@ -8,6 +8,7 @@ use Rattle.sccp_address.specs.Digits.{digits_in}
 use Rattle.sccp_address.specs.declared.address.Selector.{Selector}
 use Rattle.sccp_address.specs.declared.address.AddressFault.TheVariants.{TitleShort}
 use Rattle.std.specs.Prelude.{◌==◌, ◌&&◌}
+use Rattle.sccp_address.specs.declared.address.TheConstants.{TITLE_INDICATORS}
 
 -- octets that stay as they are
 abbrev pub is_kept : Result TitleForm AddressFault → Bool
@@ -26,11 +27,11 @@ kept_cases false true false true selector numbers gti octets e f = refl
 kept_cases false true false false selector numbers gti octets e f = refl
 
 -- octets that are read as neither short nor digits are those that reading keeps
-pub is_kept-title_at : (gti : ℕ) (octets : List ℕ) → nat_eq gti 0 ≡ false → nat_lt gti 16 ≡ true
+pub is_kept-title_at : (gti : ℕ) (octets : List ℕ) → nat_eq gti 0 ≡ false → nat_lt gti TITLE_INDICATORS ≡ true
     → is_in_form (other gti octets) ≡ is_kept (title_at gti octets)
 unfolding title_at
 is_kept-title_at gti octets nonzero below =
-    kept_cases (gti == 0) (nat_lt gti 16) (is_title_short gti octets) (is_bcd gti octets)
+    kept_cases (gti == 0) (nat_lt gti TITLE_INDICATORS) (is_title_short gti octets) (is_bcd gti octets)
     (selector_of gti octets) (digits_in (encoding_of gti octets == 1) (drop (lead_of gti) octets)) gti octets nonzero below
 
 pub ruleset kept = (is_kept-title_at)
