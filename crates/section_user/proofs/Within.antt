@@ -5,6 +5,8 @@ use Rattle.std.specs.List.{range_with_len, All}
 use Rattle.std.proofs.lemmas.Bool.{leb-true, ltb-true}
 use Rattle.std.proofs.lemmas.List.Elements.{All-map, All-from_get_or}
 use Rattle.std.proofs.lemmas.List.FromFn.{length-range_with_len, get_or-range_with_len}
+use Rattle.relay_base.specs.declared.limits.TheConstants.{LONGEST_DATA, LONGEST_TEXT}
+use Rattle.section_model.specs.declared.limits.TheConstants.{LONGEST_UNIT}
 use Rattle.relay_base.specs.declared.words.Request.{Request}
 use Rattle.relay_base.specs.declared.words.Request.TheVariants as request
 use Rattle.relay_base.specs.declared.words.Event.{Event}
@@ -40,15 +42,15 @@ first : (a b : Bool) → IsTrue (a && b) → IsTrue a
 first true b e = refl
 first false b e = cc
 
-given-within : (body : List ℕ) → length body ≤ 128 → IsData (given body)
+given-within : (body : List ℕ) → length body ≤ LONGEST_DATA → IsData (given body)
 given-within [] few = tt
 given-within (b ∷ body) few = (omega arith, few)
 
 unit-within : (body : List ℕ) (k : ℕ) → k < unit_count body → HandWithin (handed (unit_at body k))
 unit-within body k below =
     let starts = starts_within (length body) k below in
-    let size = length-take 255 (drop (255 * k) body) in
-    let rest = length-drop (255 * k) body in
+    let size = length-take LONGEST_UNIT (drop (LONGEST_UNIT * k) body) in
+    let rest = length-drop (LONGEST_UNIT * k) body in
     (omega (arith, starts, size, rest), omega (arith, size))
 
 units-within : (body : List ℕ) → HandsWithin (map handed (units_of body))
@@ -113,7 +115,7 @@ takes-within cell.TellUnit h x = takes h
   where
     takes : (h : Hand) → ActedWithin (collects h x).1
     takes (hand.Unit more body) =
-        acted_either (nat_lt 8192 (length (x.text ++ body))) (overruns x) (if more then continues body x else completes body x) ((tt, tt), tt)
+        acted_either (nat_lt LONGEST_TEXT (length (x.text ++ body))) (overruns x) (if more then continues body x else completes body x) ((tt, tt), tt)
         (acted_either more (continues body x) (completes body x) (tt, (tt, tt)) (tt, (tt, tt)))
     takes _ = none
 takes-within cell.TellExpedited h x = takes h
