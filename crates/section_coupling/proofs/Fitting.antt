@@ -1,6 +1,8 @@
 -- Whether CR may be written as it goes on, by the lengths of its parameters.
 use Rattle.std.proofs.Common.{◌≡◌, ℕ, suc, ◌+◌, ◌*◌, ◌/◌, ◌%◌, ◌==◌, ◌&&◌, nat_le, Bool, true, false, List, [], ◌∷◌, ◌++◌, length, refl, sym, ap, ◌∙◌, arith, length-append, le-leb, if◌then◌else◌}
 use Rattle.std.specs.Prelude.{Option, Some, None}
+use Rattle.q713_codec.specs.declared.longest.TheConstants.{LONGEST}
+use Rattle.relay_base.specs.declared.limits.TheConstants.{GREATEST_OCTET, LONGEST_PARAMETER}
 use Rattle.sccp_address.specs.declared.address.Selector.{Selector}
 use Rattle.sccp_address.specs.Form.{Form}
 use Rattle.sccp_address.specs.Digits.{digit_octets}
@@ -88,10 +90,10 @@ tests z x a b c d e q y f g h = rw (y, f, g, h) (by_cases x b c q)
 
 in_range-by : (mine class : ℕ) (called : List ℕ) (credit : Option ℕ) (calling body : Option (List ℕ)) (hop importance : Option ℕ) →
     is_in_range (Cr mine class called credit calling body hop importance)
-    ≡ (nat_le (length called) 255 && is_option 0x04 calling && is_option 0x0F body && nat_le (optional_skip_of (length ((length called % 256 ∷ called) ++ [])) (length (ended (parameters credit calling body hop importance)))) 255)
+    ≡ (nat_le (length called) LONGEST_PARAMETER && is_option 0x04 calling && is_option 0x0F body && nat_le (optional_skip_of (length ((length called % 256 ∷ called) ++ [])) (length (ended (parameters credit calling body hop importance)))) GREATEST_OCTET)
 unfolding is_in_range are_in_range
 in_range-by mine class called credit calling body hop importance =
-    tests (nat_le 0 (length called)) (nat_le (length called) 255) (is_option 0x09 (in_one credit)) (is_option 0x04 calling) (is_option 0x0F body) (is_option 0x11 (in_one hop)) (is_option 0x12 (in_one importance)) _
+    tests (nat_le 0 (length called)) (nat_le (length called) LONGEST_PARAMETER) (is_option 0x09 (in_one credit)) (is_option 0x04 calling) (is_option 0x0F body) (is_option 0x11 (in_one hop)) (is_option 0x12 (in_one importance)) _
     (le-leb 0 (length called) (omega arith)) (one 0x09 credit refl) (one 0x11 hop refl) (one 0x12 importance refl)
 
 length-cr : (mine class : ℕ) (called : List ℕ) (credit : Option ℕ) (calling body : Option (List ℕ)) (hop importance : Option ℕ) →
@@ -123,7 +125,7 @@ by-lengths x b c q r s t e f = rw (e, f) (rearranged x b c q r)
 
 fits-message : (mine class : ℕ) (called : List ℕ) (credit : Option ℕ) (calling body : Option (List ℕ)) (hop importance : Option ℕ) (size options : ℕ) → size ≡ length called
     → octet_size credit + option_size calling + option_size body + octet_size hop + octet_size importance ≡ options
-    → (is_in_range (Cr mine class called credit calling body hop importance) && nat_le (length (spelling_of (Cr mine class called credit calling body hop importance))) 268)
+    → (is_in_range (Cr mine class called credit calling body hop importance) && nat_le (length (spelling_of (Cr mine class called credit calling body hop importance))) LONGEST)
     ≡ (is_option 0x04 calling && is_option 0x0F body && are_fitting size options)
 fits-message mine class called credit calling body hop importance size options e f =
     let given = parameters credit calling body hop importance in
@@ -132,9 +134,9 @@ fits-message mine class called credit calling body hop importance size options e
     pointer _ options (length called) given count (length-variable (length called % 256) called) in
     let whole : length (spelling_of (Cr mine class called credit calling body hop importance)) ≡ 8 + length called + part_size options =
     length-cr mine class called credit calling body hop importance ∙ ap (λ n. 8 + length called + n) (length-ended given ∙ ap part_size count) in
-    rw e (by-lengths (nat_le (length called) 255) (is_option 0x04 calling) (is_option 0x0F body) (nat_le (if options == 0 then 0 else 2 + length called) 255) (nat_le (8 + length called + part_size options) 268) _ _
-    (in_range-by mine class called credit calling body hop importance ∙ ap (λ n. nat_le (length called) 255 && is_option 0x04 calling && is_option 0x0F body && nat_le n 255) behind)
-    (ap (λ n. nat_le n 268) whole))
+    rw e (by-lengths (nat_le (length called) LONGEST_PARAMETER) (is_option 0x04 calling) (is_option 0x0F body) (nat_le (if options == 0 then 0 else 2 + length called) GREATEST_OCTET) (nat_le (8 + length called + part_size options) LONGEST) _ _
+    (in_range-by mine class called credit calling body hop importance ∙ ap (λ n. nat_le (length called) LONGEST_PARAMETER && is_option 0x04 calling && is_option 0x0F body && nat_le n GREATEST_OCTET) behind)
+    (ap (λ n. nat_le n LONGEST) whole))
 
 -- CR fits by the lengths of its parameters
 fits-by : (w : Wanted) (rewrite : Rewrite) (hop : Option ℕ) (size : ℕ) → size ≡ length (called_onward rewrite w.called)

@@ -3,6 +3,8 @@ use Rattle.std.proofs.Common.{◌≡◌, ℕ, ◌+◌, ◌-◌, ◌≤◌, ◌<�
 use Rattle.std.specs.Prelude.{Option}
 use Rattle.std.proofs.lemmas.Bool.{eqb-true, eqb-false, and_parts}
 use Rattle.std.proofs.lemmas.List.{length_push, drop_more}
+use Rattle.relay_base.specs.declared.causes.TheConstants.{ERROR_CLASS_MISMATCH, REFUSAL_ESTABLISHMENT_EXPIRED, REFUSAL_UNQUALIFIED, RELEASE_ACCESS_CONGESTION, RELEASE_INACTIVITY_EXPIRED, RELEASE_INCONSISTENT_DATA, RELEASE_RESET_EXPIRED, RELEASE_UNQUALIFIED, RESET_END_USER, RESET_INCORRECT_RECEIVE_NUMBER, RESET_OUT_OF_WINDOW, RESET_REMOTE_PROCEDURE_ERROR}
+use Rattle.relay_base.specs.declared.limits.TheConstants.{LONGEST_TEXT}
 use Rattle.relay_base.specs.declared.words.Output.{Output}
 use Rattle.relay_base.specs.declared.words.Request.{Request}
 use Rattle.relay_base.specs.declared.words.Request.TheVariants as request
@@ -107,7 +109,7 @@ user-answers cell.TellDisconnect (hand.Refuse cause called body importance) u th
 user-answers cell.TellDisconnect (hand.End cause body importance) u this may = tt
 user-answers cell.TellDisconnect _ u this may = tt
 user-answers cell.TellUnit (hand.Unit more body) u this may =
-    either (ByUser this) (nat_lt 8192 (length (u.text ++ body))) _ _ (λ _. ((none-come (hand.End 0x07 None None) this tt), tt, tt, tt))
+    either (ByUser this) (nat_lt LONGEST_TEXT (length (u.text ++ body))) _ _ (λ _. ((none-come (hand.End RELEASE_ACCESS_CONGESTION None None) this tt), tt, tt, tt))
     (λ _. either (ByUser this) more _ _ (λ _. (may, tt, tt, tt)) (λ _. (may, tt, tt, tt)))
 user-answers cell.TellUnit _ u this may = tt
 user-answers cell.TellExpedited (hand.Expedited body) u this may = ((none-come (hand.Left 0 true) this refl), tt, tt, tt)
@@ -137,8 +139,8 @@ data-come : (m : Parameters) (ticks : Ticks) (x : Section) (that : End) → x.wi
 data-come m ticks x that within =
     let w : Windowed = record { head = x.head; windows = x.windows } in
     either (ByWindows ticks x that) (not (is_next m w)) _ _ (λ _. resets-come (wrong_number w.windows) ticks x that)
-    (λ _. either (ByWindows ticks x that) (is_used_up w) _ _ (λ _. resets-come 0x04 ticks x that)
-    (λ _. either (ByWindows ticks x that) (not (is_valid m.pr x.windows)) _ _ (λ _. resets-come 0x03 ticks x that)
+    (λ _. either (ByWindows ticks x that) (is_used_up w) _ _ (λ _. resets-come RESET_OUT_OF_WINDOW ticks x that)
+    (λ _. either (ByWindows ticks x that) (not (is_valid m.pr x.windows)) _ _ (λ _. resets-come RESET_INCORRECT_RECEIVE_NUMBER ticks x that)
     (λ _. (none-come (hand.Unit m.more m.data_octets) that tt, (λ three. one-came x.windows.got _ x.windows.passed within), refl, tt))))
 
 expedited-come : (body : Option (List ℕ)) (ticks : Ticks) (x : Section) (w : Windowed) (that : End) → ByWindows ticks x that (sends_expedited body w)
@@ -150,9 +152,9 @@ windows-hear : (c : Cell) (m : Parameters) (ticks : Ticks) (x : Section) (that :
 unfolding windowed_hears
 windows-hear cell.TakeNumberedData m ticks x that within = data-come m ticks x that within
 windows-hear cell.TakeAcknowledgement m ticks x that within =
-    either (ByWindows ticks x that) (is_valid m.pr x.windows) _ _ (λ _. tt) (λ _. resets-come 0x03 ticks x that)
+    either (ByWindows ticks x that) (is_valid m.pr x.windows) _ _ (λ _. tt) (λ _. resets-come RESET_INCORRECT_RECEIVE_NUMBER ticks x that)
 windows-hear cell.TakeExpedited m ticks x that within =
-    either (ByWindows ticks x that) x.windows.owed _ _ (λ _. resets-come 0x06 ticks x that) (λ _. (none-come (hand.Expedited m.data_octets) that tt, tt, refl, tt))
+    either (ByWindows ticks x that) x.windows.owed _ _ (λ _. resets-come RESET_REMOTE_PROCEDURE_ERROR ticks x that) (λ _. (none-come (hand.Expedited m.data_octets) that tt, tt, refl, tt))
 windows-hear cell.TakeExpeditedAcknowledgement m ticks x that within =
     either (ByWindows ticks x that) x.windows.unanswered _ _
     (λ _. expedited-come x.windows.waiting ticks x (record { head = x.head; windows = record x.windows { unanswered = false } }) that) (λ _. tt)
@@ -167,14 +169,14 @@ line-hear : (c : Cell) (point : ℕ) (m : Parameters) (ticks : Ticks) (x : Secti
 unfolding line_hears
 line-hear cell.Confirm point m ticks x that other =
     either (ByLine ticks x that) ((m.class == 2 || m.class == 3) && nat_le m.class x.head.class) _ _
-    (λ _. (none-come (hand.Accept m.class (agreed (reached point m.slr (line_in x)).head m) m.called m.body m.importance) that tt, tt, refl, tt)) (λ _. (none-come (hand.Refuse 0x0F None None None) that tt, tt, refl, tt))
+    (λ _. (none-come (hand.Accept m.class (agreed (reached point m.slr (line_in x)).head m) m.called m.body m.importance) that tt, tt, refl, tt)) (λ _. (none-come (hand.Refuse REFUSAL_UNQUALIFIED None None None) that tt, tt, refl, tt))
 line-hear cell.Refused point m ticks x that other = (none-come (hand.Refuse m.cause m.called m.body m.importance) that tt, tt, refl, tt)
 line-hear cell.Released point m ticks x that other = (none-come (hand.End m.cause m.body m.importance) that tt, tt, refl, tt)
 line-hear cell.TakeData point m ticks x that other = (none-come (hand.Unit m.more m.data_octets) that tt, (λ three. absurd (eqb-false x.head.class 3 other three)), refl, tt)
 line-hear cell.ErrorReceived point m ticks x that other =
-    either (ByLine ticks x that) (m.cause == 3) _ _ (λ _. (none-come (hand.End 0x0F None None) that tt, tt, refl, tt)) (λ _. (none-come (hand.End 0x0F None None) that tt, tt, refl, tt))
+    either (ByLine ticks x that) (m.cause == ERROR_CLASS_MISMATCH) _ _ (λ _. (none-come (hand.End RELEASE_UNQUALIFIED None None) that tt, tt, refl, tt)) (λ _. (none-come (hand.End RELEASE_UNQUALIFIED None None) that tt, tt, refl, tt))
 line-hear cell.TestReceived point m ticks x that other =
-    either (ByLine ticks x that) (m.slr == x.head.other && m.class == x.head.class) _ _ (λ _. tt) (λ _. (none-come (hand.End 0x05 None None) that tt, tt, refl, tt))
+    either (ByLine ticks x that) (m.slr == x.head.other && m.class == x.head.class) _ _ (λ _. tt) (λ _. (none-come (hand.End RELEASE_INCONSISTENT_DATA None None) that tt, tt, refl, tt))
 line-hear _ point m ticks x that other = tt
 
 pub hears-come : (ticks : Ticks) (c : Cell) (point : ℕ) (m : Parameters) (x : Section) (that : End) → (x.head.class ≡ 3 → x.windows.passed ≤ length x.windows.got)
@@ -187,9 +189,9 @@ hears-come ticks c point m x that within =
 
 line-fire : (c : Cell) (ticks : Ticks) (x : Section) (that : End) → ByLine ticks x that (line_fires c (line_in x))
 unfolding line_fires
-line-fire cell.NotAnswered ticks x that = (none-come (hand.Refuse 0x0C None None None) that tt, tt, refl, tt)
-line-fire cell.ResetExpired ticks x that = (none-come (hand.End 0x0C None None) that tt, tt, refl, tt)
-line-fire cell.PeerSilent ticks x that = (none-come (hand.End 0x0D None None) that tt, tt, refl, tt)
+line-fire cell.NotAnswered ticks x that = (none-come (hand.Refuse REFUSAL_ESTABLISHMENT_EXPIRED None None None) that tt, tt, refl, tt)
+line-fire cell.ResetExpired ticks x that = (none-come (hand.End RELEASE_RESET_EXPIRED None None) that tt, tt, refl, tt)
+line-fire cell.PeerSilent ticks x that = (none-come (hand.End RELEASE_INACTIVITY_EXPIRED None None) that tt, tt, refl, tt)
 line-fire _ ticks x that = tt
 
 pub fires-come : (ticks : Ticks) (c : Cell) (x : Section) (that : End) → AreOfWhatCame (section_fires ticks c x).0 (hands_of (section_fires ticks c x).1) that
@@ -243,7 +245,7 @@ asks-come cell.UserSends (request.Send mine body) u that = units-come (units_of 
 asks-come cell.UserSends _ u that = tt
 asks-come cell.UserExpedites (request.Expedite mine body) u that = (none-come (hand.Expedited body) that tt, tt, tt, tt)
 asks-come cell.UserExpedites _ u that = tt
-asks-come cell.UserResets r u that = (none-come (hand.Reset 0) that tt, tt, tt, tt)
+asks-come cell.UserResets r u that = (none-come (hand.Reset RESET_END_USER) that tt, tt, tt, tt)
 asks-come cell.UserDisconnects (request.Disc mine cause body) u that = (none-come (hand.End cause (given body) None) that tt, tt, tt, tt)
 asks-come cell.UserDisconnects _ u that = tt
 asks-come _ r u that = tt

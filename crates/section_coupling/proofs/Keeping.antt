@@ -1,6 +1,7 @@
 -- What the two ends of a connection keep of windows, as the code keeps it.
 use Rattle.std.proofs.Common.{◌≡◌, ◌∙◌, ◌≤◌, ℕ, List, Some, subst, ap}
 use Rattle.std.specs.Prelude.{Option, IfSome, IsTrue, option_map}
+use Rattle.relay_base.specs.declared.limits.TheConstants.{GREATEST_CREDIT}
 use Rattle.relay_base.specs.declared.words.Event.{Event}
 use Rattle.plant_core.specs.declared.terms.Ticks.{Ticks}
 use Rattle.relay_base.specs.declared.words.Output.{Output}
@@ -65,7 +66,7 @@ expedited-step ticks now later then event p q r outs more h same e f =
     (expedited_sent ticks (connection_at now p) event h)
 
 -- and from the opening on
-pub kept-opened : (terms : Terms) (event : Event) (answer : Option Answer) (references : List ℕ) (now : ℕ) (pair : Option Pair) (p : Pair) (outs : List Output) → terms.credit ≤ 127
+pub kept-opened : (terms : Terms) (event : Event) (answer : Option Answer) (references : List ℕ) (now : ℕ) (pair : Option Pair) (p : Pair) (outs : List Output) → terms.credit ≤ GREATEST_CREDIT
     → opened terms (wish_of terms event) answer references ≡ record { connection = option_map (connection_at now) pair; outs = outs } → pair ≡ Some p → IsInStep (connection_at 0 p)
 kept-opened terms event answer references now pair p outs fits e same =
     at-any now 0 p

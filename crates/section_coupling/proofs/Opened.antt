@@ -1,6 +1,8 @@
 -- What an opening comes to, by its cases.
 use Rattle.std.proofs.Common.{◌≡◌, ℕ, ◌≤◌, ◌<◌, true, false, List, [], ◌∷◌, length, get_or, refl, sym, subst, arith}
 use Rattle.std.specs.Prelude.{slice_get, Option, Some, None, is_some}
+use Rattle.relay_base.specs.declared.causes.TheConstants.{REFUSAL_NOT_AVAILABLE, REFUSAL_UNQUALIFIED}
+use Rattle.relay_base.specs.declared.limits.TheConstants.{LONGEST_GIVEN_ADDRESS}
 use Rattle.plant_core.specs.declared.answer.Rewrite.{Rewrite}
 use Rattle.plant_core.specs.declared.answer.Answer.{Answer}
 use Rattle.plant_core.specs.declared.answer.Answer.TheVariants.{Local, Forward}
@@ -15,14 +17,14 @@ use Rattle.section_model.proofs.InRanges.{cr-in_range}
 
 -- CR that doesn't fit, one for which too few references are free, and one that goes on
 pub onward-unfit : (terms : Terms) (w : Wanted) (point : ℕ) (rewrite : Rewrite) (hop : Option ℕ) (refs : List ℕ) → fits w rewrite hop ≡ false
-    → opened_by_cr terms w (Forward point rewrite hop) refs ≡ not_opened (cref_to w 0x0F ∷ [])
+    → opened_by_cr terms w (Forward point rewrite hop) refs ≡ not_opened (cref_to w REFUSAL_UNQUALIFIED ∷ [])
 unfolding opened_by_cr
 onward-unfit terms w point rewrite hop [] e = rw e refl
 onward-unfit terms w point rewrite hop (mine ∷ []) e = rw e refl
 onward-unfit terms w point rewrite hop (mine ∷ next ∷ refs) e = rw e refl
 
 pub onward-few : (terms : Terms) (w : Wanted) (point : ℕ) (rewrite : Rewrite) (hop : Option ℕ) (refs : List ℕ) → fits w rewrite hop ≡ true → length refs < 2
-    → opened_by_cr terms w (Forward point rewrite hop) refs ≡ not_opened (cref_to w 0x07 ∷ [])
+    → opened_by_cr terms w (Forward point rewrite hop) refs ≡ not_opened (cref_to w REFUSAL_NOT_AVAILABLE ∷ [])
 unfolding opened_by_cr
 onward-few terms w point rewrite hop [] e few = rw e refl
 onward-few terms w point rewrite hop (mine ∷ []) e few = rw e refl
@@ -42,19 +44,19 @@ onward-found terms w point rewrite hop refs mine next f enough e g =
     (subst (λ n. opened_by_cr terms w (Forward point rewrite hop) refs ≡ opened_onward terms w point rewrite hop (get_or refs 0 mine) n) (sym g) (onward-enough terms w point rewrite hop refs mine next f enough))
 
 pub local-none : (terms : Terms) (w : Wanted) (answer : Answer) (ssn : ℕ) (refs : List ℕ) → answer ≡ Local ssn → None ≡ slice_get refs 0
-    → opened_by_cr terms w answer refs ≡ not_opened (cref_to w 0x07 ∷ [])
+    → opened_by_cr terms w answer refs ≡ not_opened (cref_to w REFUSAL_NOT_AVAILABLE ∷ [])
 unfolding opened_by_cr
 local-none terms w answer ssn [] e f = rw e refl
 local-none terms w answer ssn (mine ∷ refs) e f = absurd (cc)
 
 -- a user's CR may be written
-pub user-in_range : (w : Wanted) (rewrite : Rewrite) (hop : Option ℕ) (mine : ℕ) → length w.called ≤ 40 → IsAddress w.calling → IsData w.body → InRange (onward w rewrite hop mine)
+pub user-in_range : (w : Wanted) (rewrite : Rewrite) (hop : Option ℕ) (mine : ℕ) → length w.called ≤ LONGEST_GIVEN_ADDRESS → IsAddress w.calling → IsData w.body → InRange (onward w rewrite hop mine)
 user-in_range w rewrite hop mine called calling body =
     let short : length (called_onward rewrite w.called) ≤ 253 = omega (arith, called, length-called_onward rewrite w.called) in
     cr-in_range mine w.class (called_onward rewrite w.called) (credit_of w.class w.credit) w.calling w.body hop w.importance short calling body
 
 -- a CR of which routing wasn't asked
-pub unasked : (terms : Terms) (w : Wanted) (a : Option Answer) (refs : List ℕ) → is_some a ≡ false → opened terms (by_cr w) a refs ≡ not_opened (cref_to w 0x0F ∷ [])
+pub unasked : (terms : Terms) (w : Wanted) (a : Option Answer) (refs : List ℕ) → is_some a ≡ false → opened terms (by_cr w) a refs ≡ not_opened (cref_to w REFUSAL_UNQUALIFIED ∷ [])
 unfolding opened
 unasked terms w None refs e = refl
 unasked terms w (Some answer) refs e = absurd (cc)

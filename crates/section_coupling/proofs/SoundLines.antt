@@ -3,6 +3,7 @@ use Rattle.std.proofs.Common.{◌≡◌, ℕ, ◌==◌, ◌&&◌, not, Bool, tru
 use Rattle.std.proofs.lemmas.Bool.{eqb-false, false≢true}
 use Rattle.std.specs.Prelude.{Option, Some, None, max}
 use Rattle.std.proofs.Math.Nat.{min-le_right}
+use Rattle.relay_base.specs.declared.causes.TheConstants.{ERROR_CLASS_MISMATCH, REFUSAL_UNQUALIFIED, RELEASE_INCONSISTENT_DATA, RELEASE_UNQUALIFIED}
 use Rattle.section_model.specs.declared.cell.Cell.{Cell}
 use Rattle.section_model.specs.declared.cell.Cell.TheVariants as cell
 use Rattle.section_model.specs.declared.hand.Hand.{Hand}
@@ -48,7 +49,7 @@ keeps s x acted h f g = record { has = h; stays = λ e. (refl, refl); first = f;
 ends : (s : SectionState) (x : Line) (outs : List Output) (cause : ℕ) → IsCredit x.head.credit → GrantedLine s x.head.credit x.head.class (x, gives_then outs (hand.End cause None None ∷ []))
 ends s x outs cause h = record { has = h; stays = λ e. (refl, refl); first = tt; then_ = (tt, tt) }
 
-refuses : (s : SectionState) (x : Line) (outs : List Output) → IsCredit x.head.credit → GrantedLine s x.head.credit x.head.class (x, gives_then outs (hand.Refuse 0x0F None None None ∷ []))
+refuses : (s : SectionState) (x : Line) (outs : List Output) → IsCredit x.head.credit → GrantedLine s x.head.credit x.head.class (x, gives_then outs (hand.Refuse REFUSAL_UNQUALIFIED None None None ∷ []))
 refuses s x outs h = record { has = h; stays = λ e. (refl, refl); first = tt; then_ = (tt, tt) }
 
 -- the section is set up
@@ -71,13 +72,13 @@ confirmed-granted point m x h n =
     let credit : IsCredit (agreed x.head m) = agreed-credit (m.class == 3) _ x.head.credit h in
     either x.head.state x.head.credit x.head.class _ _ _
     (opens x.head.state x.head.credit x.head.class (reached point m.slr x) m.class (agreed x.head m) _ _ _ n credit)
-    (refuses x.head.state (released 0x05 None None (reached point m.slr x)) _ h)
+    (refuses x.head.state (released RELEASE_INCONSISTENT_DATA None None (reached point m.slr x)) _ h)
 
 failed-granted : (m : Parameters) (x : Line) → IsCredit x.head.credit → GrantedLine x.head.state x.head.credit x.head.class (hears_error m x)
-failed-granted m x h = either x.head.state x.head.credit x.head.class _ _ _ (ends x.head.state (released 0x0F None None x) _ 0x0F h) (ends x.head.state (in_state Gone x) [] 0x0F h)
+failed-granted m x h = either x.head.state x.head.credit x.head.class _ _ _ (ends x.head.state (released RELEASE_UNQUALIFIED None None x) _ RELEASE_UNQUALIFIED h) (ends x.head.state (in_state Gone x) [] RELEASE_UNQUALIFIED h)
 
 tested-granted : (m : Parameters) (x : Line) → IsCredit x.head.credit → GrantedLine x.head.state x.head.credit x.head.class (hears_test m x)
-tested-granted m x h = either x.head.state x.head.credit x.head.class _ _ _ (keeps x.head.state x no_effect h tt tt) (ends x.head.state (released 0x05 None None x) _ 0x05 h)
+tested-granted m x h = either x.head.state x.head.credit x.head.class _ _ _ (keeps x.head.state x no_effect h tt tt) (ends x.head.state (released RELEASE_INCONSISTENT_DATA None None x) _ RELEASE_INCONSISTENT_DATA h)
 
 hears-granted : (c : Cell) (point : ℕ) (m : Parameters) (x : Line) → IsCredit x.head.credit → SetsUpOnce c x.head.state → GrantedLine x.head.state x.head.credit x.head.class (line_hears c point m x)
 unfolding line_hears
@@ -171,7 +172,7 @@ hears-counts : (c : Cell) (point : ℕ) (m : Parameters) (x : Line) → is_by_cl
 unfolding line_hears
 hears-counts cell.Confirm point m x e = either_counts x _ _ _ (refl, refl) (refl, refl)
 hears-counts cell.TakeData point m x e = absurd (false≢true (sym e))
-hears-counts cell.ErrorReceived point m x e = either_counts x (m.cause == 3) _ _ (refl, refl) (refl, refl)
+hears-counts cell.ErrorReceived point m x e = either_counts x (m.cause == ERROR_CLASS_MISMATCH) _ _ (refl, refl) (refl, refl)
 hears-counts cell.TestReceived point m x e = either_counts x _ _ _ (refl, refl) (refl, refl)
 hears-counts _ point m x e = (refl, refl)
 

@@ -1,6 +1,7 @@
 -- What a user's end hands over, and the credit that it has then.
 use Rattle.std.proofs.Common.{◌≡◌, ℕ, ◌==◌, Bool, true, false, List, [], ◌∷◌, ◌++◌, map, if◌then◌else◌, refl, subst}
 use Rattle.std.specs.Prelude.{None}
+use Rattle.relay_base.specs.declared.causes.TheConstants.{RELEASE_ACCESS_CONGESTION}
 use Rattle.relay_base.specs.declared.words.Event.{Event}
 use Rattle.relay_base.specs.declared.words.Event.TheVariants.{Message as Arrives, Asked as Requested, Tick}
 use Rattle.relay_base.specs.declared.words.Request.{Request}
@@ -42,7 +43,7 @@ disconnected-granted (hand.Refuse cause called body importance) u h = record { c
 disconnected-granted (hand.End cause body importance) u h = record { credit = h; first = tt; then_ = tt }
 disconnected-granted _ u h = still u h
 
-overruns : (u : User) (outs : List Output) → IsCredit u.credit → GrantedUser (record u { state = Gone }, record { first = hand.End 0x07 None None ∷ []; outs = outs; then = [] })
+overruns : (u : User) (outs : List Output) → IsCredit u.credit → GrantedUser (record u { state = Gone }, record { first = hand.End RELEASE_ACCESS_CONGESTION None None ∷ []; outs = outs; then = [] })
 overruns u outs h = record { credit = h; first = (tt, tt); then_ = tt }
 
 tells : (u : User) (text : List ℕ) (outs : List Output) (units : ℕ) (is_expedited : Bool) → IsCredit u.credit → GrantedUser (record u { text = text }, gives_then outs (taken units is_expedited))

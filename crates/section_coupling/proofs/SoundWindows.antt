@@ -1,6 +1,7 @@
 -- What a section's windows hand over agrees on no credit, and they leave the section its own.
 use Rattle.std.proofs.Common.{◌≡◌, ℕ, Bool, true, false, List, [], ◌∷◌, if◌then◌else◌, refl, subst}
 use Rattle.std.specs.Prelude.{Option, Some, None}
+use Rattle.relay_base.specs.declared.causes.TheConstants.{RESET_INCORRECT_RECEIVE_NUMBER, RESET_OUT_OF_WINDOW, RESET_REMOTE_PROCEDURE_ERROR}
 use Rattle.section_model.specs.declared.cell.Cell.{Cell}
 use Rattle.section_model.specs.declared.cell.Cell.TheVariants as cell
 use Rattle.section_model.specs.declared.hand.Hand.{Hand}
@@ -43,14 +44,14 @@ resets-granted cause x = record { credit = refl; first = tt; then_ = (tt, tt) }
 data-granted : (m : Parameters) (x : Windowed) → GrantedWindows x.head.credit (takes_data m x)
 data-granted m x =
     either x.head.credit _ _ _ (resets-granted (wrong_number x.windows) x)
-    (either x.head.credit _ _ _ (resets-granted 0x04 x)
-    (either x.head.credit _ _ _ (resets-granted 0x03 x) (with-windows x _ (gives_then [] (hand.Unit m.more m.data_octets ∷ [])) tt (tt, tt))))
+    (either x.head.credit _ _ _ (resets-granted RESET_OUT_OF_WINDOW x)
+    (either x.head.credit _ _ _ (resets-granted RESET_INCORRECT_RECEIVE_NUMBER x) (with-windows x _ (gives_then [] (hand.Unit m.more m.data_octets ∷ [])) tt (tt, tt))))
 
 acknowledgement-granted : (m : Parameters) (x : Windowed) → GrantedWindows x.head.credit (takes_acknowledgement m x)
-acknowledgement-granted m x = either x.head.credit _ _ _ (with-windows x _ no_effect tt tt) (resets-granted 0x03 x)
+acknowledgement-granted m x = either x.head.credit _ _ _ (with-windows x _ no_effect tt tt) (resets-granted RESET_INCORRECT_RECEIVE_NUMBER x)
 
 expedited-granted : (m : Parameters) (x : Windowed) → GrantedWindows x.head.credit (takes_expedited m x)
-expedited-granted m x = either x.head.credit _ _ _ (resets-granted 0x06 x) (with-windows x _ (gives_then [] (hand.Expedited m.data_octets ∷ [])) tt (tt, tt))
+expedited-granted m x = either x.head.credit _ _ _ (resets-granted RESET_REMOTE_PROCEDURE_ERROR x) (with-windows x _ (gives_then [] (hand.Expedited m.data_octets ∷ [])) tt (tt, tt))
 
 expedites-granted : (body : Option (List ℕ)) (x : Windowed) → GrantedWindows x.head.credit (sends_expedited body x)
 expedites-granted None x = still x
