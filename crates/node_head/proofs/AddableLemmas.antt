@@ -3,15 +3,16 @@ use Rattle.std.proofs.Common.{◌≡◌, ℕ, ◌<◌, ◌&&◌, Bool, true, fal
 use Rattle.std.specs.Prelude.{is_none}
 use Rattle.std.proofs.lemmas.Bool.{false≢true}
 use Rattle.std.proofs.lemmas.Bool.Decides.{nat_tests}
+use Rattle.gtt_table.specs.declared.table.TheConstants.Table.{MOST}
 use Rattle.gtt_table.specs.Rows.{has_row}
 use Rattle.gtt_table.specs.Adding.{add_refusal}
 use Rattle.gtt_table.specs.declared.row.Row.{Row}
 use Rattle.node_head.specs.Addable.{are_addable}
 
-few : (n : ℕ) → n < 4096 → leb 4096 n ≡ false
+few : (n : ℕ) → n < MOST → leb MOST n ≡ false
 few n h = grind (arith, nat_tests)
 
-free : (found : List Row) (row : Row) → length found < 4096 → has_row row.selector row.prefix found ≡ false → IsTrue (is_none (add_refusal found row))
+free : (found : List Row) (row : Row) → length found < MOST → has_row row.selector row.prefix found ≡ false → IsTrue (is_none (add_refusal found row))
 unfolding add_refusal
 free found row h apart = rw (apart, few (length found) h) refl
 
@@ -35,5 +36,5 @@ addable-push found (first ∷ more) row h r =
     (addable-push (found ++ first ∷ []) more row (right (is_none (add_refusal found first)) (are_addable (found ++ first ∷ []) more) h) (subst (λ l. IsTrue (is_none (add_refusal l row))) (sym (append_assoc found (first ∷ []) more)) r))
 
 -- behind rows that can be added, one whose selector and prefix no row has
-pub addable_more : (rows : List Row) (row : Row) → IsTrue (are_addable [] rows) → length rows < 4096 → has_row row.selector row.prefix rows ≡ false → IsTrue (are_addable [] (rows ++ row ∷ []))
+pub addable_more : (rows : List Row) (row : Row) → IsTrue (are_addable [] rows) → length rows < MOST → has_row row.selector row.prefix rows ≡ false → IsTrue (are_addable [] (rows ++ row ∷ []))
 addable_more rows row h few apart = addable-push [] rows row h (free rows row few apart)

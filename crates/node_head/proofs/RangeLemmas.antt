@@ -1,9 +1,12 @@
 -- What a head that was read states is in its ranges.
-use Rattle.std.proofs.Common.{◌≡◌, ℕ, ℤ, pos, negsuc, ◌+◌, ◌≤◌, ◌==◌, ◌&&◌, ◌||◌, max, not, nat_lt, nat_le, nat_eq, codes, Bool, true, false, cond, List, [], ◌∷◌, ◌++◌, length, map, Option, Some, None, option_and_then, Result, Ok, Err, IfOk, IfSome, IsTrue, refl, sym, ap, ◌∙◌, subst, arith, length-append}
+use Rattle.std.proofs.Common.{◌≡◌, ℕ, ℤ, pos, negsuc, ◌+◌, ◌-◌, ◌≤◌, ◌==◌, ◌&&◌, ◌||◌, max, not, nat_lt, nat_le, nat_eq, codes, Bool, true, false, cond, List, [], ◌∷◌, ◌++◌, length, map, Option, Some, None, option_and_then, Result, Ok, Err, IfOk, IfSome, IsTrue, refl, sym, ap, ◌∙◌, subst, arith, length-append}
 use Rattle.std.proofs.lemmas.Bool.Decides.{nat_tests}
 use Rattle.std.proofs.lemmas.Cmp.{nat_eq_equiv}
 use Rattle.std.proofs.lemmas.Map.Keys.{IsDistinct-push}
 use Rattle.std.specs.List.{AllByRecursion, IsDistinct, list_any}
+use Rattle.node_head.specs.declared.numbers.TheConstants.{MOST_NUMBERS}
+use Rattle.plant_core.specs.declared.terms.TheConstants.{MOST_TICKS}
+use Rattle.relay_base.specs.declared.limits.TheConstants.{GREATEST_CREDIT, MOST_LANES, POINT_CODES, SUBSYSTEM_NUMBERS}
 use Rattle.relay_base.specs.Giving.{◌>>=◌}
 use Rattle.toml.specs.Data.{Data, Members, no_members, get_member, as_integer, as_array, as_table}
 use Rattle.sccp_address.specs.declared.address.Selector.{Selector}
@@ -83,63 +86,63 @@ within-at place ms key b h = within-value (path place key) b (get_member key ms)
 -- ---- lanes, links and credit
 
 record AreCounts (c : Counts) : Type 0 where
-  conn_lanes : IsWithin 1 c.conn_lanes 16
-  data_lanes : IsWithin 1 c.data_lanes 16
+  conn_lanes : IsWithin 1 c.conn_lanes MOST_LANES
+  data_lanes : IsWithin 1 c.data_lanes MOST_LANES
   links : IsWithin 1 c.links 8
-  credit : IsWithin 1 c.credit 127
+  credit : IsWithin 1 c.credit GREATEST_CREDIT
 
 counts-within : (ms : Members) → IfOk (counts_of ms) AreCounts
 unfolding counts_of
 counts-within ms =
-    bound (λ n. IsWithin 1 n 16) AreCounts (number_at Top ms (codes "conn_lanes") (usual 1 1 16)) _ (within-at Top ms (codes "conn_lanes") (usual 1 1 16) (omega arith, omega arith)) (λ conn_lanes h.
-    bound (λ n. IsWithin 1 n 16) AreCounts (number_at Top ms (codes "data_lanes") (usual 1 1 16)) _ (within-at Top ms (codes "data_lanes") (usual 1 1 16) (omega arith, omega arith)) (λ data_lanes i.
+    bound (λ n. IsWithin 1 n MOST_LANES) AreCounts (number_at Top ms (codes "conn_lanes") (usual 1 1 MOST_LANES)) _ (within-at Top ms (codes "conn_lanes") (usual 1 1 MOST_LANES) (omega arith, omega arith)) (λ conn_lanes h.
+    bound (λ n. IsWithin 1 n MOST_LANES) AreCounts (number_at Top ms (codes "data_lanes") (usual 1 1 MOST_LANES)) _ (within-at Top ms (codes "data_lanes") (usual 1 1 MOST_LANES) (omega arith, omega arith)) (λ data_lanes i.
     bound (λ n. IsWithin 1 n 8) AreCounts (number_at Top ms (codes "links") (usual 1 1 8)) _ (within-at Top ms (codes "links") (usual 1 1 8) (omega arith, omega arith)) (λ links j.
-    bound (λ n. IsWithin 1 n 127) AreCounts (number_at Top ms (codes "credit") (usual 7 1 127)) _ (within-at Top ms (codes "credit") (usual 7 1 127) (omega arith, omega arith)) (λ credit k.
+    bound (λ n. IsWithin 1 n GREATEST_CREDIT) AreCounts (number_at Top ms (codes "credit") (usual 7 1 GREATEST_CREDIT)) _ (within-at Top ms (codes "credit") (usual 7 1 GREATEST_CREDIT) (omega arith, omega arith)) (λ credit k.
     record { conn_lanes = h; data_lanes = i; links = j; credit = k }))))
 
 -- ---- timers
 
-ticks-within : (place : Place) (ms : Members) (key : List ℕ) (default least : ℕ) → IsWithin least default 65535 → IfOk (ticks_at place ms key default least) (λ n. IsWithin least n 65535)
+ticks-within : (place : Place) (ms : Members) (key : List ℕ) (default least : ℕ) → IsWithin least default MOST_TICKS → IfOk (ticks_at place ms key default least) (λ n. IsWithin least n MOST_TICKS)
 unfolding ticks_at
-ticks-within place ms key default least h = within-at place ms key (usual default least 65535) h
+ticks-within place ms key default least h = within-at place ms key (usual default least MOST_TICKS) h
 
-three-ticks : (place : Place) (ms : Members) (one two three : List ℕ) (d e f least : ℕ) → IsWithin 1 d 65535 → IsWithin least e 65535 → IsWithin 1 f 65535
+three-ticks : (place : Place) (ms : Members) (one two three : List ℕ) (d e f least : ℕ) → IsWithin 1 d MOST_TICKS → IsWithin least e MOST_TICKS → IsWithin 1 f MOST_TICKS
     → IfOk (ticks_at place ms one d 1 >>= (λ a. ticks_at place ms two e least >>= (λ b. ticks_at place ms three f 1 >>= (λ c. Ok (a, b, c)))))
-    (λ (t : ℕ × ℕ × ℕ). IsWithin 1 t.0 65535 × IsWithin least t.1 65535 × IsWithin 1 t.2 65535)
+    (λ (t : ℕ × ℕ × ℕ). IsWithin 1 t.0 MOST_TICKS × IsWithin least t.1 MOST_TICKS × IsWithin 1 t.2 MOST_TICKS)
 three-ticks place ms one two three d e f least g h i =
-    bound (λ n. IsWithin 1 n 65535) _ (ticks_at place ms one d 1) _ (ticks-within place ms one d 1 g) (λ a j.
-    bound (λ n. IsWithin least n 65535) _ (ticks_at place ms two e least) _ (ticks-within place ms two e least h) (λ b k.
-    bound (λ n. IsWithin 1 n 65535) _ (ticks_at place ms three f 1) _ (ticks-within place ms three f 1 i) (λ c l. (j, k, l))))
+    bound (λ n. IsWithin 1 n MOST_TICKS) _ (ticks_at place ms one d 1) _ (ticks-within place ms one d 1 g) (λ a j.
+    bound (λ n. IsWithin least n MOST_TICKS) _ (ticks_at place ms two e least) _ (ticks-within place ms two e least h) (λ b k.
+    bound (λ n. IsWithin 1 n MOST_TICKS) _ (ticks_at place ms three f 1) _ (ticks-within place ms three f 1 i) (λ c l. (j, k, l))))
 
-connection-within : (place : Place) (ms : Members) → IfOk (connection_ticks place ms) (λ (t : ℕ × ℕ × ℕ). IsWithin 1 t.0 65535 × IsWithin 60 t.1 65535 × IsWithin 1 t.2 65535)
+connection-within : (place : Place) (ms : Members) → IfOk (connection_ticks place ms) (λ (t : ℕ × ℕ × ℕ). IsWithin 1 t.0 MOST_TICKS × IsWithin 60 t.1 MOST_TICKS × IsWithin 1 t.2 MOST_TICKS)
 unfolding connection_ticks
 connection-within place ms = three-ticks place ms (codes "connect") (codes "ias") (codes "iar") 90 420 900 60 (omega arith, omega arith) (omega arith, omega arith) (omega arith, omega arith)
 
-release-within : (place : Place) (ms : Members) → IfOk (release_ticks place ms) (λ (t : ℕ × ℕ × ℕ). IsWithin 1 t.0 65535 × IsWithin 5 t.1 65535 × IsWithin 1 t.2 65535)
+release-within : (place : Place) (ms : Members) → IfOk (release_ticks place ms) (λ (t : ℕ × ℕ × ℕ). IsWithin 1 t.0 MOST_TICKS × IsWithin 5 t.1 MOST_TICKS × IsWithin 1 t.2 MOST_TICKS)
 unfolding release_ticks
 release-within place ms = three-ticks place ms (codes "rel") (codes "repeat") (codes "int") 15 15 60 5 (omega arith, omega arith) (omega arith, omega arith) (omega arith, omega arith)
 
-waiting-within : (place : Place) (ms : Members) → IfOk (waiting_ticks place ms) (λ (t : ℕ × ℕ × ℕ). IsWithin 1 t.0 65535 × IsWithin 1 t.1 65535 × IsWithin 1 t.2 65535)
+waiting-within : (place : Place) (ms : Members) → IfOk (waiting_ticks place ms) (λ (t : ℕ × ℕ × ℕ). IsWithin 1 t.0 MOST_TICKS × IsWithin 1 t.1 MOST_TICKS × IsWithin 1 t.2 MOST_TICKS)
 unfolding waiting_ticks
 waiting-within place ms = three-ticks place ms (codes "reset") (codes "reassembly") (codes "freeze") 15 15 60 1 (omega arith, omega arith) (omega arith, omega arith) (omega arith, omega arith)
 
-longest : (status : ℕ) → IsWithin 1 status 65535 → IsWithin status (max 600 status) 65535
+longest : (status : ℕ) → IsWithin 1 status MOST_TICKS → IsWithin status (max 600 status) MOST_TICKS
 longest status h = (grind (arith, nat_tests), grind (arith, nat_tests))
 
-management-within : (place : Place) (ms : Members) → IfOk (management_ticks place ms) (λ (t : ℕ × ℕ × ℕ). IsWithin 1 t.0 65535 × IsWithin t.0 t.1 65535 × IsWithin 1 t.2 65535)
+management-within : (place : Place) (ms : Members) → IfOk (management_ticks place ms) (λ (t : ℕ × ℕ × ℕ). IsWithin 1 t.0 MOST_TICKS × IsWithin t.0 t.1 MOST_TICKS × IsWithin 1 t.2 MOST_TICKS)
 unfolding management_ticks
 management-within place ms =
-    bound (λ n. IsWithin 1 n 65535) _ (ticks_at place ms (codes "status") 30 1) _ (ticks-within place ms (codes "status") 30 1 (omega arith, omega arith)) (λ status h.
-    bound (λ n. IsWithin status n 65535) _ (ticks_at place ms (codes "status_max") (max 600 status) status) _ (ticks-within place ms (codes "status_max") (max 600 status) status (longest status h)) (λ status_max i.
-    bound (λ n. IsWithin 1 n 65535) _ (ticks_at place ms (codes "coord") 90 1) _ (ticks-within place ms (codes "coord") 90 1 (omega arith, omega arith)) (λ coord j. (h, i, j))))
+    bound (λ n. IsWithin 1 n MOST_TICKS) _ (ticks_at place ms (codes "status") 30 1) _ (ticks-within place ms (codes "status") 30 1 (omega arith, omega arith)) (λ status h.
+    bound (λ n. IsWithin status n MOST_TICKS) _ (ticks_at place ms (codes "status_max") (max 600 status) status) _ (ticks-within place ms (codes "status_max") (max 600 status) status (longest status h)) (λ status_max i.
+    bound (λ n. IsWithin 1 n MOST_TICKS) _ (ticks_at place ms (codes "coord") 90 1) _ (ticks-within place ms (codes "coord") 90 1 (omega arith, omega arith)) (λ coord j. (h, i, j))))
 
 grouped-within : (place : Place) (ms : Members) → IfOk (grouped_ticks place ms) AreTicks
 unfolding grouped_ticks
 grouped-within place ms =
-    bound (λ (t : ℕ × ℕ × ℕ). IsWithin 1 t.0 65535 × IsWithin 60 t.1 65535 × IsWithin 1 t.2 65535) AreTicks (connection_ticks place ms) _ (connection-within place ms) (λ connection h.
-    bound (λ (t : ℕ × ℕ × ℕ). IsWithin 1 t.0 65535 × IsWithin 5 t.1 65535 × IsWithin 1 t.2 65535) AreTicks (release_ticks place ms) _ (release-within place ms) (λ release i.
-    bound (λ (t : ℕ × ℕ × ℕ). IsWithin 1 t.0 65535 × IsWithin 1 t.1 65535 × IsWithin 1 t.2 65535) AreTicks (waiting_ticks place ms) _ (waiting-within place ms) (λ waiting j.
-    bound (λ (t : ℕ × ℕ × ℕ). IsWithin 1 t.0 65535 × IsWithin t.0 t.1 65535 × IsWithin 1 t.2 65535) AreTicks (management_ticks place ms) _ (management-within place ms) (λ management k.
+    bound (λ (t : ℕ × ℕ × ℕ). IsWithin 1 t.0 MOST_TICKS × IsWithin 60 t.1 MOST_TICKS × IsWithin 1 t.2 MOST_TICKS) AreTicks (connection_ticks place ms) _ (connection-within place ms) (λ connection h.
+    bound (λ (t : ℕ × ℕ × ℕ). IsWithin 1 t.0 MOST_TICKS × IsWithin 5 t.1 MOST_TICKS × IsWithin 1 t.2 MOST_TICKS) AreTicks (release_ticks place ms) _ (release-within place ms) (λ release i.
+    bound (λ (t : ℕ × ℕ × ℕ). IsWithin 1 t.0 MOST_TICKS × IsWithin 1 t.1 MOST_TICKS × IsWithin 1 t.2 MOST_TICKS) AreTicks (waiting_ticks place ms) _ (waiting-within place ms) (λ waiting j.
+    bound (λ (t : ℕ × ℕ × ℕ). IsWithin 1 t.0 MOST_TICKS × IsWithin t.0 t.1 MOST_TICKS × IsWithin 1 t.2 MOST_TICKS) AreTicks (management_ticks place ms) _ (management-within place ms) (λ management k.
     record {
       connect = h.0;
       ias = h.1;
@@ -206,10 +209,10 @@ none-found : (b : Bounds) → AreFound b []
 unfolding IsDistinct
 none-found b = record { each = tt; distinct = tt }
 
-few-test : (n : ℕ) → nat_lt 16 n ≡ false → n ≤ 16
+few-test : (n : ℕ) → nat_lt MOST_NUMBERS n ≡ false → n ≤ MOST_NUMBERS
 few-test n h = grind (arith, nat_tests)
 
-few-numbers : (b : Bounds) (zs : List ℤ) (t : Bool) → nat_lt 16 (length zs) ≡ t → IfSome (cond t None (numbers_after b [] zs)) (λ ns. AreNumbers b.least ns b.most)
+few-numbers : (b : Bounds) (zs : List ℤ) (t : Bool) → nat_lt MOST_NUMBERS (length zs) ≡ t → IfSome (cond t None (numbers_after b [] zs)) (λ ns. AreNumbers b.least ns b.most)
 few-numbers b zs true e = tt
 few-numbers b zs false e =
     some_map (λ ns. AreFound b ns × (length ns ≡ 0 + length zs)) _ (numbers_after b [] zs) (numbers-some b zs [] (none-found b))
@@ -221,15 +224,15 @@ numbers-are key b None = record { each = tt; distinct = (none-found b).distinct;
 numbers-are key b (Some d) =
     after_any (λ ns. AreNumbers b.least ns b.most) (or_fault (as_array d) (fault kind.Kind key)) _ (λ items.
     after_any (λ ns. AreNumbers b.least ns b.most) (or_fault (integers_after [] items) (fault kind.Kind key)) _ (λ zs.
-    given-some (λ ns. AreNumbers b.least ns b.most) (cond (nat_lt 16 (length zs)) None (numbers_after b [] zs)) (fault kind.Range key) (few-numbers b zs (nat_lt 16 (length zs)) refl)))
+    given-some (λ ns. AreNumbers b.least ns b.most) (cond (nat_lt MOST_NUMBERS (length zs)) None (numbers_after b [] zs)) (fault kind.Range key) (few-numbers b zs (nat_lt MOST_NUMBERS (length zs)) refl)))
 
 abbrev AreConcerned : ℕ → List ℕ → Type 0
-AreConcerned own points = AreNumbers 0 points 16383 × (list_any (λ point. point == own) points ≡ false)
+AreConcerned own points = AreNumbers 0 points (POINT_CODES - 1) × (list_any (λ point. point == own) points ≡ false)
 
 concerned-are : (own : ℕ) (d : Option Data) → IfOk (concerned_value own d) (AreConcerned own)
 unfolding concerned_value
 concerned-are own d =
-    bound (λ ns. AreNumbers 0 ns 16383) (AreConcerned own) (numbers_value (codes "concerned") (required 0 16383) d) (other_points own) (numbers-are (codes "concerned") (required 0 16383) d)
+    bound (λ ns. AreNumbers 0 ns (POINT_CODES - 1)) (AreConcerned own) (numbers_value (codes "concerned") (required 0 (POINT_CODES - 1)) d) (other_points own) (numbers-are (codes "concerned") (required 0 (POINT_CODES - 1)) d)
     (λ ns h. by_test (AreConcerned own) (list_any (λ point. point == own) ns) (Err (fault kind.Range (codes "concerned"))) (Ok ns) (λ e. tt) (λ e. (h, e)))
 
 -- ---- rows
@@ -263,7 +266,7 @@ row-new own found place ms =
     after_any (IsNewRow found) (entity_at own place ms (codes "first")) _ (λ first.
     after_any (IsNewRow found) (second_at own place ms) _ (λ second. h))))
 
-rows-addable : (own : ℕ) (tables : List Members) (found : List Row) → IsTrue (are_addable [] found) → length found + length tables ≤ 4096
+rows-addable : (own : ℕ) (tables : List Members) (found : List Row) → IsTrue (are_addable [] found) → length found + length tables ≤ MOST
     → IfOk (rows_after own found tables) (λ rows. IsTrue (are_addable [] rows))
 rows-addable own [] found h few = h
 rows-addable own (ms ∷ more) found h few =
@@ -271,7 +274,7 @@ rows-addable own (ms ∷ more) found h few =
     (row-new own found (Nth Rows (length found + 1)) ms)
     (λ row apart. rows-addable own more (found ++ row ∷ []) (addable_more found row h (omega (arith, few)) apart) (omega (arith, few, length-append found (row ∷ []))))
 
-few-rows : (n : ℕ) → nat_lt MOST n ≡ false → 0 + n ≤ 4096
+few-rows : (n : ℕ) → nat_lt MOST n ≡ false → 0 + n ≤ MOST
 few-rows n h = grind (arith, nat_tests)
 
 rows-are : (own : ℕ) (d : Option Data) → IfOk (rows_value own d) (λ rows. IsTrue (are_addable [] rows))
@@ -294,7 +297,7 @@ free-test false b h = cc
 user-free : (users : List ℕ) (found : List Replicate) (place : Place) (ms : Members) → IfOk (user_at users found place ms) (IsFree users found)
 unfolding user_at
 user-free users found place ms =
-    after_any (IsFree users found) (number_at place ms (codes "ssn") (required 0 255)) _ (λ ssn.
+    after_any (IsFree users found) (number_at place ms (codes "ssn") (required 0 (SUBSYSTEM_NUMBERS - 1))) _ (λ ssn.
     by_test (IsFree users found) (is_new_user users found ssn) (Ok ssn) (Err (fault kind.Range (path place (codes "ssn"))))
     (free-test (list_any (λ user. user == ssn) users) (has_replicate found ssn)) (λ e. tt))
 
