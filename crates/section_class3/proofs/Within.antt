@@ -2,6 +2,8 @@
 use Rattle.std.proofs.Common.{◌≡◌, ℕ, zero, suc, ◌==◌, ◌&&◌, ◌||◌, nat_lt, not, Bool, true, false, List, [], ◌∷◌, ◌++◌, drop, if◌then◌else◌, Ok, Err, IfOk, refl, subst, sym}
 use Rattle.std.specs.Prelude.{Option, Some, None, IfSome, OnErr, is_some}
 use Rattle.std.specs.declared.result.Result.{Result}
+use Rattle.relay_base.specs.declared.causes.TheConstants.{RESET_INCORRECT_RECEIVE_NUMBER, RESET_OUT_OF_WINDOW, RESET_REMOTE_PROCEDURE_ERROR}
+use Rattle.section_model.specs.declared.limits.TheConstants.{LONGEST_UNIT}
 use Rattle.relay_base.specs.declared.errors.Memory.{Memory}
 use Rattle.relay_base.specs.declared.words.Event.{Event}
 use Rattle.relay_base.specs.declared.words.Event.TheVariants.{Message as Arrived}
@@ -35,7 +37,7 @@ abbrev Hands : Windowed × Acted → Type 0
 Hands r = ActedWithin r.1
 
 -- more units, and fewer
-units-more : (units : List DataUnit) (u : DataUnit) → UnitsWithin units → IsWithin 1 255 u.body → UnitsWithin (units ++ u ∷ [])
+units-more : (units : List DataUnit) (u : DataUnit) → UnitsWithin units → IsWithin 1 LONGEST_UNIT u.body → UnitsWithin (units ++ u ∷ [])
 units-more [] u h k = (k, tt)
 units-more (x ∷ units) u h k = (h.0, units-more units u h.1 k)
 
@@ -48,12 +50,12 @@ units-fewer (suc n) (u ∷ units) h = units-fewer n units h.1
 data-waits : (m : Parameters) (x : Windowed) → WindowsWithin x.windows → Waits (takes_data m x)
 data-waits m x w =
     either Waits (not (is_next m x)) (resets (wrong_number x.windows) x) _ (tt, tt)
-    (either Waits (is_used_up x) (resets 0x04 x) _ (tt, tt) (either Waits (not (is_valid m.pr x.windows)) (resets 0x03 x) (accepts_unit m x) (tt, tt) w))
+    (either Waits (is_used_up x) (resets RESET_OUT_OF_WINDOW x) _ (tt, tt) (either Waits (not (is_valid m.pr x.windows)) (resets RESET_INCORRECT_RECEIVE_NUMBER x) (accepts_unit m x) (tt, tt) w))
 
-data-hands : (m : Parameters) (x : Windowed) → IsWithin 1 255 m.data_octets → Hands (takes_data m x)
+data-hands : (m : Parameters) (x : Windowed) → IsWithin 1 LONGEST_UNIT m.data_octets → Hands (takes_data m x)
 data-hands m x d =
     either Hands (not (is_next m x)) (resets (wrong_number x.windows) x) _ (tt, (tt, tt))
-    (either Hands (is_used_up x) (resets 0x04 x) _ (tt, (tt, tt)) (either Hands (not (is_valid m.pr x.windows)) (resets 0x03 x) (accepts_unit m x) (tt, (tt, tt)) (tt, (d, tt))))
+    (either Hands (is_used_up x) (resets RESET_OUT_OF_WINDOW x) _ (tt, (tt, tt)) (either Hands (not (is_valid m.pr x.windows)) (resets RESET_INCORRECT_RECEIVE_NUMBER x) (accepts_unit m x) (tt, (tt, tt)) (tt, (d, tt))))
 
 answer-waits : (unanswered : Bool) (waiting : Option (List ℕ)) (x : Windowed) → x.windows.unanswered ≡ unanswered → x.windows.waiting ≡ waiting → WindowsWithin x.windows → Waits (takes_answer x)
 answer-waits false waiting x e f w = rw e w
@@ -68,8 +70,8 @@ answer-hands true (Some body) x e f = rw (e, f) (tt, (tt, tt))
 hears-waits : (c : Cell) (m : Parameters) (x : Windowed) → WindowsWithin x.windows → Waits (windowed_hears c m x)
 unfolding windowed_hears
 hears-waits cell.TakeNumberedData m x w = data-waits m x w
-hears-waits cell.TakeAcknowledgement m x w = either Waits (is_valid m.pr x.windows) _ (resets 0x03 x) w (tt, tt)
-hears-waits cell.TakeExpedited m x w = either Waits x.windows.owed (resets 0x06 x) _ (tt, tt) w
+hears-waits cell.TakeAcknowledgement m x w = either Waits (is_valid m.pr x.windows) _ (resets RESET_INCORRECT_RECEIVE_NUMBER x) w (tt, tt)
+hears-waits cell.TakeExpedited m x w = either Waits x.windows.owed (resets RESET_REMOTE_PROCEDURE_ERROR x) _ (tt, tt) w
 hears-waits cell.TakeExpeditedAcknowledgement m x w = answer-waits x.windows.unanswered x.windows.waiting x refl refl w
 hears-waits cell.ResetByPeer m x w = (tt, tt)
 hears-waits cell.ResetComplete m x w = w
@@ -78,8 +80,8 @@ hears-waits _ m x w = w
 hears-hands : (c : Cell) (a : Arrival) (x : Windowed) → ArrivalWithin a → (c ≡ cell.TakeNumberedData → a.occasion ≡ on.Dt2) → (c ≡ cell.TakeExpedited → a.occasion ≡ on.Ed) → Hands (windowed_hears c a.parameters x)
 unfolding windowed_hears
 hears-hands cell.TakeNumberedData a x w dt2 ed = data-hands a.parameters x (subst (λ o. IsDataOf o a.parameters.data_octets) (dt2 refl) w.2)
-hears-hands cell.TakeAcknowledgement a x w dt2 ed = either Hands (is_valid a.parameters.pr x.windows) _ (resets 0x03 x) (tt, tt) (tt, (tt, tt))
-hears-hands cell.TakeExpedited a x w dt2 ed = either Hands x.windows.owed (resets 0x06 x) _ (tt, (tt, tt)) (tt, (subst (λ o. IsDataOf o a.parameters.data_octets) (ed refl) w.2, tt))
+hears-hands cell.TakeAcknowledgement a x w dt2 ed = either Hands (is_valid a.parameters.pr x.windows) _ (resets RESET_INCORRECT_RECEIVE_NUMBER x) (tt, tt) (tt, (tt, tt))
+hears-hands cell.TakeExpedited a x w dt2 ed = either Hands x.windows.owed (resets RESET_REMOTE_PROCEDURE_ERROR x) _ (tt, (tt, tt)) (tt, (subst (λ o. IsDataOf o a.parameters.data_octets) (ed refl) w.2, tt))
 hears-hands cell.TakeExpeditedAcknowledgement a x w dt2 ed = answer-hands x.windows.unanswered x.windows.waiting x refl refl
 hears-hands cell.ResetByPeer a x w dt2 ed = (tt, (tt, tt))
 hears-hands cell.ResetComplete a x w dt2 ed = (tt, (tt, tt))
