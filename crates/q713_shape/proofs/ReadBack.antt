@@ -9,6 +9,7 @@ use Rattle.q713_shape.specs.Format.{Format, Values, filled, pointer_width, is_lo
 use Rattle.q713_shape.specs.Reading.{number_at, value_at, variable_at, variables_at, filled_variables, Item, item, items_in, first_fault, first_value, unless_fault, options_among, options_in, options_at, values_of}
 use Rattle.q713_shape.specs.Writing.{number_octets, variable, variables, all_given, ended, optional_part, skips, optional_skip_of, option_skip, pointers, octets_of, have_lengths, have_option_lengths, are_options, fits_pointer, are_in_range}
 use Rattle.std.proofs.lemmas.Bool.{lt-leb}
+use Rattle.relay_base.specs.declared.limits.TheConstants.{GREATEST_OCTET, LONGEST_DATA, LONGEST_PARAMETER}
 use Rattle.q713_shape.proofs.Counting.{and-both}
 use Rattle.q713_shape.proofs.Pointing.{length-variables}
 use Rattle.q713_shape.proofs.Ranges.{in_range-lengths, in_range-options, in_range-pointers, list_all-append, length-number_octets, concat-map-append, length-pointer_octets, length-skips, length-option_skip, length-octets_of}
@@ -26,7 +27,7 @@ at_front b i x r e =
 at_next : (b : List ℕ) (i x y : ℕ) (r : List ℕ) → drop i b ≡ x ∷ y ∷ r → slice_index b (i + 1) ≡ y
 at_next b i x y r e = sym (get_or-drop i b 1 0) ∙ ap (λ l. get_or l 1 0) e
 
-one_octet : (n : ℕ) → n ≤ 255 → n % 256 ≡ n
+one_octet : (n : ℕ) → n ≤ GREATEST_OCTET → n % 256 ≡ n
 one_octet n h = omega arith
 
 two_octets : (n : ℕ) → n ≤ 65_535 → n % 256 + 256 * (n / 256 % 256) ≡ n
@@ -35,12 +36,12 @@ two_octets n h = omega arith
 number_at-front : (wide : Bool) (b : List ℕ) (place n : ℕ) (more : List ℕ) → IsTrue (fits_pointer wide n) → drop place b ≡ number_octets wide n ++ more → number_at wide b place ≡ n
 number_at-front true b place n more f e =
     ap₂ (λ x y. x + 256 * y) (at_front b place (n % 256) (n / 256 % 256 ∷ more) e) (at_next b place (n % 256) (n / 256 % 256) more e) ∙ two_octets n (leb-true n 65_535 f)
-number_at-front false b place n more f e = at_front b place (n % 256) more e ∙ one_octet n (leb-true n 255 f)
+number_at-front false b place n more f e = at_front b place (n % 256) more e ∙ one_octet n (leb-true n GREATEST_OCTET f)
 
 -- a value
-fits_length : (long : Bool) (most size : ℕ) → nat_lt 255 most ≡ long → size ≤ most → most ≤ 65_535 → IsTrue (fits_pointer long size)
+fits_length : (long : Bool) (most size : ℕ) → nat_lt LONGEST_PARAMETER most ≡ long → size ≤ most → most ≤ 65_535 → IsTrue (fits_pointer long size)
 fits_length true most size e h k = le-leb size 65_535 (omega arith)
-fits_length false most size e h k = le-leb size 255 (let m : most ≤ 255 = ltb-false 255 most e in omega arith)
+fits_length false most size e h k = le-leb size GREATEST_OCTET (let m : most ≤ LONGEST_PARAMETER = ltb-false LONGEST_PARAMETER most e in omega arith)
 
 width-positive : (long : Bool) → 1 ≤ pointer_width long
 width-positive true = omega arith
@@ -133,13 +134,13 @@ or-none : (a b : Bool) → (a || b) ≡ false → (a ≡ false) × (b ≡ false)
 or-none true b h = absurd (cc)
 or-none false b h = (refl, h)
 
-small-by : (address user four : Bool) (size : ℕ) → IsTrue (if address then nat_le size 255 else if user then nat_le 1 size && nat_le size 128 else if four then size == 4 else size == 1) → size ≤ 255
-small-by true user four size h = leb-true size 255 h
-small-by false true four size h = let m : size ≤ 128 = leb-true size 128 (and-both (nat_le 1 size) (nat_le size 128) h).1 in omega arith
+small-by : (address user four : Bool) (size : ℕ) → IsTrue (if address then nat_le size LONGEST_PARAMETER else if user then nat_le 1 size && nat_le size LONGEST_DATA else if four then size == 4 else size == 1) → size ≤ LONGEST_PARAMETER
+small-by true user four size h = leb-true size LONGEST_PARAMETER h
+small-by false true four size h = let m : size ≤ LONGEST_DATA = leb-true size LONGEST_DATA (and-both (nat_le 1 size) (nat_le size LONGEST_DATA) h).1 in omega arith
 small-by false false true size h = let m : size ≡ 4 = eqb-true size 4 h in omega arith
 small-by false false false size h = let m : size ≡ 1 = eqb-true size 1 h in omega arith
 
-option-small : (name size : ℕ) → IsTrue (is_option_length name size) → size ≤ 255
+option-small : (name size : ℕ) → IsTrue (is_option_length name size) → size ≤ LONGEST_PARAMETER
 option-small name size h = small-by (name == 0x03 || name == 0x04) (name == 0x0F) (name == 0x10) size h
 
 items_in-given : (n : ℕ) (names : List ℕ) (values : List (Option (List ℕ))) → length (all_given names values ++ 0 ∷ []) ≤ n → IsTrue (list_all (λ n. not (n == 0)) names) → IsTrue (have_option_lengths names values) → items_in n (all_given names values ++ 0 ∷ []) ≡ items_of names values
