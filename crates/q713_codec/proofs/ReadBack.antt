@@ -1,7 +1,8 @@
 -- What is written reads back as the message.
-use Rattle.std.proofs.Common.{◌≡◌, ℕ, ◌+◌, ◌*◌, ◌/◌, ◌%◌, ◌<◌, ◌^◌, List, [], ◌∷◌, length, take, nat_le, Ok, Err, IfOk, refl, ap, ◌∙◌, subst, arith, leb-true, eqb-true, length-append}
+use Rattle.std.proofs.Common.{◌≡◌, ℕ, ◌+◌, ◌*◌, ◌/◌, ◌%◌, ◌<◌, List, [], ◌∷◌, length, take, nat_le, Ok, Err, IfOk, refl, ap, ◌∙◌, subst, arith, leb-true, eqb-true, length-append}
 use Rattle.std.specs.Prelude.{Option, Some, None, IsTrue}
 use Rattle.std.specs.declared.result.Result.{Result}
+use Rattle.relay_base.specs.declared.limits.TheConstants.{REFERENCES}
 use Rattle.relay_base.specs.Giving.{◌>>=◌}
 use Rattle.q713_shape.specs.Format.{Format, Values, filled}
 use Rattle.q713_shape.specs.Reading.{values_of}
@@ -17,7 +18,7 @@ use Rattle.q713_codec.specs.Writing.{spelling_of, is_in_range, InRange}
 use Rattle.q713_codec.specs.Types.{HasTypes}
 
 -- the fields that their octets are
-reference : (n : ℕ) → n < 2 ^ 24 → n % 256 + 256 * (n / 256 % 256) + 65_536 * (n / 65_536 % 256) ≡ n
+reference : (n : ℕ) → n < REFERENCES → n % 256 + 256 * (n / 256 % 256) + 65_536 * (n / 65_536 % 256) ≡ n
 reference n h = omega arith
 
 one : (x : Option ℕ) → one_octet (in_one x) ≡ x
