@@ -3,6 +3,8 @@ use Rattle.std.proofs.Common.{◌≡◌, ℕ, ◌+◌, ◌≤◌, List, [], ◌�
 use Rattle.std.specs.Prelude.{◌&&◌, not, nat_le, IsTrue, Some, None}
 use Rattle.std.proofs.lemmas.Bool.{leb-true}
 use Rattle.std.proofs.lemmas.Bool.Decides.{nat_tests}
+use Rattle.connectionless.specs.declared.outgoing.TheConstants.{SEGMENT_ROOM}
+use Rattle.relay_base.specs.declared.limits.TheConstants.{LONGEST_GIVEN_ADDRESS, LONGEST_GIVEN_UNIT, LONGEST_PARAMETER}
 use Rattle.plant_core.specs.Rewriting.{called_onward}
 use Rattle.connectionless.specs.Given.{Given, Outgoing, is_cut}
 use Rattle.connectionless.specs.Inner.Units.{IsInRange, IsShort}
@@ -13,13 +15,13 @@ use Rattle.q713_codec.specs.Writing.{is_in_range}
 use Rattle.q713_codec.specs.declared.longest.TheConstants.{LONGEST}
 use Rattle.q713_codec.specs.declared.message.Message.TheVariants.{Udt, Xudt}
 
-pub segment-in_range : (first hop : ℕ) (called calling body segmentation : List ℕ) → length called + length calling + length body ≤ 251 → length segmentation ≡ 4
+pub segment-in_range : (first hop : ℕ) (called calling body segmentation : List ℕ) → length called + length calling + length body ≤ SEGMENT_ROOM → length segmentation ≡ 4
     → IsTrue (is_in_range (Xudt first hop called calling body (Some segmentation) None))
 unfolding is_in_range are_in_range
 segment-in_range first hop called calling body segmentation few four =
     grind (arith, nat_tests, length-append {A = ℕ})
 
-pub whole-in_range : (first : ℕ) (called calling body : List ℕ) → length called + length calling ≤ 252 → length body ≤ 255
+pub whole-in_range : (first : ℕ) (called calling body : List ℕ) → length called + length calling ≤ 252 → length body ≤ LONGEST_PARAMETER
     → IsTrue (is_in_range (Udt first called calling body))
 unfolding is_in_range are_in_range
 whole-in_range first called calling body few short = grind (arith, nat_tests)
@@ -33,10 +35,10 @@ uncut : (short few : Bool) → not (short && few) ≡ false → short ≡ true
 uncut true few e = refl
 uncut false few e = cc
 
-pub uncut-body : (u : Outgoing) → is_cut u ≡ false → length u.given.body ≤ 255
+pub uncut-body : (u : Outgoing) → is_cut u ≡ false → length u.given.body ≤ LONGEST_PARAMETER
 uncut-body u e =
-    leb-true (length u.given.body) 255
-    (uncut (nat_le (length u.given.body) 255) (nat_le (8 + length u.called + length u.given.calling + length u.given.body) LONGEST) e)
+    leb-true (length u.given.body) LONGEST_PARAMETER
+    (uncut (nat_le (length u.given.body) LONGEST_PARAMETER) (nat_le (8 + length u.called + length u.given.calling + length u.given.body) LONGEST) e)
 
 -- a part of the data
 pub length-part : (size start : ℕ) (body part : List ℕ) → part ≡ take size (drop start body) → length part ≤ size
@@ -46,8 +48,8 @@ length-part size start body part e = rw e (omega (arith, length-take size (drop 
 pub short : (g : Given) (rewrite : Rewrite) (u : Outgoing) → IsInRange g → u.given ≡ g → u.called ≡ called_onward rewrite g.called → IsShort u
 short g rewrite u range of_unit e =
     let class : u.given.class ≤ 1 = subst (λ (x : Given). x.class ≤ 1) (sym of_unit) range.class in
-    let body : length u.given.body ≤ 2560 = subst (λ (x : Given). length x.body ≤ 2560) (sym of_unit) range.body_size in
-    let calling : length u.given.calling ≤ 40 = subst (λ (x : Given). length x.calling ≤ 40) (sym of_unit) range.calling_size in
+    let body : length u.given.body ≤ LONGEST_GIVEN_UNIT = subst (λ (x : Given). length x.body ≤ LONGEST_GIVEN_UNIT) (sym of_unit) range.body_size in
+    let calling : length u.given.calling ≤ LONGEST_GIVEN_ADDRESS = subst (λ (x : Given). length x.calling ≤ LONGEST_GIVEN_ADDRESS) (sym of_unit) range.calling_size in
     record {
       class = class;
       addresses = rw e (omega (arith, range.called_size, calling, length-called_onward rewrite g.called));
