@@ -17,8 +17,8 @@ use Rattle.m3ua_port.specs.Inner.Reading.{ended, IsPart, part_fault}
 -- a message that is whole
 pub record IsWhole (octets : List ℕ) (size : ℕ) : Type 0 where
   pub version : not (version_of octets == VERSION) ≡ false
-  pub head : 8 ≤ length octets
-  pub least : 8 ≤ size
+  pub head : HEADER ≤ length octets
+  pub least : HEADER ≤ size
   pub bounds : (nat_lt (length_of octets) HEADER || nat_lt LONGEST_MESSAGE (length_of octets)) ≡ false
   pub within : size ≤ length octets
   pub is : length_of octets ≡ size
@@ -27,7 +27,7 @@ pub is_whole : (b : List ℕ) (size : ℕ) → message_length b ≡ Ok size → 
 unfolding message_length
 is_whole b size h = grind arith
 
-pub length_of-append : (b more : List ℕ) → 8 ≤ length b → length_of (b ++ more) ≡ length_of b
+pub length_of-append : (b more : List ℕ) → HEADER ≤ length b → length_of (b ++ more) ≡ length_of b
 length_of-append b more h =
     ap (big_number 4) (drop-append-le 4 b more (omega arith))
     ∙ big_from-append 4 (drop 4 b) more (omega (arith, length-drop {A = ℕ}))
@@ -41,7 +41,7 @@ whole-append b more size h =
     let w = is_whole b size h in
     let len = length_of-append b more w.head in
     let ver = version_of-append b more (omega (arith, w.head)) in
-    let long : nat_lt (length (b ++ more)) HEADER ≡ false = le-ltb (length (b ++ more)) 8 (omega (arith, w.head, length-append b more)) in
+    let long : nat_lt (length (b ++ more)) HEADER ≡ false = le-ltb (length (b ++ more)) HEADER (omega (arith, w.head, length-append b more)) in
     let fits : nat_lt (length (b ++ more)) size ≡ false = le-ltb (length (b ++ more)) size (omega (arith, w.within, length-append b more)) in
     rw (ver, w.version, long, len, w.bounds, w.is, fits) refl
 
@@ -66,8 +66,8 @@ fault-append b more fault some other h =
     (tested-kept (not (version_of b == VERSION)) (nat_lt (length b) HEADER) (nat_lt (length_of b) HEADER || nat_lt LONGEST_MESSAGE (length_of b)) (nat_lt (length b) (length_of b))
     (nat_lt (length (b ++ more)) HEADER) (nat_lt (length_of (b ++ more)) HEADER || nat_lt LONGEST_MESSAGE (length_of (b ++ more))) (nat_lt (length (b ++ more)) (length_of (b ++ more)))
     (length_of b) (length_of (b ++ more)) fault other
-    (λ long. le-ltb (length (b ++ more)) 8 (omega (arith, ltb-false (length b) 8 long, length-append b more)))
-    (λ long. ap (λ n. nat_lt n HEADER || nat_lt LONGEST_MESSAGE n) (length_of-append b more (ltb-false (length b) 8 long)))
+    (λ long. le-ltb (length (b ++ more)) HEADER (omega (arith, ltb-false (length b) HEADER long, length-append b more)))
+    (λ long. ap (λ n. nat_lt n HEADER || nat_lt LONGEST_MESSAGE n) (length_of-append b more (ltb-false (length b) HEADER long)))
     h)
 
 -- the front of a stream where it is whole

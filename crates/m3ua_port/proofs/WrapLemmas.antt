@@ -13,7 +13,7 @@ use Rattle.relay_base.specs.declared.limits.TheConstants.{POINT_CODES, LINK_SELE
 use Rattle.relay_base.specs.declared.words.Event.{Event}
 use Rattle.relay_base.specs.declared.words.Event.TheVariants.{Message}
 use Rattle.m3ua_port.specs.declared.fault.PortKind.{PortKind}
-use Rattle.m3ua_port.specs.declared.limits.TheConstants.{LONGEST_CARRIED, LONGEST_MESSAGE, VERSION, PROTOCOL_DATA, SCCP}
+use Rattle.m3ua_port.specs.declared.limits.TheConstants.{LONGEST_CARRIED, LONGEST_MESSAGE, VERSION, PROTOCOL_DATA, SCCP, LABEL, HEADER, PARAMETER_HEADER}
 use Rattle.m3ua_port.specs.Frames.{Parameter, version_of, first_data, transfer_of, length_of, message_length, parameter_length, parameter_of, padded, parameters_of, protocol_data, data_event, message_event, front_event, no_frames, frames_by, frames_from, frames_of}
 use Rattle.m3ua_port.specs.Wrapping.{label, parameter_size, wrapped, one_transfer, IsInRange}
 use Rattle.m3ua_port.proofs.FrameLemmas.{frames_from-step}
@@ -55,21 +55,21 @@ front-is own point sls octets =
     take-append-add front (octets ++ filler (length octets)) (length octets)
     ∙ ap (λ (l : List ℕ). front ++ l) (take-append_seam octets (filler (length octets)))
 
-parameter_of-by : (b : List ℕ) (size : ℕ) → parameter_length b ≡ size → 4 ≤ size → size ≤ length b → parameter_of b ≡ Ok (record { tag = big_number 2 b; value = drop 4 (take size b) })
+parameter_of-by : (b : List ℕ) (size : ℕ) → parameter_length b ≡ size → PARAMETER_HEADER ≤ size → size ≤ length b → parameter_of b ≡ Ok (record { tag = big_number 2 b; value = drop PARAMETER_HEADER (take size b) })
 unfolding parameter_of
-parameter_of-by b size e least fits = rw e (rw (le-ltb (length b) 4 (omega arith), le-ltb size 4 least, le-ltb (length b) size fits) refl)
+parameter_of-by b size e least fits = rw e (rw (le-ltb (length b) PARAMETER_HEADER (omega arith), le-ltb size PARAMETER_HEADER least, le-ltb (length b) size fits) refl)
 
-message_length-by : (b : List ℕ) (size : ℕ) → (version_of b == VERSION) ≡ true → length_of b ≡ size → 8 ≤ size → size ≤ LONGEST_MESSAGE → size ≡ length b → message_length b ≡ Ok size
+message_length-by : (b : List ℕ) (size : ℕ) → (version_of b == VERSION) ≡ true → length_of b ≡ size → HEADER ≤ size → size ≤ LONGEST_MESSAGE → size ≡ length b → message_length b ≡ Ok size
 unfolding message_length
 message_length-by b size version e least most fits =
-    rw (version, e) (rw (le-ltb (length b) 8 (omega arith), le-ltb size 8 least, le-ltb LONGEST_MESSAGE size most, le-ltb (length b) size (omega arith)) refl)
+    rw (version, e) (rw (le-ltb (length b) HEADER (omega arith), le-ltb size HEADER least, le-ltb LONGEST_MESSAGE size most, le-ltb (length b) size (omega arith)) refl)
 
 -- its value is the label, and then the user's octets
 parameter-is : (own point sls : ℕ) (octets : List ℕ) → length octets ≤ LONGEST_CARRIED → parameter_of (parameter own point sls octets) ≡ Ok (record { tag = PROTOCOL_DATA; value = label own point sls ++ octets })
 parameter-is own point sls octets few =
     let len = length-parameter own point sls octets in
     parameter_of-by (parameter own point sls octets) (parameter_size (length octets)) (size-is own point sls octets few) (omega arith) (omega (arith, len, padded-le (parameter_size (length octets))))
-    ∙ ap (λ (l : List ℕ). Ok (record { tag = PROTOCOL_DATA; value = drop 4 l })) (front-is own point sls octets)
+    ∙ ap (λ (l : List ℕ). Ok (record { tag = PROTOCOL_DATA; value = drop PARAMETER_HEADER l })) (front-is own point sls octets)
 
 parameters-are : (own point sls : ℕ) (octets : List ℕ) → length octets ≤ LONGEST_CARRIED → protocol_data (parameter own point sls octets) ≡ Ok (label own point sls ++ octets)
 unfolding parameters_of
@@ -82,10 +82,10 @@ parameters-are own point sls octets few =
     ∙ ap (λ (l : List ℕ). parameter_of p >>= λ first. parameters_of l >>= λ more. Ok (first ∷ more)) ends
     ∙ ap (λ (r : Result Parameter PortKind). r >>= λ first. Ok (first ∷ [])) (parameter-is own point sls octets few))
 
-data_event-by : (point : ℕ) (v : List ℕ) → 12 ≤ length v → (slice_index v 8 == SCCP) ≡ true → big_number 4 (drop 4 v) ≡ point → big_number 4 v < POINT_CODES → slice_index v 11 < LINK_SELECTIONS → data_event point v ≡ Ok (Some (transfer_of v))
+data_event-by : (point : ℕ) (v : List ℕ) → LABEL ≤ length v → (slice_index v 8 == SCCP) ≡ true → big_number 4 (drop 4 v) ≡ point → big_number 4 v < POINT_CODES → slice_index v 11 < LINK_SELECTIONS → data_event point v ≡ Ok (Some (transfer_of v))
 unfolding data_event
 data_event-by point v long sccp dpc opc sls =
-    rw (le-ltb (length v) 12 long, sccp, dpc) (rw (eq-eqb point point refl, lt-ltb (big_number 4 v) POINT_CODES opc, lt-ltb (slice_index v 11) LINK_SELECTIONS sls) refl)
+    rw (le-ltb (length v) LABEL long, sccp, dpc) (rw (eq-eqb point point refl, lt-ltb (big_number 4 v) POINT_CODES opc, lt-ltb (slice_index v 11) LINK_SELECTIONS sls) refl)
 
 event-is : (own point sls : ℕ) (octets : List ℕ) → IsInRange own point sls → data_event point (label own point sls ++ octets) ≡ Ok (Some (Message own sls octets))
 event-is own point sls octets range =
@@ -94,7 +94,7 @@ event-is own point sls octets range =
     data_event-by point (label own point sls ++ octets) (omega arith) refl dpc (omega (arith, opc, range.opc)) range.selection
     ∙ ap (λ (n : ℕ). Ok (Some (Message n sls octets))) opc
 
-length-wrapped : (own point sls : ℕ) (octets : List ℕ) → length (wrapped own point sls octets) ≡ 8 + padded (parameter_size (length octets))
+length-wrapped : (own point sls : ℕ) (octets : List ℕ) → length (wrapped own point sls octets) ≡ HEADER + padded (parameter_size (length octets))
 length-wrapped own point sls octets = omega (arith, length-parameter own point sls octets)
 
 message-is : (own point sls : ℕ) (octets : List ℕ) → length octets ≤ LONGEST_CARRIED → IsInRange own point sls → message_event point (wrapped own point sls octets) ≡ Ok (Some (Message own sls octets))
@@ -102,16 +102,16 @@ unfolding message_event
 message-is own point sls octets few range =
     ap (λ (r : Result (List ℕ) PortKind). r >>= data_event point) (parameters-are own point sls octets few) ∙ event-is own point sls octets range
 
-length_of-wrapped : (own point sls : ℕ) (octets : List ℕ) → length octets ≤ LONGEST_CARRIED → length_of (wrapped own point sls octets) ≡ 8 + padded (parameter_size (length octets))
+length_of-wrapped : (own point sls : ℕ) (octets : List ℕ) → length octets ≤ LONGEST_CARRIED → length_of (wrapped own point sls octets) ≡ HEADER + padded (parameter_size (length octets))
 length_of-wrapped own point sls octets few =
-    big_number-reads_back 4 (8 + padded (parameter_size (length octets))) (parameter own point sls octets) (omega (arith, padded-lt (parameter_size (length octets))))
+    big_number-reads_back 4 (HEADER + padded (parameter_size (length octets))) (parameter own point sls octets) (omega (arith, padded-lt (parameter_size (length octets))))
 
 -- it brings back what it carries
 pub wrapped-frames : (own point sls : ℕ) (octets : List ℕ) → length octets ≤ LONGEST_CARRIED → IsInRange own point sls → frames_of point (wrapped own point sls octets) ≡ one_transfer own sls octets
 unfolding frames_from
 wrapped-frames own point sls octets few range =
     let m = wrapped own point sls octets in
-    let size : ℕ = 8 + padded (parameter_size (length octets)) in
+    let size : ℕ = HEADER + padded (parameter_size (length octets)) in
     let len : length m ≡ size = length-wrapped own point sls octets in
     let of : length_of m ≡ size = length_of-wrapped own point sls octets few in
     let whole : message_length m ≡ Ok size = message_length-by m size refl of (omega arith) (omega (arith, padded-lt (parameter_size (length octets)))) (sym len) in

@@ -1,4 +1,5 @@
 use Rattle.std.proofs.Common.{◌≡◌, ℕ, ◌+◌, ◌-◌, ◌*◌, ◌≤◌, List, length, drop}
+use Rattle.m3ua_port.specs.declared.limits.TheConstants.{HEADER}
 use Rattle.relay_base.specs.declared.words.Stamp.{Stamp}
 use Rattle.relay_base.specs.declared.words.Event.{Event}
 use Rattle.m3ua_port.specs.declared.reader.Reader.{Reader}
@@ -10,7 +11,7 @@ use Rattle.m3ua_port.proofs.reader.Reader.read.Given as goal
 pub record IsRead (old new : Reader) (piece : List ℕ) (at : ℕ) (before after : List (Stamp × Event)) : Type 0 where
   pub leads : LeadsTo old.own (reading_of old piece before) (reading_of new (drop at piece) after)
   pub part : IsPart new.part.items
-  pub bound : 8 * new.number + length new.part.items ≤ 8 * old.number + length old.part.items + at
+  pub bound : HEADER * new.number + length new.part.items ≤ HEADER * old.number + length old.part.items + at
   pub within : at ≤ length piece
   pub own : new.own ≡ old.own
 
