@@ -3,6 +3,7 @@ use Rattle.std.proofs.Common.{◌≡◌, ℕ, ◌+◌, ◌-◌, ◌*◌, ◌/◌
 use Rattle.std.specs.Prelude.{◌==◌, ◌||◌, ◌&&◌, nat_lt, is_some, slice_index, Option, Some, None, Ok, Err, IfOk}
 use Rattle.std.specs.declared.result.Result.{Result}
 use Rattle.std.proofs.lemmas.Bool.{eqb-false, ltb-false}
+use Rattle.relay_base.specs.declared.limits.TheConstants.{POINT_CODES}
 use Rattle.relay_base.specs.Giving.{◌>>=◌}
 use Rattle.relay_base.proofs.GivingLemmas.{bound}
 use Rattle.sccp_address.specs.Form.{Form, TitleForm, no_title, bcd, other}
@@ -35,7 +36,7 @@ unfolding point_at
 point-within false octets = omega arith
 point-within true octets = by_test (nat_lt (length octets) 2) refl
   where
-    by_test : (test : Bool) → nat_lt (length octets) 2 ≡ test → IfOk (if test then Err Short else Ok (Some ((slice_index octets 0 + 256 * slice_index octets 1) % 16384), drop 2 octets)) (PointWithin octets)
+    by_test : (test : Bool) → nat_lt (length octets) 2 ≡ test → IfOk (if test then Err Short else Ok (Some ((slice_index octets 0 + 256 * slice_index octets 1) % POINT_CODES), drop 2 octets)) (PointWithin octets)
     by_test true e = tt
     by_test false e = omega (arith, ltb-false _ _ e, length-drop 2 octets)
 
