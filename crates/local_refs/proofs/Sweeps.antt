@@ -3,6 +3,7 @@ use Rattle.std.proofs.Common.{◌≡◌, ℕ, zero, suc, ◌+◌, ◌-◌, ◌<�
 use Rattle.std.specs.Prelude.{Some, slice_get, slice_set}
 use Rattle.std.proofs.Math.ListN.{drop_of_length-le}
 use Rattle.std.proofs.lemmas.List.{drop_more, map-set}
+use Rattle.local_refs.specs.declared.state.TheConstants.{LONGEST}
 use Rattle.local_refs.specs.declared.state.SlotState.{SlotState}
 use Rattle.local_refs.specs.declared.state.SlotState.TheVariants.{Free, Held, Frozen}
 use Rattle.local_refs.specs.Slots.{lowered, frozen_for}
@@ -12,21 +13,21 @@ pub swept_free : (n ticks : ℕ) → swept_all ticks (replicate n Free) ≡ repl
 swept_free zero ticks = refl
 swept_free (suc n) ticks = ap (λ xs. Free ∷ xs) (swept_free n ticks)
 
-pub soonest_free : (n : ℕ) → soonest_in (replicate n Free) ≡ 4294967295
+pub soonest_free : (n : ℕ) → soonest_in (replicate n Free) ≡ LONGEST
 unfolding soonest_in
 soonest_free zero = refl
-soonest_free (suc n) = let rest : soonest_in (replicate n Free) ≡ 4294967295 = soonest_free n in omega (arith, rest)
+soonest_free (suc n) = let rest : soonest_in (replicate n Free) ≡ LONGEST = soonest_free n in omega (arith, rest)
 
-pub soonest_bound : (states : List SlotState) → soonest_in states ≤ 4294967295
+pub soonest_bound : (states : List SlotState) → soonest_in states ≤ LONGEST
 unfolding soonest_in
 soonest_bound [] = omega arith
-soonest_bound (state ∷ more) = let rest : soonest_in more ≤ 4294967295 = soonest_bound more in omega (arith, rest)
+soonest_bound (state ∷ more) = let rest : soonest_in more ≤ LONGEST = soonest_bound more in omega (arith, rest)
 
 -- a slot that is held makes nothing due sooner
 pub soonest_held : (states : List SlotState) (i : ℕ) → soonest_in states ≤ soonest_in (slice_set states i Held)
 unfolding soonest_in
 soonest_held [] i = omega arith
-soonest_held (state ∷ more) zero = let rest : soonest_in more ≤ 4294967295 = soonest_bound more in omega (arith, rest)
+soonest_held (state ∷ more) zero = let rest : soonest_in more ≤ LONGEST = soonest_bound more in omega (arith, rest)
 soonest_held (state ∷ more) (suc i) = let rest : soonest_in more ≤ soonest_in (slice_set more i Held) = soonest_held more i in omega (arith, rest)
 
 pub soonest_freed : (states : List SlotState) (i : ℕ) → soonest_in states ≤ soonest_in (slice_set states i Free)
@@ -50,7 +51,7 @@ unfolding soonest_in
 soonest_step states i other left is within =
     ap soonest_in (drop_more states i other within) ∙ ap (λ n. min (soonest_in (drop (i + 1) states)) n) (sym is)
 
-pub soonest_past : (states : List SlotState) (i : ℕ) → length states ≤ i → soonest_in (drop i states) ≡ 4294967295
+pub soonest_past : (states : List SlotState) (i : ℕ) → length states ≤ i → soonest_in (drop i states) ≡ LONGEST
 unfolding soonest_in
 soonest_past [] zero past = refl
 soonest_past [] (suc i) past = refl

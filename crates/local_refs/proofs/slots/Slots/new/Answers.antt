@@ -6,12 +6,13 @@ use Rattle.local_refs.proofs.Sweeps.{swept_free, soonest_free}
 use Rattle.local_refs.proofs.Firsts.{taken_none}
 use Rattle.local_refs.proofs.slots.Slots.new.Goals as goal
 use Rattle.std.proofs.lemmas.List.{length-replicate}
+use Rattle.local_refs.specs.declared.state.TheConstants.{LONGEST}
 
 pub invariant_of-result : goal.invariant_of-result
 invariant_of-result c =
     let made : c.resize.new.self.items ≡ replicate SLOTS Free =
     c.in_ok-resize.ensures.items ∙ ap₂ (λ xs n. take SLOTS xs ++ replicate (SLOTS - n) Free) c.new-states.ensures.items c.new-states.ensures.len in
-    let never : soonest_in c.resize.new.self.items ≡ 4294967295 = ap soonest_in made ∙ soonest_free SLOTS in (
+    let never : soonest_in c.resize.new.self.items ≡ LONGEST = ap soonest_in made ∙ soonest_free SLOTS in (
       ap (λ xs. length xs) made ∙ length-replicate SLOTS Free,
       c.requires.lane,
       omega arith,
