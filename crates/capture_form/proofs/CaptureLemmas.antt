@@ -36,7 +36,7 @@ events_of r = all_events r.phases ++ phase_events r.current
 
 record Fine (r : Reading) : Type 0 where
   few : length (events_of r) ≤ r.events
-  most : r.events ≤ 200000
+  most : r.events ≤ MOST_LINES
 
 lists-empty : (n : ℕ) → phase_events (replicate n []) ≡ []
 lists-empty zero = refl
@@ -66,7 +66,7 @@ fine-ended head r h =
     fine-same r (phase_ended head r)
     (ap (λ l. all_events (r.phases ++ r.current ∷ []) ++ l) (lists-empty (head.links + 1)) ∙ append-nil (all_events (r.phases ++ r.current ∷ [])) ∙ ended-events r) refl h
 
-fine-added : (r : Reading) (e : Linked) → r.events < 200000 → Fine r → Fine (event_added r e)
+fine-added : (r : Reading) (e : Linked) → r.events < MOST_LINES → Fine r → Fine (event_added r e)
 fine-added r e less h =
     let pair : Stamp × ControlEvent = (record { phase = r.phase; link = e.0; line = r.line }, e.1) in
     let now : List Stamped = set r.current e.0 (get_or r.current e.0 [] ++ pair ∷ []) in
@@ -80,9 +80,9 @@ fine-added r e less h =
 
 record Counted (r : Reading) : Type 0 where
   fine : Fine r
-  less : r.events < 200000
+  less : r.events < MOST_LINES
 
-is-less : (n : ℕ) → nat_le MOST_LINES n ≡ false → n < 200000
+is-less : (n : ℕ) → nat_le MOST_LINES n ≡ false → n < MOST_LINES
 is-less n h = grind (arith, nat_tests)
 
 tick-counted : (r : Reading) → Counted r → IfOk (tick_counted r) Counted
@@ -130,7 +130,7 @@ fine-from head number = record {
 }
 
 abbrev AreFew : List (List Stamped) → Type 0
-AreFew phases = length (all_events phases) ≤ 200000
+AreFew phases = length (all_events phases) ≤ MOST_LINES
 
 few-events : (phases : List (List Stamped)) (r : Reading) → all_events phases ≡ events_of r → Fine r → AreFew phases
 few-events phases r same h = omega (arith, h.few, h.most, ap length same)
@@ -188,7 +188,7 @@ pub read-stamped : (r : Result Capture CaptureFault) (bytes : List ℕ) → Read
 read-stamped (Ok capture) bytes e = (good-read (Ok capture) bytes e).stamped
 read-stamped (Err fault) bytes e = tt
 
-pub read-few-events : (r : Result Capture CaptureFault) (bytes : List ℕ) → Reads r (capture_within bytes) → IfOk r (λ c. length (all_events c.phases) ≤ 200000)
+pub read-few-events : (r : Result Capture CaptureFault) (bytes : List ℕ) → Reads r (capture_within bytes) → IfOk r (λ c. length (all_events c.phases) ≤ MOST_LINES)
 read-few-events (Ok capture) bytes e = (good-read (Ok capture) bytes e).few
 read-few-events (Err fault) bytes e = tt
 

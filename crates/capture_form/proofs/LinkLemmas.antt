@@ -23,7 +23,7 @@ use Rattle.capture_form.specs.declared.fault.LineKind.TheVariants.{Words, Number
 use Rattle.capture_form.specs.declared.fault.CaptureFault.{CaptureFault}
 use Rattle.capture_form.specs.declared.fault.CaptureFault.TheVariants as refused
 use Rattle.capture_form.specs.declared.fault.Limit.TheVariants as limit
-use Rattle.relay_base.specs.declared.limits.TheConstants.{MOST_BYTES}
+use Rattle.relay_base.specs.declared.limits.TheConstants.{MOST_BYTES, LINK_SELECTIONS, POINT_CODES}
 use Rattle.capture_form.specs.declared.capture.Capture.{Capture}
 use Rattle.capture_form.specs.Capture.{Reads, Line, lines_from, is_barrier, barriers, with_above, fault_at, event_at, phases_of, unless_faulty, at_head, capture_after, capture_from, capture_within, capture_of}
 use Rattle.capture_form.proofs.PhaseLemmas.{number-is, both-left, both-right}
@@ -47,8 +47,8 @@ link-in links (Some n) = by_test (λ k. 1 ≤ k) (nat_le 1 n && nat_le n links) 
 message-agrees : (head : Head) (ws : List (List ℕ)) → IfOk (message_form head ws) LinkAgrees
 message-agrees head (link ∷ opc ∷ sls ∷ hex ∷ []) =
     bound (λ k. 1 ≤ k) LinkAgrees (link_of head.links link) _ (link-in head.links (number_of link)) (λ k h.
-    after_any LinkAgrees (below 16384 opc) _ (λ point.
-    after_any LinkAgrees (below 16 sls) _ (λ selection.
+    after_any LinkAgrees (below POINT_CODES opc) _ (λ point.
+    after_any LinkAgrees (below LINK_SELECTIONS sls) _ (λ selection.
     after_any LinkAgrees (octets_of hex) _ (λ octets. sym (lt-ltb 0 k h)))))
 message-agrees head [] = tt
 message-agrees head (a ∷ []) = tt
