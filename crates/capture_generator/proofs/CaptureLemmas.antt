@@ -1,5 +1,5 @@
 -- The phases of a generated capture: their stamps, their links, and how many events they have.
-use Rattle.std.proofs.Common.{◌≡◌, ◌∙◌, ℕ, zero, suc, ◌+◌, ◌*◌, ◌/◌, ◌%◌, ◌==◌, ◌≤◌, append_assoc, subst, Bool, true, false, cond, List, [], ◌∷◌, ◌++◌, length, refl, ap, arith, rules, length-append}
+use Rattle.std.proofs.Common.{◌≡◌, ◌∙◌, ℕ, zero, suc, ◌+◌, ◌-◌, ◌*◌, ◌/◌, ◌%◌, ◌==◌, ◌≤◌, append_assoc, subst, Bool, true, false, cond, List, [], ◌∷◌, ◌++◌, length, refl, ap, arith, rules, length-append}
 use Rattle.std.proofs.lemmas.List.Concat.{flat_map-append}
 use Rattle.std.specs.List.{AllByRecursion, IsDistinct}
 use Rattle.plant_core.specs.Terms.{AreTicks}
@@ -10,7 +10,7 @@ use Rattle.relay_base.specs.declared.words.Event.TheVariants.{Asked}
 use Rattle.relay_base.specs.declared.words.Request.TheVariants.{Accept}
 use Rattle.plant_core.specs.declared.entry.ControlEvent.{ControlEvent}
 use Rattle.plant_core.specs.declared.entry.ControlEvent.TheVariants.{Plain}
-use Rattle.relay_base.specs.declared.limits.TheConstants.{MOST_GENERATED_LINES}
+use Rattle.relay_base.specs.declared.limits.TheConstants.{MOST_GENERATED_LINES, OCTET_VALUES, POINT_CODES}
 use Rattle.capture_form.specs.declared.steps.TheConstants.{MOST_LINES}
 use Rattle.capture_form.specs.Events.{Stamped, phase_events, all_events, AreOfLinks, AreOfPhases}
 use Rattle.capture_form.specs.Links.{comes_on_link, AreOnLinks, AreLinked}
@@ -29,7 +29,7 @@ head-users : AreNumbers 2 (8 ∷ []) 254
 unfolding IsDistinct
 head-users = record { each = ((omega arith, omega arith), tt); distinct = (tt, tt); few = omega arith }
 
-head-concerned : AreNumbers 0 [] 16383
+head-concerned : AreNumbers 0 [] (POINT_CODES - 1)
 unfolding IsDistinct
 head-concerned = record { each = tt; distinct = tt; few = omega arith }
 
@@ -128,11 +128,11 @@ either P false a b f g = g
 -- by the kind of the event
 pub of-kind :
     (P : Event → Type 0) (i : ℕ) → P (message_at i unit_octets) → P (message_at i (request_octets (i + 1))) → P (Asked 8 (Accept (reference_at i) 2 0 []))
-    → P (message_at i (data_octets (reference_at i) (i % 256))) → (kind : ℕ) → P (event_of_kind kind i)
+    → P (message_at i (data_octets (reference_at i) (i % OCTET_VALUES))) → (kind : ℕ) → P (event_of_kind kind i)
 of-kind P i unit request acceptance more kind =
     either P (kind == 0) (message_at i unit_octets) _ unit
     (either P (kind == 1) (message_at i (request_octets (i + 1))) _ request
-    (either P (kind == 2) (Asked 8 (Accept (reference_at i) 2 0 [])) (message_at i (data_octets (reference_at i) (i % 256))) acceptance more))
+    (either P (kind == 2) (Asked 8 (Accept (reference_at i) 2 0 [])) (message_at i (data_octets (reference_at i) (i % OCTET_VALUES))) acceptance more))
 
 pub each-event : (P : ControlEvent → Type 0) → ((kind i : ℕ) → P (Plain (event_of_kind kind i))) → (x i n : ℕ) → AllByRecursion (λ e. P e.1) (events_after x i n)
 unfolding events_after
