@@ -2,6 +2,7 @@
 use Rattle.std.proofs.Common.{◌≡◌, ℕ, ◌+◌, ◌%◌, ◌≤◌, ◌<◌, ◌==◌, codes, Bool, true, false, cond, List, [], ◌∷◌, ◌++◌, length, Ok, refl, arith, length-append}
 use Rattle.std.specs.List.{AllByRecursion}
 use Rattle.std.specs.Fmt.{decimal}
+use Rattle.relay_base.specs.declared.limits.TheConstants.{LINK_SELECTIONS, OCTET_VALUES, REFERENCES}
 use Rattle.relay_base.specs.Decimal.{number_of}
 use Rattle.relay_base.specs.declared.words.Event.{Event}
 use Rattle.relay_base.specs.declared.words.Event.TheVariants.{Asked}
@@ -31,18 +32,18 @@ pub record Writes (ws : List (List ℕ)) (event : Event) : Type 0 where
 message-writes : (i b : ℕ) (octets : List ℕ) → AreOctets (b ∷ octets) → length (b ∷ octets) ≤ 13 → Writes (message_words i (b ∷ octets)) (message_at i (b ∷ octets))
 unfolding number_of
 message-writes i b octets h few =
-    let small : IsShort (i % 16) = omega arith in
+    let small : IsShort (i % LINK_SELECTIONS) = omega arith in
     record {
-      each = (word (codes "m") refl, (word (codes "1") refl, (word (codes "2") refl, (decimal-word (i % 16) small, (octets-word b octets h, tt)))));
-      reads = rw (below-decimal 16 (i % 16) small (omega arith), octets-hex b octets h) refl;
+      each = (word (codes "m") refl, (word (codes "1") refl, (word (codes "2") refl, (decimal-word (i % LINK_SELECTIONS) small, (octets-word b octets h, tt)))));
+      reads = rw (below-decimal LINK_SELECTIONS (i % LINK_SELECTIONS) small (omega arith), octets-hex b octets h) refl;
       short = omega (
         arith,
         few,
-        length-append (decimal (i % 16)) (32 ∷ octets_text (b ∷ octets)),
-        decimal-short 2 (i % 16) (omega arith) (omega arith) small,
+        length-append (decimal (i % LINK_SELECTIONS)) (32 ∷ octets_text (b ∷ octets)),
+        decimal-short 2 (i % LINK_SELECTIONS) (omega arith) (omega arith) small,
         octets-length b octets,
       );
-      stated = stated 109 (32 ∷ spaced (codes "1" ∷ codes "2" ∷ decimal (i % 16) ∷ octets_text (b ∷ octets) ∷ [])) refl;
+      stated = stated 109 (32 ∷ spaced (codes "1" ∷ codes "2" ∷ decimal (i % LINK_SELECTIONS) ∷ octets_text (b ∷ octets) ∷ [])) refl;
       no_barrier = refl;
       no_tick = refl;
     }
@@ -74,7 +75,7 @@ acceptance-writes i =
           ),
         ),
       );
-      reads = rw (below-decimal 16777216 (reference_at i) small (omega arith)) refl;
+      reads = rw (below-decimal REFERENCES (reference_at i) small (omega arith)) refl;
       short = omega (
         arith,
         length-append (decimal (reference_at i)) (32 ∷ spaced (codes "2" ∷ codes "0" ∷ codes "-" ∷ [])),
@@ -96,7 +97,7 @@ unit-octets = are_octets unit_octets refl
 request-octets : (n : ℕ) → AreOctets (request_octets n)
 request-octets n = (omega arith, three n (2 ∷ 2 ∷ 0 ∷ 2 ∷ 66 ∷ 8 ∷ []) (are_octets (2 ∷ 2 ∷ 0 ∷ 2 ∷ 66 ∷ 8 ∷ []) refl))
 
-data-octets : (n octet : ℕ) → octet < 256 → AreOctets (data_octets n octet)
+data-octets : (n octet : ℕ) → octet < OCTET_VALUES → AreOctets (data_octets n octet)
 data-octets n octet o = (omega arith, three n (0 ∷ 1 ∷ 1 ∷ octet ∷ []) (omega arith, (omega arith, (omega arith, (o, tt)))))
 
 -- ---- by kind
@@ -109,5 +110,5 @@ pub kind-writes : (kind i : ℕ) → Writes (words_of_kind kind i) (event_of_kin
 kind-writes kind i =
     either (message_words i unit_octets) _ (message_at i unit_octets) _ (kind == 0) (message-writes i 9 _ unit-octets (omega arith))
     (either (message_words i (request_octets (i + 1))) _ (message_at i (request_octets (i + 1))) _ (kind == 1) (message-writes i 1 _ (request-octets (i + 1)) (omega arith))
-    (either (acceptance_words i) (message_words i (data_octets (reference_at i) (i % 256))) (Asked 8 (Accept (reference_at i) 2 0 [])) (message_at i (data_octets (reference_at i) (i % 256))) (kind == 2)
-    (acceptance-writes i) (message-writes i 6 _ (data-octets (reference_at i) (i % 256) (omega arith)) (omega arith))))
+    (either (acceptance_words i) (message_words i (data_octets (reference_at i) (i % OCTET_VALUES))) (Asked 8 (Accept (reference_at i) 2 0 [])) (message_at i (data_octets (reference_at i) (i % OCTET_VALUES))) (kind == 2)
+    (acceptance-writes i) (message-writes i 6 _ (data-octets (reference_at i) (i % OCTET_VALUES) (omega arith)) (omega arith))))

@@ -4,6 +4,8 @@ use Rattle.std.specs.Prelude.{◌≢◌}
 use Rattle.std.proofs.lemmas.Bool.{cases_Bool, eqb-true, eqb-false}
 use Rattle.std.proofs.lemmas.Bool.Decides.{nat_tests}
 use Rattle.relay_base.specs.declared.limits.TheConstants.{MOST_GENERATED_LINES}
+use Rattle.capture_form.specs.declared.steps.TheConstants.{MOST_BARRIERS, MOST_LINES, MOST_TICKS}
+use Rattle.capture_generator.specs.declared.events.TheConstants.{BLOCK}
 use Rattle.relay_base.specs.Giving.{◌>>=◌}
 use Rattle.relay_base.specs.declared.words.Event.{Event}
 use Rattle.relay_base.specs.declared.words.Event.TheVariants.{Tick}
@@ -48,20 +50,20 @@ pub not_above : (n most : ℕ) → n ≤ most → nat_lt most n ≡ false
 not_above n most h = grind (arith, nat_tests)
 
 -- an event line
-event_line : (ws : Lines) (event : Event) (r : Reading) → Writes ws event → r.events < 200000
+event_line : (ws : Lines) (event : Event) (r : Reading) → Writes ws event → r.events < MOST_LINES
     → line_taken generator_head r (spaced ws) ≡ Ok (event_added r (1, Plain event))
 unfolding line_taken
 event_line ws event r h few =
-    rw (h.stated, words-spaced ws h.each, h.no_barrier, not_yet r.events 200000 few, h.no_tick, h.reads) refl
+    rw (h.stated, words-spaced ws h.each, h.no_barrier, not_yet r.events MOST_LINES few, h.no_tick, h.reads) refl
 
 -- a barrier, and a tick
-barrier_line : (r : Reading) → r.phase ≤ 1000 → line_taken generator_head r (codes "w") ≡ Ok (phase_ended generator_head r)
+barrier_line : (r : Reading) → r.phase ≤ MOST_BARRIERS → line_taken generator_head r (codes "w") ≡ Ok (phase_ended generator_head r)
 unfolding line_taken words
-barrier_line r h = rw (not_above r.phase 1000 h) refl
+barrier_line r h = rw (not_above r.phase MOST_BARRIERS h) refl
 
-tick_line : (r : Reading) → r.events < 200000 → r.ticks < 20000 → line_taken generator_head r (codes "t") ≡ Ok (event_added (record r { ticks = r.ticks + 1 }) (0, Plain Tick))
+tick_line : (r : Reading) → r.events < MOST_LINES → r.ticks < MOST_TICKS → line_taken generator_head r (codes "t") ≡ Ok (event_added (record r { ticks = r.ticks + 1 }) (0, Plain Tick))
 unfolding line_taken words
-tick_line r few h = rw (not_yet r.events 200000 few, not_yet r.ticks 20000 h) refl
+tick_line r few h = rw (not_yet r.events MOST_LINES few, not_yet r.ticks MOST_TICKS h) refl
 
 -- ---- what was read
 
@@ -71,7 +73,7 @@ reading phases current phase line events ticks =
 
 -- after q blocks and r lines more
 abbrev pub read_at : ℕ → ℕ → ℕ → Reading
-read_at x q r = reading (whole_blocks x q) (block_phase x q r) (1 + 2 * q) (6 + 403 * q + r) (401 * q + r) q
+read_at x q r = reading (whole_blocks x q) (block_phase x q r) (1 + 2 * q) (6 + (BLOCK + 3) * q + r) ((BLOCK + 1) * q + r) q
 
 reading_same : (phases : Phases) (current now : List Stamped) (phase line line' events events' ticks : ℕ) → current ≡ now → line ≡ line' → events ≡ events'
     → reading phases current phase line events ticks ≡ reading phases now phase line' events' ticks
@@ -90,33 +92,33 @@ more_events y i r =
 
 -- event n in block q, as it is read
 abbrev event_read : ℕ → ℕ → ℕ → ℕ → Stamp × ControlEvent
-event_read x q r n = (record { phase = 1 + 2 * q; link = 1; line = 6 + 403 * q + r }, Plain (event_at (number_after x (n + 1)) n))
+event_read x q r n = (record { phase = 1 + 2 * q; link = 1; line = 6 + (BLOCK + 3) * q + r }, Plain (event_at (number_after x (n + 1)) n))
 
-one_more : (x q r n : ℕ) → n ≡ 400 * q + r → r < 400
-    → events_after (number_after x (400 * q)) (400 * q) r ++ event_read x q r n ∷ [] ≡ events_after (number_after x (400 * q)) (400 * q) (r + 1)
+one_more : (x q r n : ℕ) → n ≡ BLOCK * q + r → r < BLOCK
+    → events_after (number_after x (BLOCK * q)) (BLOCK * q) r ++ event_read x q r n ∷ [] ≡ events_after (number_after x (BLOCK * q)) (BLOCK * q) (r + 1)
 one_more x q r n at h =
-    let y : ℕ = number_after x (400 * q) in
-    let before : Stamped = events_after y (400 * q) r in
-    let whole : n / 400 ≡ q = omega (arith, at, h) in
-    let picked : number_after x (n + 1) ≡ number_after y (r + 1) = ap (number_after x) (omega (arith, at)) ∙ sym (number-add x (400 * q) (r + 1)) in
+    let y : ℕ = number_after x (BLOCK * q) in
+    let before : Stamped = events_after y (BLOCK * q) r in
+    let whole : n / BLOCK ≡ q = omega (arith, at, h) in
+    let picked : number_after x (n + 1) ≡ number_after y (r + 1) = ap (number_after x) (omega (arith, at)) ∙ sym (number-add x (BLOCK * q) (r + 1)) in
     let event : Event = event_at (number_after x (n + 1)) n in
-    ap (λ k. before ++ (stamp k 1 (6 + 403 * q + r), Plain event) ∷ []) (omega (arith, whole))
-    ∙ ap (λ k. before ++ (stamp (1 + 2 * (n / 400)) 1 k, Plain event) ∷ []) (omega (arith, at, whole))
+    ap (λ k. before ++ (stamp k 1 (6 + (BLOCK + 3) * q + r), Plain event) ∷ []) (omega (arith, whole))
+    ∙ ap (λ k. before ++ (stamp (1 + 2 * (n / BLOCK)) 1 k, Plain event) ∷ []) (omega (arith, at, whole))
     ∙ ap (λ z. before ++ (stamp_at n, Plain (event_at z n)) ∷ []) picked
     ∙ ap (λ m. before ++ stamped_at (number_after y (r + 1)) m ∷ []) at
-    ∙ more_events y (400 * q) r
+    ∙ more_events y (BLOCK * q) r
 
-event-read : (x q r n : ℕ) → n ≡ 400 * q + r → r < 400 → n < MOST_GENERATED_LINES
+event-read : (x q r n : ℕ) → n ≡ BLOCK * q + r → r < BLOCK → n < MOST_GENERATED_LINES
     → line_taken generator_head (read_at x q r) (line_at (number_after x (n + 1)) n) ≡ Ok (read_at x q (r + 1))
 event-read x q r n at h few =
     let picked : ℕ = number_after x (n + 1) in
     event_line (words_of_kind (picked / 65536 % 4) n) (event_at picked n) (read_at x q r) (kind-writes (picked / 65536 % 4) n) (omega (arith, at, h, few))
-    ∙ ap Ok (reading_same (whole_blocks x q) ([] ∷ (events_after (number_after x (400 * q)) (400 * q) r ++ event_read x q r n ∷ []) ∷ []) (block_phase x q (r + 1)) (1 + 2 * q)
-    (6 + 403 * q + r + 1) (6 + 403 * q + (r + 1)) (401 * q + r + 1) (401 * q + (r + 1)) q
+    ∙ ap Ok (reading_same (whole_blocks x q) ([] ∷ (events_after (number_after x (BLOCK * q)) (BLOCK * q) r ++ event_read x q r n ∷ []) ∷ []) (block_phase x q (r + 1)) (1 + 2 * q)
+    (6 + (BLOCK + 3) * q + r + 1) (6 + (BLOCK + 3) * q + (r + 1)) ((BLOCK + 1) * q + r + 1) ((BLOCK + 1) * q + (r + 1)) q
     (ap (λ (es : Stamped). [] ∷ es ∷ []) (one_more x q r n at h)) (omega arith) (omega arith))
 
 -- a barrier, a tick and a barrier after a whole block
-more_blocks : (x q : ℕ) → whole_blocks x q ++ block_phase x q 400 ∷ tick_phase q ∷ [] ≡ whole_blocks x (q + 1)
+more_blocks : (x q : ℕ) → whole_blocks x q ++ block_phase x q BLOCK ∷ tick_phase q ∷ [] ≡ whole_blocks x (q + 1)
 unfolding whole_blocks
 more_blocks x q =
     let one : suc q ≡ q + 1 = omega arith in
@@ -131,26 +133,26 @@ none_read = [] ∷ [] ∷ []
 -- after the second barrier
 abbrev ended : ℕ → ℕ → Reading
 ended x q =
-    reading ((whole_blocks x q ++ block_phase x q 400 ∷ []) ++ tick_read (1 + 2 * q + 1) (6 + 403 * q + 400 + 1) ∷ []) none_read
-    (1 + 2 * q + 1 + 1) (6 + 403 * q + 400 + 1 + 1 + 1) (401 * q + 400 + 1) (q + 1)
+    reading ((whole_blocks x q ++ block_phase x q BLOCK ∷ []) ++ tick_read (1 + 2 * q + 1) (6 + (BLOCK + 3) * q + BLOCK + 1) ∷ []) none_read
+    (1 + 2 * q + 1 + 1) (6 + (BLOCK + 3) * q + BLOCK + 1 + 1 + 1) ((BLOCK + 1) * q + BLOCK + 1) (q + 1)
 
 ended_same : (x q : ℕ) → ended x q ≡ read_at x (q + 1) 0
 unfolding events_after
 ended_same x q =
     let phase : ℕ = 1 + 2 * q + 1 + 1 in
-    let line : ℕ = 6 + 403 * q + 400 + 1 + 1 + 1 in
-    let events : ℕ = 401 * q + 400 + 1 in
-    let before : Phases = whole_blocks x q ++ block_phase x q 400 ∷ [] in
-    ap (λ k. reading (before ++ tick_read k (6 + 403 * q + 400 + 1) ∷ []) none_read phase line events (q + 1)) (omega arith)
+    let line : ℕ = 6 + (BLOCK + 3) * q + BLOCK + 1 + 1 + 1 in
+    let events : ℕ = (BLOCK + 1) * q + BLOCK + 1 in
+    let before : Phases = whole_blocks x q ++ block_phase x q BLOCK ∷ [] in
+    ap (λ k. reading (before ++ tick_read k (6 + (BLOCK + 3) * q + BLOCK + 1) ∷ []) none_read phase line events (q + 1)) (omega arith)
     ∙ ap (λ k. reading (before ++ tick_read (2 + 2 * q) k ∷ []) none_read phase line events (q + 1)) (omega arith)
-    ∙ ap (λ ps. reading ps none_read phase line events (q + 1)) (append_assoc (whole_blocks x q) (block_phase x q 400 ∷ []) (tick_phase q ∷ []) ∙ more_blocks x q)
+    ∙ ap (λ ps. reading ps none_read phase line events (q + 1)) (append_assoc (whole_blocks x q) (block_phase x q BLOCK ∷ []) (tick_phase q ∷ []) ∙ more_blocks x q)
     ∙ ap (λ k. reading (whole_blocks x (q + 1)) none_read k line events (q + 1)) (omega arith)
-    ∙ reading_same (whole_blocks x (q + 1)) none_read none_read (1 + 2 * (q + 1)) line (6 + 403 * (q + 1) + 0) events (401 * (q + 1) + 0) (q + 1) refl (omega arith) (omega arith)
+    ∙ reading_same (whole_blocks x (q + 1)) none_read none_read (1 + 2 * (q + 1)) line (6 + (BLOCK + 3) * (q + 1) + 0) events ((BLOCK + 1) * (q + 1) + 0) (q + 1) refl (omega arith) (omega arith)
 
-block-read : (x q : ℕ) → q < 498 → lines_taken generator_head (read_at x q 400) (codes "w" ∷ codes "t" ∷ codes "w" ∷ []) ≡ Ok (read_at x (q + 1) 0)
+block-read : (x q : ℕ) → q < 498 → lines_taken generator_head (read_at x q BLOCK) (codes "w" ∷ codes "t" ∷ codes "w" ∷ []) ≡ Ok (read_at x (q + 1) 0)
 unfolding lines_taken
 block-read x q h =
-    let first : Reading = read_at x q 400 in
+    let first : Reading = read_at x q BLOCK in
     let second : Reading = phase_ended generator_head first in
     let third : Reading = event_added (record second { ticks = second.ticks + 1 }) (0, Plain Tick) in
     next_line generator_head first second (codes "w") (codes "t" ∷ codes "w" ∷ []) (barrier_line first (omega (arith, h)))
@@ -160,38 +162,38 @@ block-read x q h =
 
 -- ---- all lines
 
-barriers-read : (x q r n : ℕ) → n ≡ 400 * q + r → r < 400 → n < MOST_GENERATED_LINES
-    → lines_taken generator_head (read_at x q (r + 1)) (barriers_after (n + 1)) ≡ Ok (read_at x ((n + 1) / 400) ((n + 1) % 400))
+barriers-read : (x q r n : ℕ) → n ≡ BLOCK * q + r → r < BLOCK → n < MOST_GENERATED_LINES
+    → lines_taken generator_head (read_at x q (r + 1)) (barriers_after (n + 1)) ≡ Ok (read_at x ((n + 1) / BLOCK) ((n + 1) % BLOCK))
 unfolding lines_taken
-barriers-read x q r n at h few = elim (cases_Bool ((n + 1) % 400 == 0)) [
+barriers-read x q r n at h few = elim (cases_Bool ((n + 1) % BLOCK == 0)) [
   | inl whole ↦
-      let none : (n + 1) % 400 ≡ 0 = eqb-true ((n + 1) % 400) 0 whole in
-      let full : r + 1 ≡ 400 = omega (arith, at, h, none) in
-      let next : q + 1 ≡ (n + 1) / 400 = omega (arith, at, full) in
+      let none : (n + 1) % BLOCK ≡ 0 = eqb-true ((n + 1) % BLOCK) 0 whole in
+      let full : r + 1 ≡ BLOCK = omega (arith, at, h, none) in
+      let next : q + 1 ≡ (n + 1) / BLOCK = omega (arith, at, full) in
       ap (λ t. lines_taken generator_head (read_at x q (r + 1)) (cond t (codes "w" ∷ codes "t" ∷ codes "w" ∷ []) [])) whole
       ∙ ap (λ k. lines_taken generator_head (read_at x q k) (codes "w" ∷ codes "t" ∷ codes "w" ∷ [])) full
       ∙ block-read x q (omega (arith, at, few))
-      ∙ ap (λ k. Ok (read_at x k 0)) next ∙ ap (λ k. Ok (read_at x ((n + 1) / 400) k)) (sym none)
+      ∙ ap (λ k. Ok (read_at x k 0)) next ∙ ap (λ k. Ok (read_at x ((n + 1) / BLOCK) k)) (sym none)
   | inr part ↦
-      let some : (n + 1) % 400 ≢ 0 = eqb-false ((n + 1) % 400) 0 part in
-      let same : q ≡ (n + 1) / 400 = omega (arith, at, h, some) in
-      let more : r + 1 ≡ (n + 1) % 400 = omega (arith, at, h, some) in
+      let some : (n + 1) % BLOCK ≢ 0 = eqb-false ((n + 1) % BLOCK) 0 part in
+      let same : q ≡ (n + 1) / BLOCK = omega (arith, at, h, some) in
+      let more : r + 1 ≡ (n + 1) % BLOCK = omega (arith, at, h, some) in
       ap (λ t. lines_taken generator_head (read_at x q (r + 1)) (cond t (codes "w" ∷ codes "t" ∷ codes "w" ∷ []) [])) part
-      ∙ ap (λ k. Ok (read_at x k (r + 1))) same ∙ ap (λ k. Ok (read_at x ((n + 1) / 400) k)) more
+      ∙ ap (λ k. Ok (read_at x k (r + 1))) same ∙ ap (λ k. Ok (read_at x ((n + 1) / BLOCK) k)) more
 ]
 
 before_all : (x : ℕ) → lines_taken generator_head (reading_from generator_head 6) [] ≡ Ok (read_at x 0 0)
 unfolding lines_taken whole_blocks events_after
 before_all x = refl
 
-pub lines-read : (x n : ℕ) → n ≤ MOST_GENERATED_LINES → lines_taken generator_head (reading_from generator_head 6) (lines_after x n) ≡ Ok (read_at x (n / 400) (n % 400))
+pub lines-read : (x n : ℕ) → n ≤ MOST_GENERATED_LINES → lines_taken generator_head (reading_from generator_head 6) (lines_after x n) ≡ Ok (read_at x (n / BLOCK) (n % BLOCK))
 unfolding lines_after
 lines-read x zero h = before_all x
 lines-read x (suc n) h =
-    let at : n ≡ 400 * (n / 400) + n % 400 = omega arith in
+    let at : n ≡ BLOCK * (n / BLOCK) + n % BLOCK = omega arith in
     let one : suc n ≡ n + 1 = omega arith in
-    then_lines generator_head (reading_from generator_head 6) (read_at x (n / 400) (n % 400)) (lines_after x n) (line_at (number_after x (suc n)) n ∷ barriers_after (n + 1)) (lines-read x n (omega (arith, h)))
-    ∙ next_line generator_head (read_at x (n / 400) (n % 400)) (read_at x (n / 400) (n % 400 + 1)) (line_at (number_after x (suc n)) n) (barriers_after (n + 1))
-    (ap (λ k. line_taken generator_head (read_at x (n / 400) (n % 400)) (line_at (number_after x k) n)) one ∙ event-read x (n / 400) (n % 400) n at (omega arith) (omega (arith, h)))
-    ∙ barriers-read x (n / 400) (n % 400) n at (omega arith) (omega (arith, h))
-    ∙ ap (λ k. Ok (read_at x (k / 400) (k % 400))) (sym one)
+    then_lines generator_head (reading_from generator_head 6) (read_at x (n / BLOCK) (n % BLOCK)) (lines_after x n) (line_at (number_after x (suc n)) n ∷ barriers_after (n + 1)) (lines-read x n (omega (arith, h)))
+    ∙ next_line generator_head (read_at x (n / BLOCK) (n % BLOCK)) (read_at x (n / BLOCK) (n % BLOCK + 1)) (line_at (number_after x (suc n)) n) (barriers_after (n + 1))
+    (ap (λ k. line_taken generator_head (read_at x (n / BLOCK) (n % BLOCK)) (line_at (number_after x k) n)) one ∙ event-read x (n / BLOCK) (n % BLOCK) n at (omega arith) (omega (arith, h)))
+    ∙ barriers-read x (n / BLOCK) (n % BLOCK) n at (omega arith) (omega (arith, h))
+    ∙ ap (λ k. Ok (read_at x (k / BLOCK) (k % BLOCK))) (sym one)

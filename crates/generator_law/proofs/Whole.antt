@@ -5,7 +5,8 @@ use Rattle.std.proofs.lemmas.Bool.Decides.{nat_tests}
 use Rattle.std.proofs.lemmas.Grind.{flat_map-append}
 use Rattle.std.specs.List.{AllByRecursion, list_all}
 use Rattle.std.specs.Str.{is_utf8, chars}
-use Rattle.relay_base.specs.declared.limits.TheConstants.{MOST_GENERATED_LINES}
+use Rattle.relay_base.specs.declared.limits.TheConstants.{MOST_GENERATED_LINES, MOST_BYTES}
+use Rattle.capture_generator.specs.declared.events.TheConstants.{BLOCK}
 use Rattle.relay_base.specs.Giving.{◌>>=◌}
 use Rattle.toml.proofs.OnLiterals.{toml_on_literals}
 use Rattle.node_head.specs.Lines.{halves, joined}
@@ -47,7 +48,7 @@ begun-head ls =
 -- ---- the lines
 
 barrier-lines : (n : ℕ) → AllByRecursion IsLine (barriers_after n)
-barrier-lines n = by_test (n % 400 == 0)
+barrier-lines n = by_test (n % BLOCK == 0)
   where
     by_test : (t : Bool) → AllByRecursion IsLine (cond t (codes "w" ∷ codes "t" ∷ codes "w" ∷ []) [])
     by_test true = all_passed (list_all (nat_le 32)) IsLine (codes "w" ∷ codes "t" ∷ codes "w" ∷ []) line refl
@@ -72,7 +73,7 @@ length-line : (line : List ℕ) (more : Lines) → length (joined (line ∷ more
 length-line line more = omega (arith, length-append (line ++ 10 ∷ []) (joined more), length-append line (10 ∷ []))
 
 length-barriers : (n : ℕ) → length (joined (barriers_after n)) ≤ 6
-length-barriers n = by_test (n % 400 == 0)
+length-barriers n = by_test (n % BLOCK == 0)
   where
     by_test : (t : Bool) → length (joined (cond t (codes "w" ∷ codes "t" ∷ codes "w" ∷ []) [])) ≤ 6
     by_test true = omega arith
@@ -92,15 +93,15 @@ length-lines x (suc n) = omega (
 
 -- ---- the capture
 
-none_left : (n : ℕ) → (401 * (n / 400) + n % 400 == 0) ≡ (n == 0)
+none_left : (n : ℕ) → ((BLOCK + 1) * (n / BLOCK) + n % BLOCK == 0) ≡ (n == 0)
 none_left zero = refl
-none_left (suc n) = not_zero (401 * (suc n / 400) + suc n % 400) (omega arith) ∙ sym (eqb-suc-zero n)
+none_left (suc n) = not_zero ((BLOCK + 1) * (suc n / BLOCK) + suc n % BLOCK) (omega arith) ∙ sym (eqb-suc-zero n)
   where
     not_zero : (k : ℕ) → 0 < k → (k == 0) ≡ false
     not_zero k h = grind (arith, nat_tests)
 
-phases-read : (x n : ℕ) → phases_read (read_at x (n / 400) (n % 400)) ≡ phases_after x n
-phases-read x n = ap (λ (t : Bool). cond {A = Phases} t [] (whole_blocks x (n / 400) ++ block_phase x (n / 400) (n % 400) ∷ [])) (none_left n)
+phases-read : (x n : ℕ) → phases_read (read_at x (n / BLOCK) (n % BLOCK)) ≡ phases_after x n
+phases-read x n = ap (λ (t : Bool). cond {A = Phases} t [] (whole_blocks x (n / BLOCK) ++ block_phase x (n / BLOCK) (n % BLOCK) ∷ [])) (none_left n)
 
 lines-capture : (x n : ℕ) → n ≤ MOST_GENERATED_LINES → capture_after generator_head 6 (lines_after x n) ≡ Ok (record { head = generator_head; phases = phases_after x n })
 lines-capture x n h =
@@ -119,6 +120,6 @@ unfolding capture_of
 text_law number count h =
     let x : ℕ = number % 2147483648 in
     let text : List ℕ = generated_text number count in
-    let few : length text ≤ 67108864 = omega (arith, h, length-joined head_lines (lines_after x count), length-lines x count) in
-    ap (λ t. cond t (Err (refused.TooLong limit.Bytes)) (capture_within text)) (not_above (length text) 67108864 few)
+    let few : length text ≤ MOST_BYTES = omega (arith, h, length-joined head_lines (lines_after x count), length-lines x count) in
+    ap (λ t. cond t (Err (refused.TooLong limit.Bytes)) (capture_within text)) (not_above (length text) MOST_BYTES few)
     ∙ within-read x count h

@@ -8,6 +8,7 @@ use Rattle.std.specs.Fmt.{decimal}
 use Rattle.std.specs.Int.{IsInRange}
 use Rattle.std.specs.Char.{is_ascii_digit}
 use Rattle.std.specs.List.{AllByRecursion, list_all}
+use Rattle.relay_base.specs.declared.limits.TheConstants.{OCTET_VALUES}
 use Rattle.hex.specs.Hex.{encode_lower, encode_with, lower_digits, IsBytes}
 use Rattle.hex.proofs.HexLemmas.{decode_of-encode_lower, length-encode_with}
 use Rattle.relay_base.specs.Decimal.{is_number, digits_value, number_of}
@@ -81,10 +82,10 @@ decimal-short k n some h short = length-decimal-le k n some h (omega (arith, sho
 -- ---- octets
 
 abbrev pub AreOctets : List ℕ → Type 0
-AreOctets octets = AllByRecursion (λ b. b < 256) octets
+AreOctets octets = AllByRecursion (λ b. b < OCTET_VALUES) octets
 
-pub are_octets : (bs : List ℕ) → list_all (λ b. nat_lt b 256) bs ≡ true → AreOctets bs
-are_octets bs h = all_passed (λ b. nat_lt b 256) (λ b. b < 256) bs (λ b. ltb-true b 256) h
+pub are_octets : (bs : List ℕ) → list_all (λ b. nat_lt b OCTET_VALUES) bs ≡ true → AreOctets bs
+are_octets bs h = all_passed (λ b. nat_lt b OCTET_VALUES) (λ b. b < OCTET_VALUES) bs (λ b. ltb-true b OCTET_VALUES) h
 
 are_bytes : (octets : List ℕ) → AreOctets octets → IsBytes octets
 are_bytes [] h k = omega arith
