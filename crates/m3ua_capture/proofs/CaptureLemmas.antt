@@ -4,6 +4,8 @@ use Rattle.std.specs.Prelude.{Option, Some, None, Ok, Err, IfOk, if◌then◌els
 use Rattle.std.specs.declared.result.Result.{Result}
 use Rattle.std.specs.List.{AllByRecursion}
 use Rattle.std.proofs.lemmas.Bool.{ltb-false}
+use Rattle.capture_form.specs.declared.steps.TheConstants.{MOST_LINES}
+use Rattle.relay_base.specs.declared.limits.TheConstants.{MOST_BYTES}
 use Rattle.relay_base.specs.Giving.{◌>>=◌}
 use Rattle.relay_base.specs.declared.words.Stamp.{Stamp}
 use Rattle.relay_base.specs.declared.words.Event.{Event}
@@ -100,21 +102,21 @@ length-plain (e ∷ events) = ap suc (length-plain events)
 -- ---- the capture
 
 -- what is within the limit and without a fault
-limited-given : (frames : Frames) (events : List (Stamp × Event)) → limited frames ≡ Ok events → (events ≡ frames.events) × (length events ≤ 200000)
-limited-given frames events h = by (nat_lt 200000 (length frames.events)) frames.fault refl h
+limited-given : (frames : Frames) (events : List (Stamp × Event)) → limited frames ≡ Ok events → (events ≡ frames.events) × (length events ≤ MOST_LINES)
+limited-given frames events h = by (nat_lt MOST_LINES (length frames.events)) frames.fault refl h
   where
-    by : (t : Bool) (fault : Option PortFault) → nat_lt 200000 (length frames.events) ≡ t → cond t (Err (stream.Capture (refused.TooLong Lines))) (unless_faulty fault frames.events) ≡ Ok events → (events ≡ frames.events) × (length events ≤ 200000)
+    by : (t : Bool) (fault : Option PortFault) → nat_lt MOST_LINES (length frames.events) ≡ t → cond t (Err (stream.Capture (refused.TooLong Lines))) (unless_faulty fault frames.events) ≡ Ok events → (events ≡ frames.events) × (length events ≤ MOST_LINES)
     by true fault e is = absurd (cc)
     by false (Some fault) e is = absurd (cc)
     by false None e is =
         let same : frames.events ≡ events = cc in
-        (sym same, omega (arith, ltb-false 200000 (length frames.events) e, ap length same))
+        (sym same, omega (arith, ltb-false MOST_LINES (length frames.events) e, ap length same))
 
 -- what a capture of a stream is
 pub record IsOfOneLink (c : Capture) : Type 0 where
   pub stamped : IsStamped c.head c.phases
   pub linked : AreLinked c.phases
-  pub few : length (all_events c.phases) ≤ 200000
+  pub few : length (all_events c.phases) ≤ MOST_LINES
 
 with-given : (head : Head) (octets : List ℕ) (c : Capture) → head.links ≡ 1 → capture_with head octets ≡ Ok c → IsOfOneLink c
 unfolding capture_with
@@ -148,7 +150,7 @@ within-given bytes c h =
 
 pub capture-given : (bytes : List ℕ) (c : Capture) → stream_capture bytes ≡ Ok c → IsOfOneLink c
 unfolding stream_capture
-capture-given bytes c h = by (nat_lt 67108864 (length bytes)) h
+capture-given bytes c h = by (nat_lt MOST_BYTES (length bytes)) h
   where
     by : (t : Bool) → cond t (Err (stream.Capture (refused.TooLong Bytes))) (capture_within bytes) ≡ Ok c → IsOfOneLink c
     by true is = absurd (cc)

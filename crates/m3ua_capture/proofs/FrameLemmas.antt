@@ -4,6 +4,7 @@ use Rattle.std.specs.Prelude.{Option, Some, None}
 use Rattle.std.specs.declared.result.Result.{Result}
 use Rattle.std.proofs.lemmas.Bool.{le-ltb}
 use Rattle.std.proofs.lemmas.Option.{same_Some}
+use Rattle.capture_form.specs.declared.steps.TheConstants.{MOST_LINES}
 use Rattle.relay_base.specs.declared.words.Stamp.{Stamp}
 use Rattle.relay_base.specs.declared.words.Event.{Event}
 use Rattle.m3ua_port.specs.declared.fault.PortKind.{PortKind}
@@ -115,19 +116,19 @@ answered (Some f) fault h =
     (ap Some a.0, λ end. a.1 (ap (λ (g : PortFault). g.kind) a.0 ∙ end))
 
 -- a fault behind not too many events is that of the stream
-pub fault-given : (own : ℕ) (fed more : List ℕ) (fault : PortFault) → answer_of own fed ≡ Err (Fault fault) → length (events_of own fed) ≤ 200000
+pub fault-given : (own : ℕ) (fed more : List ℕ) (fault : PortFault) → answer_of own fed ≡ Err (Fault fault) → length (events_of own fed) ≤ MOST_LINES
     → limited (frames_of own (fed ++ more)) ≡ Err (stream.Port fault)
 fault-given own fed more fault h few =
     let a = answered (frames_of own fed).fault fault h in
     let s = stays own 1 (length fed) fed more (omega arith) in
-    rw (s.ended fault a.0 a.1, le-ltb 200000 (length (events_of own fed)) few, a.0) refl
+    rw (s.ended fault a.0 a.1, le-ltb MOST_LINES (length (events_of own fed)) few, a.0) refl
 
 -- too many events are too many where more follow
-pub many-given : (own : ℕ) (fed more : List ℕ) → 200000 < length (events_of own fed) → limited (frames_of own (fed ++ more)) ≡ Err (stream.Capture (refused.TooLong Lines))
+pub many-given : (own : ℕ) (fed more : List ℕ) → MOST_LINES < length (events_of own fed) → limited (frames_of own (fed ++ more)) ≡ Err (stream.Capture (refused.TooLong Lines))
 many-given own fed more many =
     let s = stays own 1 (length fed) fed more (omega arith) in
     let size = ap length s.put ∙ length-append (events_of own fed) s.events in
-    rw (lt-ltb 200000 (length (events_of own (fed ++ more))) (omega (arith, many, size))) refl
+    rw (lt-ltb MOST_LINES (length (events_of own (fed ++ more))) (omega (arith, many, size))) refl
 
 -- nothing came yet
 pub none-given : (own : ℕ) → [] ≡ events_of own []
