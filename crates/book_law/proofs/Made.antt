@@ -2,6 +2,8 @@
 use Rattle.std.proofs.Common.{◌≡◌, ◌||◌, ℕ, zero, suc, ◌+◌, ◌*◌, ◌%◌, false, [], ◌∷◌, ◌++◌, get_or, Result, Ok, Err, refl, sym, ap, ◌∙◌}
 use Rattle.std.specs.Prelude.{◌≢◌}
 use Rattle.std.specs.List.{AllByRecursion}
+use Rattle.capture_generator.specs.declared.events.TheConstants.{BLOCK}
+use Rattle.relay_base.specs.declared.limits.TheConstants.{LINK_SELECTIONS, OCTET_VALUES}
 use Rattle.relay_base.specs.Giving.{◌>>=◌}
 use Rattle.relay_base.specs.declared.words.ReadFault.{ReadFault}
 use Rattle.plant_core.specs.declared.entry.ControlEvent.{ControlEvent}
@@ -47,17 +49,17 @@ unit_place i = refl
 request_place : (i n : ℕ) → NotManaged (Plain (message_at i (request_octets n)))
 unfolding place_of_message message_as reading_of
 request_place i n =
-    either Elsewhere (is_too_long (request_octets n)) (in_data generator_head (i % 16)) _ refl
-    (read_place 2 (i % 16) (values_of cr_format (request_octets n)) cr_of (λ v. refl))
+    either Elsewhere (is_too_long (request_octets n)) (in_data generator_head (i % LINK_SELECTIONS)) _ refl
+    (read_place 2 (i % LINK_SELECTIONS) (values_of cr_format (request_octets n)) cr_of (λ v. refl))
 
 data_place : (i n octet : ℕ) → NotManaged (Plain (message_at i (data_octets n octet)))
 unfolding place_of_message message_as reading_of
 data_place i n octet =
-    either Elsewhere (is_too_long (data_octets n octet)) (in_data generator_head (i % 16)) _ refl
-    (read_place 2 (i % 16) (values_of dt1_format (data_octets n octet)) dt1_of (λ v. refl))
+    either Elsewhere (is_too_long (data_octets n octet)) (in_data generator_head (i % LINK_SELECTIONS)) _ refl
+    (read_place 2 (i % LINK_SELECTIONS) (values_of dt1_format (data_octets n octet)) dt1_of (λ v. refl))
 
 kind_place : (kind i : ℕ) → NotManaged (Plain (event_of_kind kind i))
-kind_place kind i = of-kind (λ e. NotManaged (Plain e)) i (unit_place i) (request_place i (i + 1)) refl (data_place i (reference_at i) (i % 256)) kind
+kind_place kind i = of-kind (λ e. NotManaged (Plain e)) i (unit_place i) (request_place i (i + 1)) refl (data_place i (reference_at i) (i % OCTET_VALUES)) kind
 
 -- ---- the phases
 
@@ -67,11 +69,11 @@ none_managed (e ∷ es) h = ap (λ t. t || has_management generator_head es) h.0
 
 block_sequential : (x b n : ℕ) → IsSequentialPhase generator_head (block_phase x b n)
 block_sequential x b n =
-    let events : Stamped = events_after (number_after x (400 * b)) (400 * b) n in
+    let events : Stamped = events_after (number_after x (BLOCK * b)) (BLOCK * b) n in
     record {
       link = 1;
       alone = alone_at events;
-      managed = λ yes. absurd (absurd_bool (sym yes ∙ none_managed (events ++ []) (all-append (λ e. NotManaged e.1) events [] (each-event NotManaged kind_place (number_after x (400 * b)) (400 * b) n) tt)));
+      managed = λ yes. absurd (absurd_bool (sym yes ∙ none_managed (events ++ []) (all-append (λ e. NotManaged e.1) events [] (each-event NotManaged kind_place (number_after x (BLOCK * b)) (BLOCK * b) n) tt)));
     }
   where
     alone_at : (events : Stamped) (other : ℕ) → other ≢ 1 → get_or ([] ∷ events ∷ []) other [] ≡ []
