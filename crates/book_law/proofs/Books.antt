@@ -7,9 +7,9 @@ use Rattle.journal_text.specs.declared.book.Book.{Book}
 use Rattle.data_lane.specs.Legal.{IsDataJournal}
 use Rattle.section_model.specs.Journals.{IsConnJournal, lane_of}
 use Rattle.capture_form.specs.Events.{Stamped}
-use Rattle.node_engine.specs.Own.{pairs_of}
-use Rattle.node_engine.specs.Heads.{lane_head_of}
-use Rattle.node_engine.specs.Lanes.{LanesFrom, IsServed, conn_kind, data_kind}
+use Rattle.right_book.specs.Own.{pairs_of}
+use Rattle.right_book.specs.Heads.{lane_head_of}
+use Rattle.right_book.specs.Lanes.{LanesFrom, IsServed, conn_kind, data_kind}
 use Rattle.book_law.specs.OneBook.{OneRightBook}
 use Rattle.book_law.proofs.Journals.{data_same, conn_same, lanes_same}
 use Rattle.book_law.proofs.Places.{one_order, one_control}

@@ -8,8 +8,8 @@ use Rattle.plant_core.specs.declared.answer.Answer.{Answer}
 use Rattle.plant_core.specs.declared.entry.Asked.{Asked}
 use Rattle.plant_core.specs.declared.entry.ControlEntry.{ControlEntry}
 use Rattle.node_head.specs.declared.head.Head.{Head}
-use Rattle.node_engine.specs.Editions.{edition_of, editions_before, editions_upto, IsRouting}
-use Rattle.node_engine.proofs.ListLemmas.{count-first}
+use Rattle.right_book.specs.Editions.{edition_of, editions_before, editions_upto, IsRouting}
+use Rattle.right_book.proofs.ListLemmas.{count-first}
 use Rattle.book_law.proofs.Booleans.{absurd_bool}
 
 abbrev routing_record : ℕ → Answer → Asked

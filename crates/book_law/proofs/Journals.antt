@@ -17,8 +17,8 @@ use Rattle.data_lane.specs.Legal as legal_data
 use Rattle.section_model.specs.Lane as legal_conn
 use Rattle.capture_form.specs.Events.{Stamped}
 use Rattle.plant_core.specs.Asking.{answer_in}
-use Rattle.node_engine.specs.Own.{pairs_of, control_pairs_of}
-use Rattle.node_engine.specs.Lanes.{LanesFrom}
+use Rattle.right_book.specs.Own.{pairs_of, control_pairs_of}
+use Rattle.right_book.specs.Lanes.{LanesFrom}
 
 -- the first pairs of equal lists, and the rests
 first_same : (x y : Stamp × ControlEvent) (xs ys : Stamped) → x ∷ xs ≡ y ∷ ys → x ≡ y

@@ -21,7 +21,7 @@ use Rattle.sccp_address.specs.Parsing.{point_at, ssn_at, address_of}
 use Rattle.capture_form.specs.declared.lane_place.LanePlace.{LanePlace}
 use Rattle.capture_form.specs.Place.{in_data, place_of_message, place_of_reading}
 use Rattle.capture_form.specs.Events.{Stamped}
-use Rattle.node_engine.specs.Placed.{in_control}
+use Rattle.right_book.specs.Placed.{in_control}
 use Rattle.capture_generator.specs.Generator.{generator_head, unit_octets, request_octets, data_octets, message_at, event_of_kind, reference_at, events_after, block_phase, tick_phase, number_after}
 use Rattle.capture_generator.proofs.CaptureLemmas.{all-append, of-kind, each-event, each-phase}
 use Rattle.book_law.specs.Sequential.{is_of_management, IsSequentialPhase}

@@ -4,7 +4,7 @@ use Rattle.std.specs.List.{AllByRecursion, list_any}
 use Rattle.node_head.specs.declared.head.Head.{Head}
 use Rattle.capture_form.specs.Events.{Stamped}
 use Rattle.capture_form.specs.Place.{place_of}
-use Rattle.node_engine.specs.Placed.{in_control}
+use Rattle.right_book.specs.Placed.{in_control}
 use Rattle.book_law.specs.Sequential.{is_of_management}
 
 abbrev pub has_management : Head → Stamped → Bool

@@ -6,9 +6,9 @@ use Rattle.node_head.specs.declared.head.Head.{Head}
 use Rattle.capture_form.specs.declared.lane_place.LanePlace.{LanePlace}
 use Rattle.scmg.specs.Control.{IsControlJournal}
 use Rattle.capture_form.specs.Events.{Stamped}
-use Rattle.node_engine.specs.Own.{events_at, control_pairs_of}
-use Rattle.node_engine.specs.Placed.{in_control, taken, placed, IsOfLane}
-use Rattle.node_engine.specs.Heads.{routing_of, control_head_of}
+use Rattle.right_book.specs.Own.{events_at, control_pairs_of}
+use Rattle.right_book.specs.Placed.{in_control, taken, placed, IsOfLane}
+use Rattle.right_book.specs.Heads.{routing_of, control_head_of}
 use Rattle.book_law.specs.Sequential.{IsSequential}
 use Rattle.book_law.proofs.Events.{links, same_events}
 use Rattle.book_law.proofs.Journals.{control_same}

@@ -10,9 +10,9 @@ use Rattle.capture_form.specs.Place.{place_of}
 use Rattle.scmg.specs.declared.head.ControlHead.{ControlHead}
 use Rattle.scmg.specs.Control.{Control, LegalFrom, managed, after_entry, count_after}
 use Rattle.capture_form.specs.Events.{Stamped}
-use Rattle.node_engine.specs.Own.{events_at, control_pairs_of}
-use Rattle.node_engine.specs.Placed.{in_control, taken, IsOfLane}
-use Rattle.node_engine.proofs.ListLemmas.{all-mapped}
+use Rattle.right_book.specs.Own.{events_at, control_pairs_of}
+use Rattle.right_book.specs.Placed.{in_control, taken, IsOfLane}
+use Rattle.right_book.proofs.ListLemmas.{all-mapped}
 use Rattle.book_law.proofs.Events.{members}
 use Rattle.book_law.proofs.Places.{placed_at}
 use Rattle.book_law.proofs.Editions.{IsCalm}

@@ -22,9 +22,9 @@ use Rattle.scmg.specs.Control.{Control, managed, effect_of, change_of, asks, coo
 use Rattle.capture_form.specs.Place.{place_of, place_of_event, place_of_octets}
 use Rattle.capture_form.specs.Events.{Stamped, phase_events}
 use Rattle.capture_form.specs.Links.{comes_on_link, AreOnLinks, AreLinked}
-use Rattle.node_engine.specs.Own.{events_at}
-use Rattle.node_engine.specs.Placed.{in_control}
-use Rattle.node_engine.proofs.ListLemmas.{all-first, all-rest, weaker, weaker-two}
+use Rattle.right_book.specs.Own.{events_at}
+use Rattle.right_book.specs.Placed.{in_control}
+use Rattle.right_book.proofs.ListLemmas.{all-first, all-rest, weaker, weaker-two}
 use Rattle.book_law.specs.Sequential.{is_of_management, IsSequentialPhase, IsSequential}
 use Rattle.book_law.proofs.Managed.{has_management, AreOfControl}
 use Rattle.book_law.proofs.Booleans.{absurd_bool, either}

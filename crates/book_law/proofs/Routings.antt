@@ -28,13 +28,13 @@ use Rattle.capture_form.specs.declared.lane_place.LanePlace.TheVariants.{All, Co
 use Rattle.capture_form.specs.Place.{in_data, place_of, place_of_event, place_of_octets, place_of_reading, place_of_message, place_of_request}
 use Rattle.capture_form.specs.Events.{Stamped}
 use Rattle.capture_form.specs.Links.{AreLinked}
-use Rattle.node_engine.specs.Own.{events_at, pairs_of, control_pairs_of}
-use Rattle.node_engine.specs.Placed.{in_control, in_conn, IsOfLane}
-use Rattle.node_engine.specs.Placed.{in_data as in_data_lane}
-use Rattle.node_engine.specs.Heads.{routing_of, control_head_of}
-use Rattle.node_engine.specs.Editions.{IsRouting}
-use Rattle.node_engine.specs.Lanes.{LaneKind, conn_kind, data_kind, IsServed, IsRouted}
-use Rattle.node_engine.proofs.ListLemmas.{all-mapped, weaker-two}
+use Rattle.right_book.specs.Own.{events_at, pairs_of, control_pairs_of}
+use Rattle.right_book.specs.Placed.{in_control, in_conn, IsOfLane}
+use Rattle.right_book.specs.Placed.{in_data as in_data_lane}
+use Rattle.right_book.specs.Heads.{routing_of, control_head_of}
+use Rattle.right_book.specs.Editions.{IsRouting}
+use Rattle.right_book.specs.Lanes.{LaneKind, conn_kind, data_kind, IsServed, IsRouted}
+use Rattle.right_book.proofs.ListLemmas.{all-mapped, weaker-two}
 use Rattle.book_law.specs.Sequential.{IsSequential}
 use Rattle.book_law.proofs.Booleans.{either}
 use Rattle.book_law.proofs.Events.{members}

@@ -8,7 +8,7 @@ use Rattle.node_head.specs.declared.head.Head.{Head}
 use Rattle.capture_form.specs.Events.{Stamped}
 use Rattle.capture_form.specs.Links.{AreLinked}
 use Rattle.journal_text.specs.declared.book.Book.{Book}
-use Rattle.node_engine.specs.Right.{IsRight}
+use Rattle.right_book.specs.Right.{IsRight}
 use Rattle.book_law.specs.Sequential.{IsSequential}
 
 abbrev pub OneRightBook : Type 0

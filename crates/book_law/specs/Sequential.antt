@@ -7,7 +7,7 @@ use Rattle.plant_core.specs.declared.entry.ControlEvent.TheVariants.{Plain, Chan
 use Rattle.node_head.specs.declared.head.Head.{Head}
 use Rattle.capture_form.specs.Events.{Stamped, phase_events}
 use Rattle.capture_form.specs.Place.{place_of, place_of_octets}
-use Rattle.node_engine.specs.Placed.{in_control}
+use Rattle.right_book.specs.Placed.{in_control}
 
 -- a message of management (Q.714, 5.3): of all messages, these are the control lane's
 abbrev pub is_of_management : Head → ControlEvent → Bool

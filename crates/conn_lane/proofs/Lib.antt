@@ -23,3 +23,4 @@ mod Hears
 mod Woken
 mod Wakings
 mod Reached
+pub mod Sent

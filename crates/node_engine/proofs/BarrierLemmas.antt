@@ -1,6 +1,6 @@
 -- The lanes of a phase go back to their node: what they saw is what the control lane published.
-use Rattle.std.proofs.Common.{◌≡◌, ℕ, zero, suc, ◌+◌, ◌-◌, ◌≤◌, ◌<◌, true, List, [], ◌∷◌, ◌++◌, length, map, take, Option, Some, None, Result, Ok, Err, OnOk, refl, sym, ap, ◌∙◌, subst, arith, length-append}
-use Rattle.std.proofs.lemmas.List.{map-append, length-map}
+use Rattle.std.proofs.Common.{◌≡◌, ℕ, zero, suc, ◌+◌, ◌-◌, ◌≤◌, ◌<◌, true, List, [], ◌∷◌, ◌++◌, length, map, take, Option, Some, None, Result, Ok, Err, IfOk, refl, sym, ap, ◌∙◌, subst, arith, length-append}
+use Rattle.std.proofs.lemmas.List.{length-map}
 use Rattle.std.proofs.lemmas.Grind.{flat_map-append}
 use Rattle.std.specs.List.{AllByRecursion}
 use Rattle.std.specs.List.Sorted.{IsNonDecreasing}
@@ -21,24 +21,28 @@ use Rattle.gtt_editions.specs.Standing.{Standing, LooksFrom, newest_of}
 use Rattle.data_lane.specs.Legal.{LaneState}
 use Rattle.conn_lane.specs.Lanes.{ConnLaneState}
 use Rattle.node_head.specs.declared.head.Head.{Head}
-use Rattle.capture_form.specs.Events.{Stamped}
-use Rattle.capture_form.specs.Place.{place_of}
+use Rattle.capture_form.specs.Events.{Stamped, AreOfLinks}
 use Rattle.scmg.specs.Control.{IsControlJournal, changes_in, routing_after}
 use Rattle.scmg.specs.Lane.{ControlState}
 use Rattle.scmg.specs.Lane.{changes_of as changes_by}
 use Rattle.node_engine.specs.declared.node.Node.{Node}
-use Rattle.node_engine.specs.Own.{pairs_of, control_pairs_of}
-use Rattle.node_engine.specs.Heads.{routing_of, lane_head_of, control_head_of}
-use Rattle.node_engine.specs.Placed.{in_control, taken}
-use Rattle.node_engine.specs.Editions.{changes_of, edition_of, editions_before, editions_upto, editions_in, named, IsAnswer, IsRouting}
-use Rattle.node_engine.specs.Lanes.{LaneKind, LanesFrom, IsRouted, conn_kind, data_kind}
-use Rattle.node_engine.specs.Running.{PairsFrom, IsConnLaneOf, IsDataLaneOf, IsOf, IsRightSoFar, IsCounted, AreRightSoFar, HasRoom, Took, Went, book_of, conn_journals, data_journals}
-use Rattle.node_engine.specs.Seats.{SeatState, Seated, SeatKind, IsSeen, IsSeenRouting, IsSeenEntry, WentOn, conn_seat, conn_seated, data_seat, data_seated}
-use Rattle.node_engine.specs.Phases.{PhaseState, GoesOn, IsAtOpening, IsOpening, HaveSeen, HasRoomFor, IsClosing, conns_seated}
-use Rattle.node_engine.proofs.ListLemmas.{weaker, weaker-two, all-append, all-filter, all-map, all-mapped, map-twice, any-lanes, lanes-all, lanes-weaker, lanes-map, lanes-mapped, pairs-length, pairs-lanes, pairs-map, pairs-all}
+use Rattle.right_book.specs.Own.{pairs_of, control_pairs_of}
+use Rattle.right_book.specs.Heads.{routing_of, lane_head_of, control_head_of}
+use Rattle.right_book.specs.Placed.{in_control}
+use Rattle.right_book.specs.Editions.{changes_of, edition_of, editions_before, editions_upto, editions_in, named, IsAnswer, IsRouting}
+use Rattle.right_book.specs.Lanes.{LaneKind, LanesFrom, IsRouted, conn_kind, data_kind}
+use Rattle.node_engine.specs.Running.{IsConnLaneOf, IsDataLaneOf, IsOf, IsRightSoFar, IsCounted, AreRightSoFar, HasRoom, LaneTook, Went, book_of, conn_journals, data_journals}
+use Rattle.node_engine.specs.Barriers.{IsAtOpening, IsOpening, HaveSeen, IsClosing}
+use Rattle.lane_turns.specs.Pairs.{PairsFrom}
+use Rattle.lane_turns.specs.Plans.{planned, AreWhole}
+use Rattle.lane_turns.specs.Seats.{SeatState, Seated, SeatKind, IsSeen, IsSeenRouting, IsSeenEntry, WentOn, conn_seat, conn_seated, data_seat, data_seated}
+use Rattle.lane_turns.specs.Phases.{PhaseState, GoesOn, HasRoomFor, conns_seated}
+use Rattle.right_book.proofs.ListLemmas.{weaker, weaker-two, all-append, all-map, all-mapped, map-twice, any-lanes, lanes-all, lanes-weaker, lanes-map, lanes-mapped}
+use Rattle.lane_turns.proofs.PairLemmas.{pairs-length, pairs-lanes, pairs-map, pairs-all}
 use Rattle.node_engine.proofs.EditionLemmas.{Grows, before-all, before-more, upto-whole}
 use Rattle.node_engine.proofs.LaneLemmas.{stands-kept, known-editions}
 use Rattle.node_engine.proofs.CountLemmas.{counted-legal}
+use Rattle.node_engine.proofs.LinkLemmas.{whole-phase}
 use Rattle.node_engine.proofs.RisingLemmas.{rising-append}
 use Rattle.node_engine.proofs.SeatLemmas.{routing-moved, editions-least}
 
@@ -55,9 +59,6 @@ within-grown : (head : Head) (phase : ℕ) (old new : List ControlEntry) → Gro
 within-grown head phase old new g h =
     subst (AllByRecursion (λ c. c.stamp.phase ≤ phase)) (sym g.journal)
     (all-append (λ c. c.stamp.phase ≤ phase) old g.more h (weaker (λ c. c.stamp.phase ≡ phase) (λ c. c.stamp.phase ≤ phase) g.more (λ c same. omega (arith, same)) g.of_phase))
-
-of-phase-taken : (in_lane : _) (head : Head) (phase : ℕ) (events : Stamped) → AllByRecursion (λ e. e.0.phase ≡ phase) events → AllByRecursion (λ e. e.0.phase ≡ phase) (taken in_lane head events)
-of-phase-taken in_lane head phase events at = all-filter (λ e. e.0.phase ≡ phase) (λ e. in_lane (place_of head e.1)) events at
 
 -- ---- a routing by an edition that was seen is one by the control journal
 
@@ -109,9 +110,9 @@ record StoodRight (question : Event → Option Question) (told : LaneHead) (head
   pub number : s.place.opened.number ≡ length (changes_of head control)
   pub seen : s.place.seen ≡ nothing
 
-module _ (kind : SeatKind) (told : LaneHead) (head : Head) (phase : ℕ) (old new : List ControlEntry) (events : Stamped) (list : List Change)
+module _ (kind : SeatKind) (told : LaneHead) (head : Head) (phase : ℕ) (old new : List ControlEntry) (lists : List Stamped) (list : List Change)
     (was : IsCounted head old) (counted : IsCounted head new) (grows : Grows head phase old new) (within : AllByRecursion (λ c. c.stamp.phase ≤ phase) new)
-    (published_is : changes_of head new ≡ changes_of head old ++ list) (at : AllByRecursion (λ e. e.0.phase ≡ phase) events) where
+    (published_is : changes_of head new ≡ changes_of head old ++ list) (at : AreOfLinks phase 0 lists) where
   abbrev asks : Event → Option Question
   asks = kind.question told
 
@@ -124,7 +125,7 @@ module _ (kind : SeatKind) (told : LaneHead) (head : Head) (phase : ℕ) (old ne
     upto = upto-whole phase new within ∙ counted;
   }
 
-  lane-right : (k : ℕ) (a b : Seated) → StoodRight asks told head phase old a → WentOn kind head events k a b → Begins (published list true) b.place.seen → IsRightSoFar asks head phase new b.journal
+  lane-right : (k : ℕ) (a b : Seated) → StoodRight asks told head phase old a → WentOn kind head lists k a b → Begins (published list true) b.place.seen → IsRightSoFar asks head phase new b.journal
   lane-right k a b stood w seen =
       let n : ℕ = length (changes_of head old) in
       let t : Standing = record { opened = b.place.opened; seen = published list true } in
@@ -135,7 +136,7 @@ module _ (kind : SeatKind) (told : LaneHead) (head : Head) (phase : ℕ) (old ne
       subst (λ h. AllByRecursion (IsSeenEntry (kind.question h) (newest_of a.place).number b.place) w.entries) stood.head_is w.routed in
       let all_seen : AllByRecursion (IsSeenEntry asks n t) w.entries =
       weaker (IsSeenEntry asks (newest_of a.place).number b.place) (IsSeenEntry asks n t) w.entries (λ e r. routing-moved (newest_of a.place).number n b.place t (asks e.event) e.asked (omega (arith, oldest)) looks r) mine in
-      let pairs : AllByRecursion (λ p. p.0.phase ≡ phase) (pairs_of w.entries) = subst (AllByRecursion (λ p. p.0.phase ≡ phase)) (sym w.own) (of-phase-taken (kind.is_in k) head phase events at) in
+      let pairs : AllByRecursion (λ p. p.0.phase ≡ phase) (pairs_of w.entries) = whole-phase (kind.is_in k) head phase lists (pairs_of w.entries) at w.own in
       let stamps : AllByRecursion (λ (e : Entry). e.stamp.phase ≡ phase) w.entries = all-mapped (λ (p : Stamp × ControlEvent). p.0.phase ≡ phase) (λ (e : Entry). (e.stamp, Plain e.event)) w.entries pairs in
       let kept : IsRightSoFar asks head phase new a.journal = stands-kept asks head phase old new a.journal was grows stood.right in
       let names : editions_in (a.journal ++ w.entries) ≡ editions_in a.journal ++ editions_in w.entries = flat_map-append (λ (e : Entry). named e.asked) a.journal w.entries in
@@ -149,20 +150,19 @@ module _ (kind : SeatKind) (told : LaneHead) (head : Head) (phase : ℕ) (old ne
       })
 
   -- and the lanes of a kind
-  lanes-right : (olds bs : List Seated) → AllByRecursion (StoodRight asks told head phase old) olds → PairsFrom (WentOn kind head events) 0 olds bs → AllByRecursion (λ b. Begins (published list true) b.place.seen) bs → AllByRecursion (λ b. IsRightSoFar asks head phase new b.journal) bs
+  lanes-right : (olds bs : List Seated) → AllByRecursion (StoodRight asks told head phase old) olds → PairsFrom (WentOn kind head lists) 0 olds bs → AllByRecursion (λ b. Begins (published list true) b.place.seen) bs → AllByRecursion (λ b. IsRightSoFar asks head phase new b.journal) bs
   lanes-right olds bs stood pairs seen =
       weaker-two (λ (b : Seated). Begins (published list true) b.place.seen) (λ (b : Seated). Begins (published list true) b.place.seen → IsRightSoFar asks head phase new b.journal) (λ (b : Seated). IsRightSoFar asks head phase new b.journal) bs
       (λ b s f. f s) seen
-      (pairs-all (StoodRight asks told head phase old) (λ (b : Seated). Begins (published list true) b.place.seen → IsRightSoFar asks head phase new b.journal) (WentOn kind head events) 0 olds bs (λ k a b s w. lane-right k a b s w) stood pairs)
+      (pairs-all (StoodRight asks told head phase old) (λ (b : Seated). Begins (published list true) b.place.seen → IsRightSoFar asks head phase new b.journal) (WentOn kind head lists) 0 olds bs (λ k a b s w. lane-right k a b s w) stood pairs)
 
 -- ---- lanes of a kind
 
 abbrev IsSeatOf : LaneHead → ℕ → Seated → Type 0
 IsSeatOf told k s = (s.head ≡ told) × (s.number ≡ k)
 
-took-seat : (kind : SeatKind) (head : Head) (events : Stamped) (k : ℕ) (a b : Seated) → WentOn kind head events k a b → pairs_of b.journal ≡ pairs_of a.journal ++ taken (kind.is_in k) head events
-took-seat kind head events k a b w =
-    ap pairs_of w.journal ∙ (map-append (λ (x : Entry). (x.stamp, Plain x.event)) a.journal w.entries ∙ ap (λ l. pairs_of a.journal ++ l) w.own)
+took-seat : (kind : SeatKind) (form : LaneKind) (head : Head) (lists : List Stamped) (k : ℕ) (a b : Seated) → form.is_in ≡ kind.is_in → WentOn kind head lists k a b → LaneTook form head lists k a.journal b.journal
+took-seat kind form head lists k a b same w = record { entries = w.entries; journal = w.journal; own = subst (λ is_in. AreWhole (planned (is_in k) head lists) (pairs_of w.entries)) (sym same) w.own }
 
 module _ {A : Type 0} (seated : SeatState A → Seated) (journal_of : A → List Entry) (told : LaneHead) (IsLane : ℕ → A → Type 0)
     (same_journal : (s : SeatState A) → journal_of s.lane ≡ (seated s).journal) (same_place : (s : SeatState A) → s.place ≡ (seated s).place)
@@ -179,24 +179,24 @@ module _ {A : Type 0} (seated : SeatState A → Seated) (journal_of : A → List
   lanes-of : (seats : List (SeatState A)) → LanesFrom (IsSeatOf told) 0 (map seated seats) → LanesFrom IsLane 0 (map (λ s. s.lane) seats)
   lanes-of seats h = lanes-map IsLane (λ (s : SeatState A). s.lane) 0 seats (lanes-weaker (λ k s. IsSeatOf told k (seated s)) (λ k (s : SeatState A). IsLane k s.lane) 0 seats back (lanes-mapped (IsSeatOf told) seated 0 seats h))
 
-  module _ (kind : SeatKind) (head : Head) (events : Stamped) (xs ys : List (SeatState A)) (went : PairsFrom (WentOn kind head events) 0 (map seated xs) (map seated ys)) where
+  module _ (kind : SeatKind) (head : Head) (lists : List Stamped) (xs ys : List (SeatState A)) (went : PairsFrom (WentOn kind head lists) 0 (map seated xs) (map seated ys)) where
     lanes-after : LanesFrom IsLane 0 (map (λ s. s.lane) xs) → LanesFrom IsLane 0 (map (λ s. s.lane) ys)
     lanes-after h =
-        lanes-of ys (pairs-lanes (IsSeatOf told) (IsSeatOf told) (WentOn kind head events) 0 (map seated xs) (map seated ys) (λ k a b s w. (w.head_kept ∙ s.0, w.number_kept ∙ s.1)) (seats-of xs h) went)
+        lanes-of ys (pairs-lanes (IsSeatOf told) (IsSeatOf told) (WentOn kind head lists) 0 (map seated xs) (map seated ys) (λ k a b s w. (w.head_kept ∙ s.0, w.number_kept ∙ s.1)) (seats-of xs h) went)
 
     count-after : length (map (λ s. s.lane) ys) ≡ length (map (λ s. s.lane) xs)
     count-after =
-        length-map ys (λ (s : SeatState A). s.lane) ∙ (sym (length-map ys seated) ∙ (pairs-length (WentOn kind head events) 0 (map seated xs) (map seated ys) went ∙ (length-map xs seated ∙ sym (length-map xs (λ (s : SeatState A). s.lane)))))
+        length-map ys (λ (s : SeatState A). s.lane) ∙ (sym (length-map ys seated) ∙ (pairs-length (WentOn kind head lists) 0 (map seated xs) (map seated ys) went ∙ (length-map xs seated ∙ sym (length-map xs (λ (s : SeatState A). s.lane)))))
 
-    took-after : (form : LaneKind) → form.is_in ≡ kind.is_in → PairsFrom (Took form head events) 0 (map journal_of (map (λ s. s.lane) xs)) (map journal_of (map (λ s. s.lane) ys))
+    took-after : (form : LaneKind) → form.is_in ≡ kind.is_in → PairsFrom (LaneTook form head lists) 0 (map journal_of (map (λ s. s.lane) xs)) (map journal_of (map (λ s. s.lane) ys))
     took-after form same =
-        subst (λ l. PairsFrom (Took form head events) 0 l (map journal_of (map (λ s. s.lane) ys))) (sym (journals-are xs))
-        (subst (λ l. PairsFrom (Took form head events) 0 (map (λ s. s.journal) (map seated xs)) l) (sym (journals-are ys))
-        (pairs-map (λ k (s : Seated). Unit {0}) (WentOn kind head events) (Took form head events) (λ (s : Seated). s.journal) 0 (map seated xs) (map seated ys)
-        (λ k a b u w. took-seat kind head events k a b w ∙ ap (λ f. pairs_of a.journal ++ taken (f k) head events) (sym same)) (any-lanes 0 (map seated xs)) went))
+        subst (λ l. PairsFrom (LaneTook form head lists) 0 l (map journal_of (map (λ s. s.lane) ys))) (sym (journals-are xs))
+        (subst (λ l. PairsFrom (LaneTook form head lists) 0 (map (λ s. s.journal) (map seated xs)) l) (sym (journals-are ys))
+        (pairs-map (λ k (s : Seated). Unit {0}) (WentOn kind head lists) (LaneTook form head lists) (λ (s : Seated). s.journal) 0 (map seated xs) (map seated ys)
+        (λ k a b u w. took-seat kind form head lists k a b same w) (any-lanes 0 (map seated xs)) went))
 
     right-after : (phase : ℕ) (old new : List ControlEntry) (start : ControlState) (list : List Change) → IsCounted head old → IsCounted head new → Grows head phase old new → AllByRecursion (λ c. c.stamp.phase ≤ phase) new
-        → changes_of head new ≡ changes_of head old ++ list → AllByRecursion (λ e. e.0.phase ≡ phase) events
+        → changes_of head new ≡ changes_of head old ++ list → AreOfLinks phase 0 lists
         → routing_after start.start (changes_by start) ≡ routing_after (routing_of head) (changes_of head old) → length (changes_by start) ≡ length (changes_of head old)
         → LanesFrom IsLane 0 (map (λ s. s.lane) xs) → AllByRecursion (IsAtOpening start) (map (λ s. s.place) xs) → AllByRecursion (λ s. Begins (published list true) s.place.seen) ys
         → AllByRecursion (IsRightSoFar (kind.question told) head phase old) (map journal_of (map (λ s. s.lane) xs)) → AllByRecursion (IsRightSoFar (kind.question told) head phase new) (map journal_of (map (λ s. s.lane) ys))
@@ -215,7 +215,7 @@ module _ {A : Type 0} (seated : SeatState A → Seated) (journal_of : A → List
         all-map (λ (b : Seated). Begins (published list true) b.place.seen) seated ys (weaker (λ (s : SeatState A). Begins (published list true) s.place.seen) (λ s. Begins (published list true) (seated s).place.seen) ys (λ s b. subst (λ (p : Standing). Begins (published list true) p.seen) (same_place s) b) seen) in
         subst (AllByRecursion (IsRightSoFar question head phase new)) (sym (journals-are ys))
         (all-map (IsRightSoFar question head phase new) (λ (s : Seated). s.journal) (map seated ys)
-        (lanes-right kind told head phase old new events list was counted grows within published_is at (map seated xs) (map seated ys) stood went all_seen))
+        (lanes-right kind told head phase old new lists list was counted grows within published_is at (map seated xs) (map seated ys) stood went all_seen))
 
 -- ---- the lanes of a node
 
@@ -232,7 +232,7 @@ room-open n node x h opening =
 routing-same : (head : Head) (lane : ControlState) → lane.head ≡ control_head_of head → lane.start ≡ routing_of head → routing_after lane.start (changes_by lane) ≡ routing_after (routing_of head) (changes_of head lane.journal)
 routing-same head lane h s = ap (λ t. routing_after t (changes_by lane)) s ∙ ap (routing_after (routing_of head)) (changes-same head lane h s)
 
-module _ (head : Head) (events : Stamped) (old new : Node) (x y : PhaseState) (lanes : IsOf head old) (opening : IsOpening old x) (went : GoesOn head events old.control x new.control y)
+module _ (head : Head) (lists : List Stamped) (old new : Node) (x y : PhaseState) (lanes : IsOf head old) (opening : IsOpening old x) (went : GoesOn head lists old.control x new.control y)
     (conns_back : new.conns.items ≡ map (λ s. s.lane) y.conns) (units_back : new.units.items ≡ map (λ s. s.lane) y.units) (conns_seen : HaveSeen y.publisher y.conns) (units_seen : HaveSeen y.publisher y.units)
     (legal_old : IsControlJournal old.control.head old.control.start old.control.journal) (legal_new : IsControlJournal new.control.head new.control.start new.control.journal) where
   conns-old : LanesFrom (IsConnLaneOf head) 0 (map (λ s. s.lane) x.conns)
@@ -257,23 +257,23 @@ module _ (head : Head) (events : Stamped) (old new : Node) (x y : PhaseState) (l
   after = record {
     control_head = went.head_kept ∙ lanes.control_head;
     start = went.start_kept ∙ lanes.start;
-    conn_lanes = ap length conns_back ∙ (count-after conn_seated (λ (l : ConnLaneState). l.journal) (lane_head_of head) (IsConnLaneOf head) (λ s. refl) (λ s. refl) conn-there conn-back conn_seat head events x.conns y.conns went.conns
+    conn_lanes = ap length conns_back ∙ (count-after conn_seated (λ (l : ConnLaneState). l.journal) (lane_head_of head) (IsConnLaneOf head) (λ s. refl) (λ s. refl) conn-there conn-back conn_seat head lists x.conns y.conns went.conns
         ∙ (ap length opening.conns.lanes_are ∙ lanes.conn_lanes));
     conns = subst (LanesFrom (IsConnLaneOf head) 0) (sym conns_back)
-        (lanes-after conn_seated (λ (l : ConnLaneState). l.journal) (lane_head_of head) (IsConnLaneOf head) (λ s. refl) (λ s. refl) conn-there conn-back conn_seat head events x.conns y.conns went.conns conns-old);
-    data_lanes = ap length units_back ∙ (count-after data_seated (λ (l : LaneState). l.journal) (lane_head_of head) (IsDataLaneOf head) (λ s. refl) (λ s. refl) unit-there unit-back data_seat head events x.units y.units went.units
+        (lanes-after conn_seated (λ (l : ConnLaneState). l.journal) (lane_head_of head) (IsConnLaneOf head) (λ s. refl) (λ s. refl) conn-there conn-back conn_seat head lists x.conns y.conns went.conns conns-old);
+    data_lanes = ap length units_back ∙ (count-after data_seated (λ (l : LaneState). l.journal) (lane_head_of head) (IsDataLaneOf head) (λ s. refl) (λ s. refl) unit-there unit-back data_seat head lists x.units y.units went.units
         ∙ (ap length opening.units.lanes_are ∙ lanes.data_lanes));
     units = subst (LanesFrom (IsDataLaneOf head) 0) (sym units_back)
-        (lanes-after data_seated (λ (l : LaneState). l.journal) (lane_head_of head) (IsDataLaneOf head) (λ s. refl) (λ s. refl) unit-there unit-back data_seat head events x.units y.units went.units units-old);
+        (lanes-after data_seated (λ (l : LaneState). l.journal) (lane_head_of head) (IsDataLaneOf head) (λ s. refl) (λ s. refl) unit-there unit-back data_seat head lists x.units y.units went.units units-old);
   }
 
   changes-grown : changes_of head new.control.journal ≡ changes_of head old.control.journal ++ went.published
   changes-grown =
       sym (changes-same head new.control after.control_head after.start) ∙ (went.here ∙ ap (λ l. l ++ went.published) (changes-same head old.control lanes.control_head lanes.start))
 
-  grown : (phase : ℕ) → AllByRecursion (λ e. e.0.phase ≡ phase) events → Grows head phase old.control.journal new.control.journal
+  grown : (phase : ℕ) → AreOfLinks phase 0 lists → Grows head phase old.control.journal new.control.journal
   grown phase at =
-      let pairs : AllByRecursion (λ p. p.0.phase ≡ phase) (control_pairs_of went.more) = subst (AllByRecursion (λ p. p.0.phase ≡ phase)) (sym went.own) (of-phase-taken in_control head phase events at) in
+      let pairs : AllByRecursion (λ p. p.0.phase ≡ phase) (control_pairs_of went.more) = whole-phase in_control head phase lists (control_pairs_of went.more) at went.own in
       record {
         more = went.more;
         journal = went.journal;
@@ -286,7 +286,7 @@ module _ (head : Head) (events : Stamped) (old new : Node) (x y : PhaseState) (l
   list-is : y.publisher.seen.changes ≡ went.published
   list-is = went.there ∙ ap (λ (p : Published). p.changes ++ went.published) opening.publisher.seen
 
-  standing : (phase : ℕ) → AllByRecursion (λ e. e.0.phase ≡ phase) events → AreRightSoFar head phase (book_of old) → AreRightSoFar head phase (book_of new)
+  standing : (phase : ℕ) → AreOfLinks phase 0 lists → AreRightSoFar head phase (book_of old) → AreRightSoFar head phase (book_of new)
   standing phase at s =
       let grows : Grows head phase old.control.journal new.control.journal = grown phase at in
       let counted : IsCounted head new.control.journal = legal-here head new.control after.control_head after.start legal_new in
@@ -297,34 +297,34 @@ module _ (head : Head) (events : Stamped) (old new : Node) (x y : PhaseState) (l
         counted = counted;
         within = within;
         conns = subst (λ l. AllByRecursion (IsRightSoFar (conn_kind head).question head phase new.control.journal) (conn_journals l)) (sym conns_back)
-            (right-after conn_seated (λ (l : ConnLaneState). l.journal) (lane_head_of head) (IsConnLaneOf head) (λ s. refl) (λ s. refl) conn-there conn-back conn_seat head events x.conns y.conns went.conns
+            (right-after conn_seated (λ (l : ConnLaneState). l.journal) (lane_head_of head) (IsConnLaneOf head) (λ s. refl) (λ s. refl) conn-there conn-back conn_seat head lists x.conns y.conns went.conns
             phase old.control.journal new.control.journal old.control went.published s.counted counted grows within changes-grown at routing number conns-old opening.conns.places
             (subst (λ l. AllByRecursion (λ (t : SeatState ConnLaneState). Begins (published l true) t.place.seen) y.conns) list-is conns_seen)
             (subst (λ l. AllByRecursion (IsRightSoFar (conn_kind head).question head phase old.control.journal) (conn_journals l)) (sym opening.conns.lanes_are) s.conns));
         units = subst (λ l. AllByRecursion (IsRightSoFar data_kind.question head phase new.control.journal) (data_journals l)) (sym units_back)
-            (right-after data_seated (λ (l : LaneState). l.journal) (lane_head_of head) (IsDataLaneOf head) (λ s. refl) (λ s. refl) unit-there unit-back data_seat head events x.units y.units went.units
+            (right-after data_seated (λ (l : LaneState). l.journal) (lane_head_of head) (IsDataLaneOf head) (λ s. refl) (λ s. refl) unit-there unit-back data_seat head lists x.units y.units went.units
             phase old.control.journal new.control.journal old.control went.published s.counted counted grows within changes-grown at routing number units-old opening.units.places
             (subst (λ l. AllByRecursion (λ (t : SeatState LaneState). Begins (published l true) t.place.seen) y.units) list-is units_seen)
             (subst (λ l. AllByRecursion (IsRightSoFar data_kind.question head phase old.control.journal) (data_journals l)) (sym opening.units.lanes_are) s.units));
       }
 
-  pub went-phase : Went head events old new
+  pub went-phase : Went head lists old new
   went-phase = record {
     lanes = after;
-    control = ap control_pairs_of went.journal ∙ (map-append (λ (e : ControlEntry). (e.stamp, e.event)) old.control.journal went.more ∙ ap (λ l. control_pairs_of old.control.journal ++ l) went.own);
-    conns = subst (λ l. PairsFrom (Took (conn_kind head) head events) 0 (conn_journals l) (conn_journals new.conns.items)) opening.conns.lanes_are
-        (subst (λ l. PairsFrom (Took (conn_kind head) head events) 0 (conn_journals (map (λ s. s.lane) x.conns)) (conn_journals l)) (sym conns_back)
-        (took-after conn_seated (λ (l : ConnLaneState). l.journal) (lane_head_of head) (IsConnLaneOf head) (λ s. refl) (λ s. refl) conn-there conn-back conn_seat head events x.conns y.conns went.conns (conn_kind head) refl));
-    units = subst (λ l. PairsFrom (Took data_kind head events) 0 (data_journals l) (data_journals new.units.items)) opening.units.lanes_are
-        (subst (λ l. PairsFrom (Took data_kind head events) 0 (data_journals (map (λ s. s.lane) x.units)) (data_journals l)) (sym units_back)
-        (took-after data_seated (λ (l : LaneState). l.journal) (lane_head_of head) (IsDataLaneOf head) (λ s. refl) (λ s. refl) unit-there unit-back data_seat head events x.units y.units went.units data_kind refl));
+    control = record { entries = went.more; journal = went.journal; own = went.own };
+    conns = subst (λ l. PairsFrom (LaneTook (conn_kind head) head lists) 0 (conn_journals l) (conn_journals new.conns.items)) opening.conns.lanes_are
+        (subst (λ l. PairsFrom (LaneTook (conn_kind head) head lists) 0 (conn_journals (map (λ s. s.lane) x.conns)) (conn_journals l)) (sym conns_back)
+        (took-after conn_seated (λ (l : ConnLaneState). l.journal) (lane_head_of head) (IsConnLaneOf head) (λ s. refl) (λ s. refl) conn-there conn-back conn_seat head lists x.conns y.conns went.conns (conn_kind head) refl));
+    units = subst (λ l. PairsFrom (LaneTook data_kind head lists) 0 (data_journals l) (data_journals new.units.items)) opening.units.lanes_are
+        (subst (λ l. PairsFrom (LaneTook data_kind head lists) 0 (data_journals (map (λ s. s.lane) x.units)) (data_journals l)) (sym units_back)
+        (took-after data_seated (λ (l : LaneState). l.journal) (lane_head_of head) (IsDataLaneOf head) (λ s. refl) (λ s. refl) unit-there unit-back data_seat head lists x.units y.units went.units data_kind refl));
     standing = standing;
   }
 
 -- the same, of a call that may be refused
-pub went-closed : {T E : Type 0} (head : Head) (events : Stamped) (old mid new : Node) (x y : PhaseState) (r : Result T E) → IsOf head old → IsOpening old x → GoesOn head events old.control x mid.control y
-    → OnOk r (IsClosing y mid new) → IsControlJournal old.control.head old.control.start old.control.journal → IsControlJournal mid.control.head mid.control.start mid.control.journal → OnOk r (Went head events old new)
-went-closed head events old mid new x y (Ok t) lanes opening went closing legal_old legal_mid =
-    went-phase head events old new x y lanes opening (subst (λ c. GoesOn head events old.control x c y) (sym closing.control) went) closing.conns closing.units closing.conns_seen closing.units_seen legal_old
-    (subst (λ (c : ControlState). IsControlJournal c.head c.start c.journal) (sym closing.control) legal_mid)
-went-closed head events old mid new x y (Err f) lanes opening went closing legal_old legal_mid = tt
+pub went-closed : {E : Type 0} (head : Head) (lists : List Stamped) (old : Node) (control : ControlState) (x y : PhaseState) (r : Result Node E) → IsOf head old → IsOpening old x → GoesOn head lists old.control x control y
+    → IfOk r (λ node. IsClosing control y node) → IsControlJournal old.control.head old.control.start old.control.journal → IsControlJournal control.head control.start control.journal → IfOk r (λ node. Went head lists old node)
+went-closed head lists old control x y (Ok new) lanes opening went closing legal_old legal_new =
+    went-phase head lists old new x y lanes opening (subst (λ c. GoesOn head lists old.control x c y) (sym closing.control_is) went) closing.conns closing.units closing.conns_seen closing.units_seen legal_old
+    (subst (λ (c : ControlState). IsControlJournal c.head c.start c.journal) (sym closing.control_is) legal_new)
+went-closed head lists old control x y (Err f) lanes opening went closing legal_old legal_new = tt

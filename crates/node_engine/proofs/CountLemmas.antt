@@ -6,9 +6,9 @@ use Rattle.plant_core.specs.declared.entry.ControlEntry.{ControlEntry}
 use Rattle.node_head.specs.declared.head.Head.{Head}
 use Rattle.scmg.specs.declared.head.ControlHead.{ControlHead}
 use Rattle.scmg.specs.Control.{Control, IsControlJournal, LegalFrom, changes_from, managed, after_entry, count_after, edition_after, start_of_control}
-use Rattle.node_engine.specs.Heads.{routing_of, control_head_of}
+use Rattle.right_book.specs.Heads.{routing_of, control_head_of}
 use Rattle.node_engine.specs.Running.{IsCounted}
-use Rattle.node_engine.proofs.ListLemmas.{count-first}
+use Rattle.right_book.proofs.ListLemmas.{count-first}
 
 published-one : (n : ℕ) (published : Option ℕ) (change : Option Change) → published ≡ edition_after n change → cond {A = ℕ} (is_some published) 1 0 ≡ length (option_to_list change)
 published-one n published None h = ap (λ p. cond (is_some p) 1 0) h

@@ -11,10 +11,10 @@ use Rattle.plant_core.specs.declared.entry.Asked.{Asked}
 use Rattle.plant_core.specs.declared.entry.ControlEntry.{ControlEntry}
 use Rattle.node_head.specs.declared.head.Head.{Head}
 use Rattle.scmg.specs.Control.{routing_after}
-use Rattle.node_engine.specs.Heads.{routing_of}
-use Rattle.node_engine.specs.Editions.{changes_of, edition_of, editions_before, editions_upto, IsAnswer, IsRouting, named}
+use Rattle.right_book.specs.Heads.{routing_of}
+use Rattle.right_book.specs.Editions.{changes_of, edition_of, editions_before, editions_upto, IsAnswer, IsRouting, named}
 use Rattle.node_engine.specs.Running.{IsCounted}
-use Rattle.node_engine.proofs.ListLemmas.{count-first}
+use Rattle.right_book.proofs.ListLemmas.{count-first}
 
 -- no more entries published before a phase, and up to it, than published at all
 both-true : (p t : Bool) → cond {A = ℕ} (p && t) 1 0 ≤ cond p 1 0

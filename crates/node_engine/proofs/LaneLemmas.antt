@@ -6,10 +6,10 @@ use Rattle.plant_core.specs.Asking.{Question}
 use Rattle.plant_core.specs.declared.entry.Entry.{Entry}
 use Rattle.plant_core.specs.declared.entry.ControlEntry.{ControlEntry}
 use Rattle.node_head.specs.declared.head.Head.{Head}
-use Rattle.node_engine.specs.Editions.{changes_of, editions_in, named}
-use Rattle.node_engine.specs.Lanes.{IsRouted}
+use Rattle.right_book.specs.Editions.{changes_of, editions_in, named}
+use Rattle.right_book.specs.Lanes.{IsRouted}
 use Rattle.node_engine.specs.Running.{IsRightSoFar, IsCounted}
-use Rattle.node_engine.proofs.ListLemmas.{weaker-two, all-append}
+use Rattle.right_book.proofs.ListLemmas.{weaker-two, all-append}
 use Rattle.node_engine.proofs.EditionLemmas.{Grows, routing-kept, routing-known}
 
 -- ---- the control journal grew

@@ -1,4 +1,4 @@
-pub mod ListLemmas
+pub mod LinkLemmas
 pub mod OwnLemmas
 pub mod EditionLemmas
 pub mod CountLemmas
@@ -8,5 +8,4 @@ pub mod SeatLemmas
 pub mod PhaseLemmas
 pub mod BarrierLemmas
 pub mod RunLemmas
-pub mod LoopLemmas
 pub mod RightLemmas

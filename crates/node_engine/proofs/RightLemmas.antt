@@ -1,7 +1,7 @@
 -- The journals of a node have the events of the phases.
-use Rattle.std.proofs.Common.{◌≡◌, ℕ, ◌+◌, ◌≤◌, ◌<◌, Bool, List, [], ◌∷◌, ◌++◌, length, map, Result, Ok, Err, OnOk, IfOk, refl, sym, ap, ◌∙◌, subst, arith}
+use Rattle.std.proofs.Common.{◌≡◌, ℕ, ◌+◌, ◌≤◌, ◌<◌, Bool, List, [], ◌∷◌, ◌++◌, length, map, get_or, Result, Ok, Err, IfOk, refl, sym, ap, ◌∙◌, subst, arith}
 use Rattle.std.proofs.lemmas.List.{length-map, map-append}
-use Rattle.std.proofs.lemmas.List.Elements.{filter-append}
+use Rattle.std.proofs.Math.ListN.{get_or-map}
 use Rattle.std.specs.List.{AllByRecursion}
 use Rattle.relay_base.specs.declared.words.Stamp.{Stamp}
 use Rattle.plant_core.specs.declared.entry.Entry.{Entry}
@@ -14,41 +14,42 @@ use Rattle.conn_lane.specs.Lanes.{ConnLaneState}
 use Rattle.scmg.specs.Control.{IsControlJournal}
 use Rattle.node_head.specs.declared.head.Head.{Head}
 use Rattle.node_head.specs.Ranges.{IsHead}
-use Rattle.capture_form.specs.Events.{Stamped, phase_events, AreOfLinks}
-use Rattle.capture_form.specs.Place.{place_of}
+use Rattle.capture_form.specs.Events.{Stamped, AreOfLinks}
 use Rattle.capture_form.specs.declared.lane_place.LanePlace.{LanePlace}
 use Rattle.journal_text.specs.declared.book.Book.{Book}
 use Rattle.node_engine.specs.declared.node.Node.{Node}
-use Rattle.node_engine.specs.Own.{HasEventsInOrder, pairs_of, control_pairs_of}
-use Rattle.node_engine.specs.Heads.{lane_head_of, control_head_of}
-use Rattle.node_engine.specs.Placed.{in_control, taken, placed, IsOfLane}
-use Rattle.node_engine.specs.Lanes.{LaneKind, LanesFrom, IsServed, conn_kind, data_kind}
-use Rattle.node_engine.specs.Right.{HasServed, AreLegal, IsRight}
-use Rattle.node_engine.specs.Running.{PairsFrom, CanTake, IsFirst, IsConnLaneOf, IsDataLaneOf, IsOf, IsRightSoFar, IsCounted, AreRightSoFar, Took, Went, book_of, conn_journals, data_journals, HasLegal}
-use Rattle.node_engine.proofs.ListLemmas.{weaker, all-filter, any-lanes, lanes-all, lanes-map, all-lanes, pairs-lanes, all-map, all-mapped}
-use Rattle.node_engine.proofs.OwnLemmas.{phases-within, more-events, no-events, of-phase}
+use Rattle.right_book.specs.Own.{HasEventsInOrder, pairs_of, control_pairs_of}
+use Rattle.right_book.specs.Heads.{lane_head_of, control_head_of}
+use Rattle.right_book.specs.Placed.{in_control, taken, placed, IsOfLane}
+use Rattle.right_book.specs.Lanes.{LaneKind, LanesFrom, IsServed, conn_kind, data_kind}
+use Rattle.right_book.specs.Right.{HasServed, AreLegal, IsRight}
+use Rattle.node_engine.specs.Running.{CanTake, IsFirst, IsConnLaneOf, IsDataLaneOf, IsOf, IsRightSoFar, IsCounted, AreRightSoFar, Took, LaneTook, Went, book_of, conn_journals, data_journals, HasLegal}
+use Rattle.lane_turns.specs.Pairs.{PairsFrom}
+use Rattle.lane_turns.specs.Plans.{planned, AreWhole}
+use Rattle.right_book.proofs.ListLemmas.{weaker, any-lanes, lanes-all, lanes-map, all-lanes, all-map, all-mapped}
+use Rattle.lane_turns.proofs.PairLemmas.{pairs-lanes}
+use Rattle.node_engine.proofs.LinkLemmas.{whole-phase}
+use Rattle.node_engine.proofs.OwnLemmas.{phases-within, more-events, no-events}
 
 -- ---- what is placed in a lane stands as it stood
 
-links-placed : (in_lane : LanePlace → Bool) (head : Head) (phase link : ℕ) (lists : List Stamped) → AreOfLinks phase link lists → AreOfLinks phase link (map (taken in_lane head) lists)
-links-placed in_lane head phase link [] h = tt
-links-placed in_lane head phase link (events ∷ more) h =
-    (all-filter (λ e. (e.0.phase ≡ phase) × (e.0.link ≡ link)) (λ e. in_lane (place_of head e.1)) events h.0, links-placed in_lane head phase (link + 1) more h.1)
+planned-placed : (in_lane : LanePlace → Bool) (head : Head) (lists : List Stamped) (link : ℕ) → planned in_lane head lists link ≡ get_or (map (taken in_lane head) lists) link []
+planned-placed in_lane head lists link = sym (get_or-map (taken in_lane head) lists link [])
 
-taken-joined : (in_lane : LanePlace → Bool) (head : Head) (lists : List Stamped) → phase_events (map (taken in_lane head) lists) ≡ taken in_lane head (phase_events lists)
-taken-joined in_lane head [] = refl
-taken-joined in_lane head (events ∷ more) =
-    ap (λ l. taken in_lane head events ++ l) (taken-joined in_lane head more) ∙ sym (filter-append (λ e. in_lane (place_of head e.1)) events (phase_events more))
+own-more : (in_lane : LanePlace → Bool) (head : Head) (before : List (List Stamped)) (lists : List Stamped) (old new : Stamped) → AreOfLinks (length before + 1) 0 lists → AreWhole (planned in_lane head lists) new
+    → IsOfLane in_lane head before old → IsOfLane in_lane head (before ++ lists ∷ []) (old ++ new)
+own-more in_lane head before lists old new h whole own =
+    let count : length (placed in_lane head before) ≡ length before = length-map before (map (taken in_lane head)) in
+    let at : AllByRecursion (λ e. e.0.phase ≡ length (placed in_lane head before) + 1) new =
+    subst (λ n. AllByRecursion (λ e. e.0.phase ≡ n + 1) new) (sym count) (whole-phase in_lane head (length before + 1) lists new h whole) in
+    subst (λ (phases : List (List Stamped)). HasEventsInOrder (old ++ new) phases) (sym (map-append (map (taken in_lane head)) before (lists ∷ [])))
+    (more-events (placed in_lane head before) (map (taken in_lane head) lists) old new own at (λ link. whole link ∙ planned-placed in_lane head lists link))
 
-own-more : (in_lane : LanePlace → Bool) (head : Head) (before : List (List Stamped)) (lists : List Stamped) (old new : Stamped) → AreOfLinks (length before + 1) 0 lists → new ≡ old ++ taken in_lane head (phase_events lists)
-    → IsOfLane in_lane head before old → IsOfLane in_lane head (before ++ lists ∷ []) new
-own-more in_lane head before lists old new h grown own =
-    let links : AreOfLinks (length (placed in_lane head before) + 1) 0 (map (taken in_lane head) lists) =
-    subst (λ n. AreOfLinks (n + 1) 0 (map (taken in_lane head) lists)) (sym (length-map before (map (taken in_lane head)))) (links-placed in_lane head (length before + 1) 0 lists h) in
-    let events : old ++ phase_events (map (taken in_lane head) lists) ≡ new = ap (λ l. old ++ l) (taken-joined in_lane head lists) ∙ sym grown in
-    subst (λ l. IsOfLane in_lane head (before ++ lists ∷ []) l) events
-    (subst (λ (phases : List (List Stamped)). HasEventsInOrder (old ++ phase_events (map (taken in_lane head) lists)) phases) (sym (map-append (map (taken in_lane head)) before (lists ∷ [])))
-    (more-events (placed in_lane head before) (map (taken in_lane head) lists) old own links))
+-- the same of a journal that grew
+own-took : {E : Type 0} (pair : E → Stamp × ControlEvent) (in_lane : LanePlace → Bool) (head : Head) (before : List (List Stamped)) (lists : List Stamped) (old new : List E) → AreOfLinks (length before + 1) 0 lists
+    → Took (map pair) in_lane head lists old new → IsOfLane in_lane head before (map pair old) → IsOfLane in_lane head (before ++ lists ∷ []) (map pair new)
+own-took pair in_lane head before lists old new h t own =
+    subst (IsOfLane in_lane head (before ++ lists ∷ [])) (sym (ap (map pair) t.journal ∙ map-append pair old t.entries)) (own-more in_lane head before lists (map pair old) (map pair t.entries) h t.own own)
 
 own-within : (in_lane : LanePlace → Bool) (head : Head) (phases : List (List Stamped)) (events : Stamped) → IsOfLane in_lane head phases events → AllByRecursion (λ e. e.0.phase ≤ length phases + 1) events
 own-within in_lane head phases events own =
@@ -75,20 +76,20 @@ standing-served head phases book counted h = record {
 -- ---- one phase more
 
 lanes-served : (kind : LaneKind) (head : Head) (before : List (List Stamped)) (lists : List Stamped) (old new : List ControlEntry) (olds news : List (List Entry)) → AreOfLinks (length before + 1) 0 lists
-    → PairsFrom (Took kind head (phase_events lists)) 0 olds news → AllByRecursion (IsRightSoFar kind.question head (length before + 1) new) news
+    → PairsFrom (LaneTook kind head lists) 0 olds news → AllByRecursion (IsRightSoFar kind.question head (length before + 1) new) news
     → LanesFrom (IsServed kind head before old) 0 olds → LanesFrom (IsServed kind head (before ++ lists ∷ []) new) 0 news
 lanes-served kind head before lists old new olds news h took stand served =
     all-lanes (IsRightSoFar kind.question head (length before + 1) new) (IsServed kind head (before ++ lists ∷ []) new) (λ k journal. IsOfLane (kind.is_in k) head (before ++ lists ∷ []) (pairs_of journal)) 0 news
     (λ k journal s own. record { own = own; routed = s.routed; rising = s.rising }) stand
-    (pairs-lanes (IsServed kind head before old) (λ k journal. IsOfLane (kind.is_in k) head (before ++ lists ∷ []) (pairs_of journal)) (Took kind head (phase_events lists)) 0 olds news
-    (λ k a b s t. own-more (kind.is_in k) head before lists (pairs_of a) (pairs_of b) h t s.own) served took)
+    (pairs-lanes (IsServed kind head before old) (λ k journal. IsOfLane (kind.is_in k) head (before ++ lists ∷ []) (pairs_of journal)) (LaneTook kind head lists) 0 olds news
+    (λ k a b s t. own-took (λ (x : Entry). (x.stamp, Plain x.event)) (kind.is_in k) head before lists a b h t s.own) served took)
 
-pub served-more : (head : Head) (before : List (List Stamped)) (lists : List Stamped) (old new : Node) → IsCounted head old.control.journal → Went head (phase_events lists) old new → AreOfLinks (length before + 1) 0 lists
+pub served-more : (head : Head) (before : List (List Stamped)) (lists : List Stamped) (old new : Node) → IsCounted head old.control.journal → Went head lists old new → AreOfLinks (length before + 1) 0 lists
     → HasServed head before (book_of old) → HasServed head (before ++ lists ∷ []) (book_of new)
 served-more head before lists old new counted went h served =
-    let standing : AreRightSoFar head (length before + 1) (book_of new) = went.standing (length before + 1) (of-phase (length before + 1) lists h) (standing-served head before (book_of old) counted served) in
+    let standing : AreRightSoFar head (length before + 1) (book_of new) = went.standing (length before + 1) h (standing-served head before (book_of old) counted served) in
     record {
-      control = own-more in_control head before lists (control_pairs_of old.control.journal) (control_pairs_of new.control.journal) h went.control served.control;
+      control = own-took (λ (x : ControlEntry). (x.stamp, x.event)) in_control head before lists old.control.journal new.control.journal h went.control served.control;
       conns = lanes-served (conn_kind head) head before lists old.control.journal new.control.journal (conn_journals old.conns.items) (conn_journals new.conns.items) h went.conns standing.conns served.conns;
       units = lanes-served data_kind head before lists old.control.journal new.control.journal (data_journals old.units.items) (data_journals new.units.items) h went.units standing.units served.units;
     }
@@ -140,11 +141,6 @@ right-book head phases node book lanes served legal same =
     })
 
 -- ---- calls that may be refused
-
-pub served-done : {T E : Type 0} (head : Head) (lists : List Stamped) (old new : Node) (r : Result T E) → IsCounted head old.control.journal → OnOk r (Went head (phase_events lists) old new)
-    → OnOk r ((before : List (List Stamped)) → AreOfLinks (length before + 1) 0 lists → HasServed head before (book_of old) → HasServed head (before ++ lists ∷ []) (book_of new))
-served-done head lists old new (Ok t) counted went = λ before h served. served-more head before lists old new counted went h served
-served-done head lists old new (Err f) counted went = tt
 
 pub right-done : {E : Type 0} (head : Head) (phases : List (List Stamped)) (node : Node) (r : Result Book E) → IsOf head node → HasServed head phases (book_of node) → IfOk r (λ book. HasLegal node) → IfOk r (λ book. book ≡ book_of node)
     → IfOk r (λ book. IsRight head phases book)

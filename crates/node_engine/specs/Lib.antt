@@ -1,9 +1,2 @@
-pub mod Own
-pub mod Placed
-pub mod Heads
-pub mod Editions
-pub mod Lanes
-pub mod Right
 pub mod Running
-pub mod Seats
-pub mod Phases
+pub mod Barriers

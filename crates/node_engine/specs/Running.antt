@@ -1,14 +1,11 @@
--- What the lanes of a node do with a list of events.
-use Rattle.std.specs.Prelude.{◌≡◌, ◌≤◌, ◌<◌, ◌+◌, ◌++◌, ℕ, Bool, true, false, List, [], ◌∷◌, Option, length, map, count_by, is_some}
+-- What the lanes of a node do with the events of a phase.
+use Rattle.std.specs.Prelude.{◌≡◌, ◌≤◌, ◌<◌, ◌+◌, ◌++◌, ℕ, Bool, List, [], Option, length, map, count_by, is_some}
 use Rattle.std.specs.List.{AllByRecursion}
 use Rattle.std.specs.List.Sorted.{IsNonDecreasing}
 use Rattle.relay_base.specs.declared.words.Event.{Event}
-use Rattle.relay_base.specs.declared.words.Stamp.{Stamp}
-use Rattle.plant_core.specs.Asking.{Question, asked_at}
-use Rattle.plant_core.specs.Plant.{RoutingData}
+use Rattle.plant_core.specs.Asking.{Question}
 use Rattle.plant_core.specs.declared.entry.Entry.{Entry}
 use Rattle.plant_core.specs.declared.entry.ControlEntry.{ControlEntry}
-use Rattle.plant_core.specs.declared.entry.ControlEvent.{ControlEvent}
 use Rattle.data_lane.specs.Legal.{LaneState, IsDataJournal}
 use Rattle.section_model.specs.Journals.{IsConnJournal}
 use Rattle.conn_lane.specs.Lanes.{ConnLaneState}
@@ -17,19 +14,15 @@ use Rattle.node_head.specs.Ranges.{IsHead}
 use Rattle.journal_text.specs.declared.book.Book.{Book}
 use Rattle.scmg.specs.Control.{IsControlJournal}
 use Rattle.node_engine.specs.declared.node.Node.{Node}
-use Rattle.capture_form.specs.Events.{Stamped}
-use Rattle.node_engine.specs.Own.{pairs_of, control_pairs_of}
-use Rattle.node_engine.specs.Heads.{routing_of, lane_head_of, control_head_of}
-use Rattle.node_engine.specs.Placed.{in_control, taken}
-use Rattle.node_engine.specs.Editions.{changes_of, editions_in}
-use Rattle.node_engine.specs.Lanes.{LaneKind, LanesFrom, IsRouted, conn_kind, data_kind}
-
--- this is said of each two lanes of one number, of which the first is this one
-abbrev pub PairsFrom : {A : Type 0} → (ℕ → A → A → Type 0) → ℕ → List A → List A → Type 0
-PairsFrom R number [] [] = Unit {0}
-PairsFrom R number [] (new ∷ news) = ⊥
-PairsFrom R number (old ∷ olds) [] = ⊥
-PairsFrom R number (old ∷ olds) (new ∷ news) = R number old new × PairsFrom R (number + 1) olds news
+use Rattle.capture_form.specs.Events.{Stamped, AreOfLinks}
+use Rattle.capture_form.specs.declared.lane_place.LanePlace.{LanePlace}
+use Rattle.right_book.specs.Own.{pairs_of, control_pairs_of}
+use Rattle.right_book.specs.Heads.{routing_of, lane_head_of, control_head_of}
+use Rattle.right_book.specs.Placed.{in_control}
+use Rattle.right_book.specs.Editions.{changes_of, editions_in}
+use Rattle.right_book.specs.Lanes.{LaneKind, LanesFrom, IsRouted, conn_kind, data_kind}
+use Rattle.lane_turns.specs.Pairs.{PairsFrom}
+use Rattle.lane_turns.specs.Plans.{planned, AreWhole}
 
 -- the journals of lanes
 abbrev pub conn_journals : List ConnLaneState → List (List Entry)
@@ -41,27 +34,6 @@ data_journals lanes = map (λ l. l.journal) lanes
 -- the book of a node
 abbrev pub book_of : Node → Book
 book_of node = record { control = node.control.journal; conns = conn_journals node.conns.items; units = data_journals node.units.items }
-
--- ---- one event
-
--- a journal has one entry more: that of an event, with the routing that an edition answers
-pub record Extends (asks : Option Question) (edition : ℕ) (routing : RoutingData) (stamp : Stamp) (e : Event) (old new : List Entry) : Type 0 where
-  pub entry : Entry
-  pub journal : new ≡ old ++ entry ∷ []
-  pub stamped : entry.stamp ≡ stamp
-  pub of_event : entry.event ≡ e
-  pub answered : entry.asked ≡ asked_at edition routing asks
-
--- the control journal has one entry more: that of an event
-pub record ControlExtends (stamp : Stamp) (e : ControlEvent) (old new : List ControlEntry) : Type 0 where
-  pub entry : ControlEntry
-  pub journal : new ≡ old ++ entry ∷ []
-  pub stamped : entry.stamp ≡ stamp
-  pub of_event : entry.event ≡ e
-
-abbrev pub ControlExtendsIf : Bool → Stamp → ControlEvent → List ControlEntry → List ControlEntry → Type 0
-ControlExtendsIf true stamp e old new = ControlExtends stamp e old new
-ControlExtendsIf false stamp e old new = new ≡ old
 
 -- ---- the lanes of a node
 
@@ -107,7 +79,7 @@ pub record HasLegal (node : Node) : Type 0 where
   pub conns : AllByRecursion (λ l. IsConnJournal l.head l.number l.journal) node.conns.items
   pub units : AllByRecursion (λ l. IsDataJournal l.head l.number l.journal) node.units.items
 
--- ---- what stands in a phase, whatever events were taken
+-- ---- what stands in a phase, whatever events were taken of it
 
 -- the routings of a journal are right by a control journal, and none of its entries is of a later phase
 pub record IsRightSoFar (question : Event → Option Question) (head : Head) (phase : ℕ) (control : List ControlEntry) (journal : List Entry) : Type 0 where
@@ -125,16 +97,21 @@ pub record AreRightSoFar (head : Head) (phase : ℕ) (book : Book) : Type 0 wher
   pub conns : AllByRecursion (IsRightSoFar (conn_kind head).question head phase book.control) book.conns
   pub units : AllByRecursion (IsRightSoFar data_kind.question head phase book.control) book.units
 
--- ---- a list of events
+-- ---- a phase
 
--- a journal went on with those of the events that are placed in its lane
-abbrev pub Took : LaneKind → Head → Stamped → ℕ → List Entry → List Entry → Type 0
-Took kind head events number old new = pairs_of new ≡ pairs_of old ++ taken (kind.is_in number) head events
+-- a journal went on with the events of a phase that are placed in its lane, of each link all of them in order
+pub record Took {E : Type 0} (pairs : List E → Stamped) (in_lane : LanePlace → Bool) (head : Head) (lists : List Stamped) (old new : List E) : Type 0 where
+  pub entries : List E
+  pub journal : new ≡ old ++ entries
+  pub own : AreWhole (planned in_lane head lists) (pairs entries)
 
--- each lane went on with its events
-pub record Went (head : Head) (events : Stamped) (old new : Node) : Type 0 where
+abbrev pub LaneTook : LaneKind → Head → List Stamped → ℕ → List Entry → List Entry → Type 0
+LaneTook kind head lists number old new = Took pairs_of (kind.is_in number) head lists old new
+
+-- each lane went on with its events of a phase
+pub record Went (head : Head) (lists : List Stamped) (old new : Node) : Type 0 where
   pub lanes : IsOf head new
-  pub control : control_pairs_of new.control.journal ≡ control_pairs_of old.control.journal ++ taken in_control head events
-  pub conns : PairsFrom (Took (conn_kind head) head events) 0 (conn_journals old.conns.items) (conn_journals new.conns.items)
-  pub units : PairsFrom (Took data_kind head events) 0 (data_journals old.units.items) (data_journals new.units.items)
-  pub standing : (phase : ℕ) → AllByRecursion (λ e. e.0.phase ≡ phase) events → AreRightSoFar head phase (book_of old) → AreRightSoFar head phase (book_of new)
+  pub control : Took control_pairs_of in_control head lists old.control.journal new.control.journal
+  pub conns : PairsFrom (LaneTook (conn_kind head) head lists) 0 (conn_journals old.conns.items) (conn_journals new.conns.items)
+  pub units : PairsFrom (LaneTook data_kind head lists) 0 (data_journals old.units.items) (data_journals new.units.items)
+  pub standing : (phase : ℕ) → AreOfLinks phase 0 lists → AreRightSoFar head phase (book_of old) → AreRightSoFar head phase (book_of new)

@@ -4,12 +4,8 @@
 mod node;
 mod phase;
 mod phase_lanes;
-mod publisher;
 mod run;
-mod seat;
-mod taking;
 
 pub use node::{ConnLaneList, DataLaneList, Node};
 pub use phase::run_phase;
-pub use publisher::PhasePublisher;
 pub use run::run_capture;

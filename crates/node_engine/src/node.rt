@@ -5,8 +5,8 @@ ghost use Rattle.relay_base.specs.declared.limits.TheConstants.{GREATEST_CREDIT,
 ghost use Rattle.node_head.specs.Addable.{are_addable};
 ghost use Rattle.node_head.specs.Ranges.{IsHead};
 ghost use Rattle.plant_core.specs.Terms.{IsLaneHead};
-ghost use Rattle.node_engine.specs.Heads.{routing_of, lane_head_of, control_head_of};
-ghost use Rattle.node_engine.specs.Lanes.{LanesFrom};
+ghost use Rattle.right_book.specs.Heads.{routing_of, lane_head_of, control_head_of};
+ghost use Rattle.right_book.specs.Lanes.{LanesFrom};
 ghost use Rattle.node_engine.specs.Running.{IsFirst, IsConnLaneOf, IsDataLaneOf};
 
 use conn_lane::ConnLane;
@@ -143,7 +143,7 @@ fn data_lanes(alloc: Global, head: &Head) -> Result<DataLaneList, Memory>
 }
 
 /// The control lane alone.
-fn control_alone(alloc: Global, head: &Head) -> Result<Node, Memory>
+pub fn control_alone(alloc: Global, head: &Head) -> Result<Node, Memory>
     requires { IsTrue (are_addable [] head.now.row) }
     ensures { IfOk result (λ node. node.control ≡
         record { head = control_head_of head.now; start = routing_of head.now; journal = [] }) }
@@ -162,26 +162,13 @@ impl Node {
         requires { IsHead head.now }
         ensures { IfOk result (λ node. IsFirst head.now node) }
     {
-        let mut node = control_alone(alloc, head)?;
-        node.fill(alloc, head)?;
-        Ok(node)
-    }
-
-    /// The connection lanes and the data lanes join the control lane.
-    fn fill(&mut self, alloc: Global, head: &Head) -> Result<(), Memory>
-        requires { IsHead head.now }
-        ensures control { self.new.control ≡ self.old.control }
-        ensures conn_count { OnOk result (length self.new.conns.items ≡ head.now.conn_lanes) }
-        ensures conns { OnOk result (LanesFrom (IsConnLaneOf head.now) 0 self.new.conns.items) }
-        ensures conns_empty { let lanes = self.new.conns.items in
-            OnOk result (AllByRecursion (λ l. l.journal ≡ []) lanes) }
-        ensures data_count { OnOk result (length self.new.units.items ≡ head.now.data_lanes) }
-        ensures units { OnOk result (LanesFrom (IsDataLaneOf head.now) 0 self.new.units.items) }
-        ensures units_empty { let lanes = self.new.units.items in
-            OnOk result (AllByRecursion (λ l. l.journal ≡ []) lanes) }
-    {
-        self.conns = conn_lanes(alloc, head)?;
-        self.units = data_lanes(alloc, head)?;
-        Ok(())
+        let conns = conn_lanes(alloc, head)?;
+        let units = data_lanes(alloc, head)?;
+        let control = control_lane(alloc, head)?;
+        Ok(Node {
+            control,
+            conns,
+            units,
+        })
     }
 }

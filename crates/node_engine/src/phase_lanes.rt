@@ -3,56 +3,16 @@ ghost use Rattle.std.specs.Prelude.{◌≡◌, ◌≤◌, ◌<◌, ◌+◌, ◌+
 ghost use Rattle.std.specs.List.{AllByRecursion};
 ghost use Rattle.gtt_editions.specs.Published.{Begins};
 ghost use Rattle.scmg.specs.Control.{IsControlJournal};
-ghost use Rattle.node_engine.specs.Phases.{IsPlantOf, IsFresh, IsAtOpening, AreSeated, IsOpening, IsClosing};
+ghost use Rattle.node_engine.specs.Barriers.{IsPlantOf, IsFresh, IsAtOpening, AreSeated, HaveSeen, IsOpening, IsClosing};
 
-use crate::node::Node;
-use crate::publisher::PhasePublisher;
-use crate::seat::Seat;
-use conn_lane::ConnLane;
-use data_lane::DataLane;
+use crate::node::{ConnLaneList, DataLaneList, Node};
 use gtt_editions::{Ended, PlaceList, Publisher, editions};
+use lane_turns::{ConnSeatList, DataSeatList, PhaseLanes, PhasePublisher, Seat};
 use plant_core::Plant;
 use relay_base::Memory;
 use scmg::ControlLane;
 use std::alloc::Global;
-use std::marker::Model;
-use std::mem;
 use std::sync::Wait;
-
-/// Connection lanes at their places.
-pub type ConnSeatList<'r, R> = Vec<Seat<'r, R, ConnLane>>;
-
-/// Data lanes at their places.
-pub type DataSeatList<'r, R> = Vec<Seat<'r, R, DataLane>>;
-
-/// The publisher of the control lane, and the other lanes at their places.
-pub struct PhaseLanes<'r, R: Wait> {
-    pub publisher: PhasePublisher<'r, R>,
-    pub conns: ConnSeatList<'r, R>,
-    pub units: DataSeatList<'r, R>,
-}
-
-impl<'r, R: Wait> Model for PhaseLanes<'r, R> {
-    ghost use Rattle.node_engine.specs.Phases.{PhaseState};
-
-    ghost Value = { PhaseState };
-
-    ghost view = { λ l. record {
-      publisher = l.publisher.publisher;
-      conns = l.conns.items;
-      units = l.units.items;
-    } };
-}
-
-impl<'r, R: Wait> Drop for PhaseLanes<'r, R> {
-    fn drop(self) {
-        let Self {
-            publisher: _publisher,
-            conns: _conns,
-            units: _units,
-        } = self;
-    }
-}
 
 /// Each lane at a place of its own.
 fn seated<'r, R: Wait, L: Drop>(
@@ -103,7 +63,7 @@ fn all_unseated<'r, R: Wait, L: Drop>(
     Ok(lanes)
 }
 
-/// A copy of the routing data of the control lane, at the edition that it published last.
+/// A copy of the routing data of the control lane.
 fn plant_copy(control: &ControlLane) -> Result<Plant, Memory>
     ensures { IfOk result (IsPlantOf control.now) }
 {
@@ -126,24 +86,30 @@ fn opened<'r, R: Wait>(
     editions(rt, alloc, plant, places)
 }
 
-/// The connection lanes and the data lanes of a node, each at a place of its own.
-fn all_seated<'r, R: Wait>(
+/// The publisher of a phase, and the lanes beside the control lane, each at a place of its own.
+fn placed_lanes<'r, R: Wait>(
+    rt: &'r R,
     alloc: Global,
-    node: &mut Node,
-    mut places: PlaceList<'r, R>,
-) -> Result<(ConnSeatList<'r, R>, DataSeatList<'r, R>), Memory>
-    requires enough { let lanes = length node.old.conns.items + length node.old.units.items in
-        lanes ≤ length places.items }
-    requires open { AllByRecursion (IsAtOpening node.old.control) places.items }
-    ensures control { node.new.control ≡ node.old.control }
-    ensures conns { IfOk result (λ t. AreSeated node.old.control node.old.conns.items t.0.items) }
-    ensures units { IfOk result (λ t. AreSeated node.old.control node.old.units.items t.1.items) }
+    control: &ControlLane,
+    conns: ConnLaneList,
+    units: DataLaneList,
+) -> Result<PhaseLanes<'r, R>, Memory>
+    requires some { 0 < length conns.items }
+    requires conns { length conns.items ≤ 16 }
+    requires units { length units.items ≤ 16 }
+    ensures publisher { IfOk result (λ lanes. IsFresh control.now lanes.publisher) }
+    ensures conns { IfOk result (λ lanes. AreSeated control.now conns.items lanes.conns) }
+    ensures units { IfOk result (λ lanes. AreSeated control.now units.items lanes.units) }
 {
-    let conns = mem::replace(&mut node.conns, Vec::new(alloc));
-    let units = mem::replace(&mut node.units, Vec::new(alloc));
+    let count = conns.len() + units.len();
+    let (publisher, mut places) = opened(rt, alloc, control, count as u8)?;
     let conns = seated(alloc, conns, &mut places)?;
     let units = seated(alloc, units, &mut places)?;
-    Ok((conns, units))
+    Ok(PhaseLanes {
+        publisher: PhasePublisher { publisher },
+        conns,
+        units,
+    })
 }
 
 /// The journal of a control lane is a legal one at all times. This does nothing, and tells a proof so.
@@ -153,43 +119,60 @@ fn recall_legal(control: &ControlLane)
     control.journal();
 }
 
-impl<'r, R: Wait> PhaseLanes<'r, R> {
-    /// The lanes of a node come to their places. After `Memory` nothing is said of the connection lanes and the data lanes.
-    pub fn open(rt: &'r R, alloc: Global, node: &mut Node) -> Result<PhaseLanes<'r, R>, Memory>
-        requires some { 0 < length node.old.conns.items }
-        requires conns { length node.old.conns.items ≤ 16 }
-        requires units { length node.old.units.items ≤ 16 }
-        ensures control { node.new.control ≡ node.old.control }
-        ensures open { IfOk result (IsOpening node.old) }
-        ensures legal { let control = node.old.control in
-            IsControlJournal control.head control.start control.journal }
-    {
-        recall_legal(&node.control);
-        let count = node.conns.len() + node.units.len();
-        let (publisher, places) = opened(rt, alloc, &node.control, count as u8)?;
-        let (conns, units) = all_seated(alloc, node, places)?;
-        Ok(PhaseLanes {
-            publisher: PhasePublisher { publisher },
-            conns,
-            units,
-        })
-    }
+/// The lanes of a node come to their places; the control lane, whose changes are published, has none.
+pub fn opened_lanes<'r, R: Wait>(
+    rt: &'r R,
+    alloc: Global,
+    node: Node,
+) -> Result<(ControlLane, PhaseLanes<'r, R>), Memory>
+    requires some { 0 < length node.conns.items }
+    requires conns { length node.conns.items ≤ 16 }
+    requires units { length node.units.items ≤ 16 }
+    ensures control { IfOk result (λ t. t.0 ≡ node.control) }
+    ensures open { IfOk result (λ t. IsOpening node t.1) }
+    ensures legal { IsControlJournal node.control.head node.control.start node.control.journal }
+{
+    let Node {
+        control,
+        conns,
+        units,
+    } = node;
+    recall_legal(&control);
+    let lanes = placed_lanes(rt, alloc, &control, conns, units)?;
+    Ok((control, lanes))
+}
 
-    /// The publisher ends, each lane learns that, and all go back to the node.
-    pub fn close(self, alloc: Global, node: &mut Node) -> Result<(), Memory>
-        ensures closed { OnOk result (IsClosing self.entry node.old node.new) }
-        ensures legal { let control = node.old.control in
-            IsControlJournal control.head control.start control.journal }
-    {
-        recall_legal(&node.control);
-        let Self {
-            publisher,
-            conns,
-            units,
-        } = self;
-        let ended = publisher.end()?;
-        node.conns = all_unseated(alloc, conns, &ended)?;
-        node.units = all_unseated(alloc, units, &ended)?;
-        Ok(())
-    }
+/// The publisher ends, and each lane learns that and leaves its place.
+fn left_places<R: Wait>(
+    alloc: Global,
+    lanes: PhaseLanes<'_, R>,
+) -> Result<(ConnLaneList, DataLaneList), Memory>
+    ensures conns { IfOk result (λ t. t.0.items ≡ map (λ s. s.lane) lanes.entry.conns) }
+    ensures units { IfOk result (λ t. t.1.items ≡ map (λ s. s.lane) lanes.entry.units) }
+    ensures conns_seen { IfOk result (λ t. HaveSeen lanes.entry.publisher lanes.entry.conns) }
+    ensures units_seen { IfOk result (λ t. HaveSeen lanes.entry.publisher lanes.entry.units) }
+{
+    let (publisher, conns, units) = lanes.into_parts();
+    let ended = publisher.end()?;
+    let conns = all_unseated(alloc, conns, &ended)?;
+    let units = all_unseated(alloc, units, &ended)?;
+    Ok((conns, units))
+}
+
+/// The lanes leave their places, and go back to a node with the control lane.
+pub fn closed_lanes<R: Wait>(
+    alloc: Global,
+    control: ControlLane,
+    lanes: PhaseLanes<'_, R>,
+) -> Result<Node, Memory>
+    ensures closed { IfOk result (IsClosing control lanes.entry) }
+    ensures legal { IsControlJournal control.head control.start control.journal }
+{
+    recall_legal(&control);
+    let (conns, units) = left_places(alloc, lanes)?;
+    Ok(Node {
+        control,
+        conns,
+        units,
+    })
 }

@@ -6,7 +6,7 @@ ghost use Rattle.data_lane.specs.Legal.{IsDataJournal};
 ghost use Rattle.node_head.specs.Ranges.{IsHead};
 ghost use Rattle.journal_text.specs.Book.{IsEmpty};
 ghost use Rattle.capture_form.specs.Events.{all_events, IsStamped};
-ghost use Rattle.node_engine.specs.Right.{HasServed, IsRight};
+ghost use Rattle.right_book.specs.Right.{HasServed, IsRight};
 ghost use Rattle.node_engine.specs.Running.{CanTake, HasLegal, IsOf, book_of, conn_journals, data_journals};
 
 use crate::node::{ConnLaneList, DataLaneList, Node};
@@ -83,6 +83,25 @@ fn book_of(alloc: Global, node: Node) -> Result<Book, Memory>
     })
 }
 
+/// Lanes before their first event, once they have taken the events of a capture.
+fn node_run<R: Threads + Wait + Sync, P: Pace>(
+    rt: &R,
+    alloc: Global,
+    capture: &Capture,
+    mut node: Node,
+    pace: &P,
+) -> Result<Node, Memory>
+    requires able { CanTake capture.now.head (all_events capture.now.phases) node }
+    requires stamped { IsStamped capture.now.head capture.now.phases }
+    requires served { HasServed capture.now.head [] (book_of node) }
+    ensures lanes { IfOk result (IsOf capture.now.head) }
+    ensures served { IfOk result (λ node.
+        HasServed capture.now.head capture.now.phases (book_of node)) }
+{
+    run_phases(rt, alloc, &capture.head, &capture.phases, &mut node, pace)?;
+    Ok(node)
+}
+
 /// The lanes of a capture, once they have taken its events.
 fn node_after<R: Threads + Wait + Sync, P: Pace>(
     rt: &R,
@@ -97,9 +116,8 @@ fn node_after<R: Threads + Wait + Sync, P: Pace>(
     ensures served { IfOk result (λ node.
         HasServed capture.now.head capture.now.phases (book_of node)) }
 {
-    let mut node = Node::start(alloc, &capture.head)?;
-    run_phases(rt, alloc, &capture.head, &capture.phases, &mut node, pace)?;
-    Ok(node)
+    let node = Node::start(alloc, &capture.head)?;
+    node_run(rt, alloc, capture, node, pace)
 }
 
 /// The book of a capture.

@@ -16,7 +16,7 @@ use Rattle.capture_form.specs.declared.capture.Capture.{Capture}
 use Rattle.capture_form.proofs.LinkLemmas.{linked-capture}
 use Rattle.capture_generator.specs.Generator.{generated_capture}
 use Rattle.capture_generator.proofs.CaptureLemmas.{phases-linked}
-use Rattle.node_engine.specs.Right.{IsRight}
+use Rattle.right_book.specs.Right.{IsRight}
 use Rattle.book_law.specs.Sequential.{IsSequential}
 use Rattle.book_law.proofs.Books.{one_right_book}
 use Rattle.capture_form.specs.declared.fault.CaptureFault.{CaptureFault}

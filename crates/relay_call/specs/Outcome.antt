@@ -20,7 +20,7 @@ use Rattle.command_words.specs.declared.command.Command.{Command}
 use Rattle.command_words.specs.declared.command.Command.TheVariants.{Run, Generate}
 use Rattle.capture_generator.specs.Generator.{generated_capture}
 use Rattle.capture_generator.specs.Counts.{counts_text}
-use Rattle.node_engine.specs.Right.{IsRight}
+use Rattle.right_book.specs.Right.{IsRight}
 use Rattle.book_law.specs.Sequential.{IsSequential}
 
 -- The bytes that a device tells before a call and after it: those that a source still has, or those that a sink holds.

@@ -5,7 +5,7 @@ ghost use Rattle.relay_base.specs.declared.limits.TheConstants.{MOST_GENERATED_L
 ghost use Rattle.journal_text.specs.Book.{IsEmpty};
 ghost use Rattle.node_head.specs.Ranges.{IsHead};
 ghost use Rattle.capture_form.specs.Events.{all_events, IsStamped};
-ghost use Rattle.node_engine.specs.Right.{IsRight};
+ghost use Rattle.right_book.specs.Right.{IsRight};
 ghost use Rattle.command_words.specs.Commands.{command_in};
 ghost use Rattle.command_words.specs.declared.command.Command.TheVariants.{Run, Generate};
 ghost use Rattle.capture_generator.specs.Generator.{generated_capture};

@@ -2,7 +2,7 @@
 ghost use Rattle.std.specs.Prelude.{◌<◌};
 
 use capture_form::Book;
-use relay_base::{MemSink, MemSource, NoPace};
+use relay_base::{MemSink, MemSource, NoPace, Pace};
 use relay_call::relay;
 use std::alloc::{AllocError, Global};
 use std::process::Abort;
@@ -66,6 +66,18 @@ pub fn call<R: Threads + Wait + Sync>(
     text: &[u8],
     devices: [Device; 3],
 ) -> Result<Ran, AllocError> {
+    call_at(rt, alloc, words, text, devices, &NoPace)
+}
+
+/// The same, at a pace.
+pub fn call_at<R: Threads + Wait + Sync, P: Pace>(
+    rt: &R,
+    alloc: Global,
+    words: &[&str],
+    text: &[u8],
+    devices: [Device; 3],
+    pace: &P,
+) -> Result<Ran, AllocError> {
     let words = words_of(alloc, words)?;
     let mut source = source_of(alloc, text, devices[0])?;
     let mut out = sink_of(alloc, devices[1])?;
@@ -78,7 +90,7 @@ pub fn call<R: Threads + Wait + Sync>(
         &mut source,
         &mut out,
         &mut notes,
-        &NoPace,
+        pace,
         &mut book,
     );
     Ok(Ran {

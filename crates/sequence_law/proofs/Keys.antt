@@ -20,7 +20,7 @@ use Rattle.capture_form.specs.declared.lane_place.LanePlace.{LanePlace}
 use Rattle.capture_form.specs.declared.lane_place.LanePlace.TheVariants.{Control, Unit as Data}
 use Rattle.capture_form.specs.Events.{Stamped}
 use Rattle.capture_form.specs.Place.{place_of, place_of_event, place_of_message, place_of_request, place_of_octets, place_of_reading}
-use Rattle.node_engine.specs.Placed.{taken, placed}
+use Rattle.right_book.specs.Placed.{taken, placed}
 use Rattle.sequence_law.specs.SequenceLaw.{is_unit, reads_as_unit, asks_unit, is_of_key, events_on, lane_of}
 
 -- A key has its place.

@@ -8,8 +8,8 @@ use Rattle.std.proofs.lemmas.List.Elements.{filter_agree}
 use Rattle.relay_base.specs.declared.words.Stamp.{Stamp}
 use Rattle.plant_core.specs.declared.entry.ControlEvent.{ControlEvent}
 use Rattle.capture_form.specs.Events.{Stamped, is_at}
-use Rattle.node_engine.specs.Own.{HasEventsInOrder}
-use Rattle.node_engine.proofs.ListLemmas.{weaker}
+use Rattle.right_book.specs.Own.{HasEventsInOrder}
+use Rattle.right_book.proofs.ListLemmas.{weaker}
 use Rattle.sequence_law.specs.SequenceLaw.{on_link, events_on}
 
 abbrev Event : Type 0

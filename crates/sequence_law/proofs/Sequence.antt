@@ -8,11 +8,11 @@ use Rattle.journal_text.specs.declared.book.Book.{Book}
 use Rattle.capture_form.specs.Events.{Stamped}
 use Rattle.capture_form.specs.Place.{place_of}
 use Rattle.unit_law.proofs.Owning.{are_own}
-use Rattle.node_engine.specs.Own.{pairs_of}
-use Rattle.node_engine.specs.Heads.{lane_head_of}
-use Rattle.node_engine.specs.Placed.{in_data, taken, placed}
-use Rattle.node_engine.specs.Lanes.{LanesFrom, IsServed, data_kind}
-use Rattle.node_engine.specs.Right.{IsRight}
+use Rattle.right_book.specs.Own.{pairs_of}
+use Rattle.right_book.specs.Heads.{lane_head_of}
+use Rattle.right_book.specs.Placed.{in_data, taken, placed}
+use Rattle.right_book.specs.Lanes.{LanesFrom, IsServed, data_kind}
+use Rattle.right_book.specs.Right.{IsRight}
 use Rattle.sequence_law.specs.SequenceLaw.{is_of_key, of_key, on_link, events_on, lane_of, SequenceLaw}
 use Rattle.sequence_law.proofs.Links.{link_in_order}
 use Rattle.sequence_law.proofs.Keys.{filter_within, filter_apart, link_taken, key_in}

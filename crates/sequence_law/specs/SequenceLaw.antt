@@ -18,9 +18,9 @@ use Rattle.node_head.specs.declared.head.Head.{Head}
 use Rattle.journal_text.specs.declared.book.Book.{Book}
 use Rattle.capture_form.specs.Events.{Stamped}
 use Rattle.unit_law.specs.OwnOutputs.{StandsAlone, outputs_after}
-use Rattle.node_engine.specs.Own.{pairs_of}
-use Rattle.node_engine.specs.Heads.{lane_head_of}
-use Rattle.node_engine.specs.Right.{IsRight}
+use Rattle.right_book.specs.Own.{pairs_of}
+use Rattle.right_book.specs.Heads.{lane_head_of}
+use Rattle.right_book.specs.Right.{IsRight}
 
 -- a unit or a service message, but none of management
 abbrev pub is_unit : Message → Bool

@@ -1,9 +1,9 @@
 use Rattle.std.proofs.Common.{◌≡◌, ◌∙◌, ◌+◌, [], ◌∷◌, length, sym, ap, subst, arith, length-append}
 use Rattle.std.specs.List.{AllByRecursion}
 use Rattle.conn_lane.specs.Lanes.{ConnLaneState}
-use Rattle.node_engine.specs.Lanes.{LanesFrom}
+use Rattle.right_book.specs.Lanes.{LanesFrom}
 use Rattle.node_engine.specs.Running.{IsConnLaneOf}
-use Rattle.node_engine.proofs.ListLemmas.{all-push, lanes-push}
+use Rattle.right_book.proofs.ListLemmas.{all-push, lanes-push}
 use Rattle.node_engine.proofs.node.conn_lanes.Goals as goal
 
 pub loop-number-preserved : goal.loop-number-preserved

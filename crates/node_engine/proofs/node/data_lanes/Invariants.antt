@@ -1,6 +1,6 @@
 use Rattle.std.proofs.Common.{◌≡◌, [], length}
 use Rattle.std.specs.List.{AllByRecursion}
-use Rattle.node_engine.specs.Lanes.{LanesFrom}
+use Rattle.right_book.specs.Lanes.{LanesFrom}
 use Rattle.node_engine.specs.Running.{IsDataLaneOf}
 use Rattle.node_engine.proofs.node.data_lanes.Given as goal
 

@@ -2,9 +2,9 @@ use Rattle.capture_form.specs.Events.{all_events}
 use Rattle.node_engine.proofs.RightLemmas.{first-can, first-served}
 use Rattle.node_engine.proofs.run.node_after.Goals as goal
 
-pub run_phases-requires-clause-able : goal.run_phases-requires-clause-able
-run_phases-requires-clause-able g c = λ lifetimes bounds.
+pub node_run-requires-clause-able : goal.node_run-requires-clause-able
+node_run-requires-clause-able g c = λ lifetimes bounds.
     first-can c.args.capture.now.head (all_events c.args.capture.now.phases) c.in_ok-node.node c.requires.head c.requires.few c.in_ok-node.ensures
 
-pub run_phases-requires-clause-served : goal.run_phases-requires-clause-served
-run_phases-requires-clause-served g c = λ lifetimes bounds. first-served c.args.capture.now.head c.in_ok-node.node c.in_ok-node.ensures
+pub node_run-requires-clause-served : goal.node_run-requires-clause-served
+node_run-requires-clause-served g c = λ lifetimes bounds. first-served c.args.capture.now.head c.in_ok-node.node c.in_ok-node.ensures

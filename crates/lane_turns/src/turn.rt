@@ -1,0 +1,116 @@
+//! A lane in its gate.
+ghost use Rattle.std.specs.Prelude.{◌≡◌, length};
+ghost use Rattle.capture_form.specs.Events.{phase_events};
+ghost use Rattle.lane_turns.specs.Turns.{HasRoom, IsNamed, IsTurn, opened_turn};
+
+use crate::given::Given;
+use crate::lane_name::LaneName;
+use crate::phase_lane::{LaneView, PhaseLane};
+use capture_form::Phase;
+use lane_gate::LaneState;
+use mark::Mark;
+use node_head::Head;
+use relay_base::{Memory, Stamp};
+use std::marker::Model;
+use std::sync::Wait;
+
+/// A lane, with the phase whose events it takes.
+pub struct LaneTurn<'p, 'r, R: Wait> {
+    head: &'p Head,
+    phase: &'p Phase,
+    name: LaneName,
+    /// The lane as it was at the opening, which clauses alone read.
+    first: Mark<LaneView>,
+    lane: PhaseLane<'r, R>,
+}
+
+impl<'p, 'r, R: Wait> Model for LaneTurn<'p, 'r, R> {
+    ghost use Rattle.lane_turns.specs.Turns.{TurnState, IsTurn, turn_of};
+
+    ghost Value = { TurnState };
+
+    ghost view = { λ t. turn_of t.head.now t.phase.now t.name t.first.value t.lane };
+
+    ghost invariant = { λ t. IsTurn (turn_of t.head.now t.phase.now t.name t.first.value t.lane) };
+}
+
+impl<'p, 'r, R: Wait> Drop for LaneTurn<'p, 'r, R> {
+    fn drop(self) {
+        let Self {
+            head: _,
+            phase: _,
+            name: _,
+            first: _,
+            lane: _lane,
+        } = self;
+    }
+}
+
+/// A mark of a lane that a proof chooses by the lane that is seen.
+fn mark_by<'r, R: Wait>(lane: &PhaseLane<'r, R>) -> Mark<LaneView>
+    ghost v: { LaneView }
+    ensures { result.value ≡ v }
+{
+    let _ = lane;
+    Mark::after(&0u8)
+}
+
+impl<'p, 'r, R: Wait> LaneTurn<'p, 'r, R> {
+    /// The lane of a name, before the first event of the phase.
+    pub fn new(
+        head: &'p Head,
+        phase: &'p Phase,
+        name: LaneName,
+        lane: PhaseLane<'r, R>,
+    ) -> LaneTurn<'p, 'r, R>
+        requires named { IsNamed name lane }
+        requires room { HasRoom (length (phase_events phase.now)) lane }
+        ensures { result ≡ opened_turn head.now phase.now name lane.entry }
+    {
+        let first = mark_by(&lane);
+        LaneTurn {
+            head,
+            phase,
+            name,
+            first,
+            lane,
+        }
+    }
+
+    pub fn name(&self) -> LaneName
+        ensures { result ≡ self.now.opening.name }
+    {
+        self.name
+    }
+
+    /// The lane, with what its type kept.
+    pub fn into_lane(self) -> PhaseLane<'r, R>
+        ensures lane { result ≡ self.entry.lane }
+        ensures turn { IsTurn self.entry }
+    {
+        let Self {
+            head: _,
+            phase: _,
+            name: _,
+            first: _,
+            lane,
+        } = self;
+        lane
+    }
+}
+
+impl<'p, 'r, R: Wait> LaneState for LaneTurn<'p, 'r, R> {
+    ghost use Rattle.lane_turns.specs.Turns.{Opening, plan_of, taken_of};
+
+    type Event = Given<'p>;
+
+    ghost Base = { Opening };
+
+    ghost plan = { plan_of };
+
+    ghost taken = { taken_of };
+
+    fn take_turn(&mut self, stamp: Stamp, event: &Given<'p>) -> Result<(), Memory> {
+        self.lane.step(stamp, event.get())
+    }
+}

@@ -1,0 +1,6 @@
+pub mod Own
+pub mod Placed
+pub mod Heads
+pub mod Editions
+pub mod Lanes
+pub mod Right
