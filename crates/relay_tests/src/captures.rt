@@ -1,5 +1,5 @@
 //! Captures of management, of several links, and of many connections.
-use crate::running::{SOUND, assert_run, call};
+use crate::running::{SOUND, assert_run, call, count_of};
 use std::alloc::{AllocError, Global};
 use std::test::Fail;
 
@@ -166,17 +166,6 @@ fn realistic(alloc: Global) -> Result<String, AllocError> {
         writeln!(text, "m {link} 200 3 04{mine:02x}0000{r:02x}00000000")?;
     }
     Ok(text)
-}
-
-/// How many lines begin so.
-fn count_of(print: &[u8], start: &[u8]) -> usize {
-    let mut count = 0usize;
-    for line in print.split(|byte| *byte == b'\n') {
-        if line.starts_with(start) {
-            count = count.saturating_add(1);
-        }
-    }
-    count
 }
 
 #[test]

@@ -12,4 +12,6 @@ mod rows;
 #[cfg(test)]
 mod running;
 #[cfg(test)]
+mod slots;
+#[cfg(test)]
 mod texts;

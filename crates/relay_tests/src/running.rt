@@ -121,3 +121,14 @@ pub fn assert_run<R: Threads + Wait + Sync + Abort>(
     assert_left(rt, &ran, status, out.as_bytes(), notes.as_bytes());
     Ok(())
 }
+
+/// How many lines of a print begin so.
+pub fn count_of(print: &[u8], start: &[u8]) -> usize {
+    let mut count = 0usize;
+    for line in print.split(|byte| *byte == b'\n') {
+        if line.starts_with(start) {
+            count = count.saturating_add(1);
+        }
+    }
+    count
+}
