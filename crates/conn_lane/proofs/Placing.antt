@@ -1,12 +1,14 @@
 -- The connections by their numbers, once one is as it is next, is over, or is opened.
-use Rattle.std.proofs.Common.{◌≡◌, ◌≢◌, ◌⊎◌, ℕ, suc, ◌+◌, ◌<◌, ◌≤◌, ◌==◌, true, false, OnOk, Ok, Err, List, [], ◌∷◌, ◌++◌, length, map, get_or, set, Option, Some, None, inl, inr, refl, sym, subst, ap, ap₂, ◌∙◌, arith}
-use Rattle.std.specs.Prelude.{option_map, is_some, min, IsOk}
+use Rattle.std.proofs.Common.{◌≡◌, ◌≢◌, ℕ, suc, ◌+◌, ◌-◌, ◌<◌, ◌≤◌, ◌==◌, true, false, OnOk, Ok, Err, List, [], ◌∷◌, ◌++◌, length, map, get_or, set, Option, Some, None, inl, inr, refl, sym, subst, ap, ap₂, ◌∙◌, arith}
+use Rattle.std.specs.Prelude.{option_map, is_some, min, nat_eq, IsOk}
 use Rattle.std.specs.declared.result.Result.{Result}
 use Rattle.std.specs.List.{range_with_len}
+use Rattle.std.specs.HashMap.{HashMap, get as place_at, spare, Updates as MapUpdates}
 use Rattle.std.proofs.lemmas.Bool.{cases_lt, cases_eq, ne_eqb}
 use Rattle.std.proofs.lemmas.List.{length-set, get_or_past, get_or-set_same, get_or-set_other}
 use Rattle.std.proofs.lemmas.List.FromFn.{length-map-range_with_len, get_or-map-range_with_len, map-range_with_len_more}
 use Rattle.std.proofs.lemmas.Option.{same_Some}
+use Rattle.slab.specs.Slab.{Slab, get as placed_at, slab_len, Updates as SlabUpdates}
 use Rattle.section_coupling.specs.Duos.{DuoState}
 use Rattle.conn_lane.specs.declared.kept.Placed.{Placed}
 use Rattle.conn_lane.specs.Inner.Placing.{one_in, one_of, kept_in, IsOfNumber, ArePlaced}
@@ -104,7 +106,7 @@ of_other placed new places opened n place value are here put k differs = by_plac
         ap (option_map (λ p. p.one))
         (put.others q (λ e. differs (number_at placed k n q (are.found k q is) (subst (λ x. IsOfNumber n (placed x)) (sym e) (are.found n place here)))))
 
-pub put_next : (placed new : ℕ → Option Placed) (places : ℕ → Option ℕ) (opened n place : ℕ) (one : DuoState) → ArePlaced placed places opened → places n ≡ Some place
+put_next : (placed new : ℕ → Option Placed) (places : ℕ → Option ℕ) (opened n place : ℕ) (one : DuoState) → ArePlaced placed places opened → places n ≡ Some place
     → Updated placed new place (Some (record { number = n; one = one })) → Placing new places opened (set (kept_in placed places opened) n (Some one))
 put_next placed new places opened n place one are here put =
     record {
@@ -158,7 +160,7 @@ put_none placed new places fewer opened n place are here put left =
     apart number q is e =
         not_it number q is (number_at placed number n q (are.found number q (was number q is)) (subst (λ x. IsOfNumber n (placed x)) (sym e) (are.found n place here)))
 
-pub put_more : (placed new : ℕ → Option Placed) (places more : ℕ → Option ℕ) (opened place : ℕ) (one : DuoState) → ArePlaced placed places opened → placed place ≡ None
+put_more : (placed new : ℕ → Option Placed) (places more : ℕ → Option ℕ) (opened place : ℕ) (one : DuoState) → ArePlaced placed places opened → placed place ≡ None
     → Updated placed new place (Some (record { number = opened; one = one })) → Updated places more opened (Some place)
     → Placing new more (opened + 1) (kept_in placed places opened ++ Some one ∷ [])
 put_more placed new places more opened place one are vacant put taken =
@@ -204,12 +206,36 @@ put_more placed new places more opened place one are vacant put taken =
 pub isnt_kept : (x : Option DuoState) → x ≡ None → is_some x ≡ true → ⊥
 isnt_kept x none some = absurd (cc)
 
-pub from_ok : {A E : Type 0} (r : Result A E) (P : Type 0) → IsOk r → OnOk r P → P
+from_ok : {A E : Type 0} (r : Result A E) (P : Type 0) → IsOk r → OnOk r P → P
 from_ok (Ok a) P ok p = p
 from_ok (Err e) P ok p = absurd (cc)
 
-pub room_left : (places spare room : ℕ) → min places spare ≡ room → 1 ≤ room → 0 < spare
+room_left : (places spare room : ℕ) → min places spare ≡ room → 1 ≤ room → 0 < spare
 room_left places spare room is some = grind (arith, is, some)
 
 pub apart_from : (a b : ℕ) → b ≢ a → (a == b) ≡ false
 apart_from a b differs = ne_eqb a b (λ e. differs (sym e))
+
+-- By the slab and the map themselves.
+
+-- one more, where there is room for it
+pub put_opened : {A E S : Type 0} (placed new : Slab Placed) (places more : HashMap ℕ ℕ S) (opened place room : ℕ) (one : DuoState) (r : Result A E)
+    → ArePlaced (placed_at placed) (place_at nat_eq places) opened → placed_at placed place ≡ None → SlabUpdates placed new place (Some (record { number = opened; one = one }))
+    → min (placed.capacity - slab_len placed) (spare places) ≡ room → 1 ≤ room → (0 < spare places → IsOk r) → OnOk r (MapUpdates nat_eq places more opened (Some place))
+    → Placing (placed_at new) (place_at nat_eq more) (opened + 1) (kept_in (placed_at placed) (place_at nat_eq places) opened ++ Some one ∷ [])
+put_opened placed new places more opened place room one r are vacant put is some succeeds updates =
+    let known = from_ok r (MapUpdates nat_eq places more opened (Some place)) (succeeds (room_left (placed.capacity - slab_len placed) (spare places) room is some)) updates in
+    put_more (placed_at placed) (placed_at new) (place_at nat_eq places) (place_at nat_eq more) opened place one are vacant (record { changed = put.changed; others = put.others })
+    (record { changed = known.1; others = λ q differs. known.2 q (apart_from opened q differs) })
+
+-- another in the place that one leaves
+pub put_anew : {S : Type 0} (placed left new : Slab Placed) (places : HashMap ℕ ℕ S) (opened n place key : ℕ) (one : DuoState)
+    → ArePlaced (placed_at placed) (place_at nat_eq places) opened → place_at nat_eq places n ≡ Some place → SlabUpdates placed left place None
+    → key ≡ place → SlabUpdates left new key (Some (record { number = n; one = one }))
+    → Placing (placed_at new) (place_at nat_eq places) opened (set (kept_in (placed_at placed) (place_at nat_eq places) opened) n (Some one))
+put_anew placed left new places opened n place key one are here leaves same put =
+    put_next (placed_at placed) (placed_at new) (place_at nat_eq places) opened n place one are here
+    (record {
+      changed = ap (placed_at new) (sym same) ∙ put.changed;
+      others = λ q differs. put.others q (λ e. differs (e ∙ same)) ∙ leaves.others q differs;
+    })

@@ -1,4 +1,4 @@
-use Rattle.std.proofs.Common.{◌≡◌, None, Some, nat_eq, get_or, sym, ap, ◌∙◌}
+use Rattle.std.proofs.Common.{None, nat_eq, get_or, sym, ap, ◌∙◌}
 use Rattle.std.specs.Prelude.{option_map, option_copied}
 use Rattle.std.specs.HashMap.{get as place_at}
 use Rattle.slab.specs.Slab.{get as placed_at}

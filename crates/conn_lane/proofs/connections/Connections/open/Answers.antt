@@ -1,9 +1,9 @@
-use Rattle.std.proofs.Common.{◌≡◌, ◌-◌, ◌++◌, ◌∷◌, [], Some, length, nat_eq, sym, ap, ◌∙◌, arith}
+use Rattle.std.proofs.Common.{◌++◌, ◌∷◌, [], Some, length, nat_eq, ap, ◌∙◌, arith}
 use Rattle.std.proofs.lemmas.List.FromFn.{length-map-range_with_len}
-use Rattle.std.specs.HashMap.{get as place_at, spare, Updates}
-use Rattle.slab.specs.Slab.{get as placed_at, slab_len}
+use Rattle.std.specs.HashMap.{get as place_at}
+use Rattle.slab.specs.Slab.{get as placed_at}
 use Rattle.conn_lane.specs.Inner.Placing.{one_of}
-use Rattle.conn_lane.proofs.Placing.{Updated, put_more, from_ok, room_left, apart_from}
+use Rattle.conn_lane.proofs.Placing.{put_opened}
 use Rattle.conn_lane.proofs.connections.Connections.open.Goals as goal
 
 pub overflow_add-self : goal.overflow_add-self
@@ -17,31 +17,13 @@ overflow_add-self c =
 
 pub invariant_of-self : goal.invariant_of-self
 invariant_of-self c =
-    let placed = placed_at c.self.inside.placed in
-    let new = placed_at c.insert_reserved-place.new.self in
-    let places = place_at nat_eq c.self.inside.places in
-    let more = place_at nat_eq c.insert-known.new.self in
-    let opened = c.self.inside.opened in
-    let place = c.insert_reserved-place.result in
-    let known = from_ok c.insert-known.result (Updates nat_eq c.self.inside.places c.insert-known.new.self opened (Some place))
-    (c.insert-known.ensures.succeeds (room_left (c.self.inside.placed.capacity - slab_len c.self.inside.placed) (spare c.self.inside.places) c.args.self.now.room (ap (λ v. v.room) c.self.view_is) c.requires.room))
-    c.insert-known.ensures.updates in
-    (put_more placed new places more opened place c.args.one c.self.invariant c.insert_reserved-place.ensures.was_vacant
-    (record { changed = c.insert_reserved-place.ensures.updates.changed; others = c.insert_reserved-place.ensures.updates.others })
-    (record { changed = known.1; others = λ q differs. known.2 q (apart_from opened q differs) })).are
+    (put_opened c.self.inside.placed c.insert_reserved-place.new.self c.self.inside.places c.insert-known.new.self c.self.inside.opened c.insert_reserved-place.result c.args.self.now.room c.args.one
+    c.insert-known.result c.self.invariant c.insert_reserved-place.ensures.was_vacant c.insert_reserved-place.ensures.updates (ap (λ v. v.room) c.self.view_is) c.requires.room
+    c.insert-known.ensures.succeeds c.insert-known.ensures.updates).are
 
 pub returns : goal.returns
 returns c =
-    let placed = placed_at c.self.inside.placed in
-    let new = placed_at c.insert_reserved-place.new.self in
-    let places = place_at nat_eq c.self.inside.places in
-    let more = place_at nat_eq c.insert-known.new.self in
-    let opened = c.self.inside.opened in
-    let place = c.insert_reserved-place.result in
-    let known = from_ok c.insert-known.result (Updates nat_eq c.self.inside.places c.insert-known.new.self opened (Some place))
-    (c.insert-known.ensures.succeeds (room_left (c.self.inside.placed.capacity - slab_len c.self.inside.placed) (spare c.self.inside.places) c.args.self.now.room (ap (λ v. v.room) c.self.view_is) c.requires.room))
-    c.insert-known.ensures.updates in
-    (put_more placed new places more opened place c.args.one c.self.invariant c.insert_reserved-place.ensures.was_vacant
-    (record { changed = c.insert_reserved-place.ensures.updates.changed; others = c.insert_reserved-place.ensures.updates.others })
-    (record { changed = known.1; others = λ q differs. known.2 q (apart_from opened q differs) })).kept_is
+    (put_opened c.self.inside.placed c.insert_reserved-place.new.self c.self.inside.places c.insert-known.new.self c.self.inside.opened c.insert_reserved-place.result c.args.self.now.room c.args.one
+    c.insert-known.result c.self.invariant c.insert_reserved-place.ensures.was_vacant c.insert_reserved-place.ensures.updates (ap (λ v. v.room) c.self.view_is) c.requires.room
+    c.insert-known.ensures.succeeds c.insert-known.ensures.updates).kept_is
     ∙ ap (λ v. v.kept ++ Some c.args.one ∷ []) c.self.view_is

@@ -1,9 +1,9 @@
-use Rattle.std.proofs.Common.{◌≡◌, None, Some, nat_eq, get_or, set, refl, sym, subst, ap, ap₂, ◌∙◌}
-use Rattle.std.specs.Prelude.{is_some, IsSome}
+use Rattle.std.proofs.Common.{None, nat_eq, get_or, set, refl, sym, subst, ap, ap₂, ◌∙◌}
+use Rattle.std.specs.Prelude.{IsSome}
 use Rattle.std.specs.HashMap.{get as place_at}
 use Rattle.slab.specs.Slab.{get as placed_at}
 use Rattle.conn_lane.specs.Inner.Placing.{one_in}
-use Rattle.conn_lane.proofs.Placing.{one_kept, put_next, put_none, isnt_kept, apart_from}
+use Rattle.conn_lane.proofs.Placing.{one_kept, put_anew, put_none, isnt_kept, apart_from}
 use Rattle.conn_lane.proofs.connections.Connections.put.Goals as goal
 
 pub returns-in_default : goal.returns-in_default
@@ -22,29 +22,15 @@ remove-requires c =
 
 pub invariant_of-self : goal.invariant_of-self
 invariant_of-self c =
-    let placed = placed_at c.self.inside.placed in
-    let new = placed_at c.insert_reserved.new.self in
-    let places = place_at nat_eq c.self.inside.places in
-    let place = c.in-Some.place in
-    let key : c.insert_reserved.result ≡ place = c.insert_reserved.ensures.key ∙ c.remove.ensures.key_is_next in
-    (put_next placed new places c.self.inside.opened c.args.number place c.in-Some-one.one c.self.invariant (sym c.get.ensures.value ∙ (sym c.copied.ensures ∙ c.in-Some.is))
-    (record {
-      changed = ap new (sym key) ∙ c.insert_reserved.ensures.updates.changed;
-      others = λ q differs. c.insert_reserved.ensures.updates.others q (λ e. differs (e ∙ key)) ∙ c.remove.ensures.updates.others q differs;
-    })).are
+    (put_anew c.self.inside.placed c.remove.new.self c.insert_reserved.new.self c.self.inside.places c.self.inside.opened c.args.number c.in-Some.place c.insert_reserved.result c.in-Some-one.one
+    c.self.invariant (sym c.get.ensures.value ∙ (sym c.copied.ensures ∙ c.in-Some.is)) c.remove.ensures.updates
+    (c.insert_reserved.ensures.key ∙ c.remove.ensures.key_is_next) c.insert_reserved.ensures.updates).are
 
 pub returns-in-Some-one : goal.returns-in-Some-one
 returns-in-Some-one c =
-    let placed = placed_at c.self.inside.placed in
-    let new = placed_at c.insert_reserved.new.self in
-    let places = place_at nat_eq c.self.inside.places in
-    let place = c.in-Some.place in
-    let key : c.insert_reserved.result ≡ place = c.insert_reserved.ensures.key ∙ c.remove.ensures.key_is_next in
-    (put_next placed new places c.self.inside.opened c.args.number place c.in-Some-one.one c.self.invariant (sym c.get.ensures.value ∙ (sym c.copied.ensures ∙ c.in-Some.is))
-    (record {
-      changed = ap new (sym key) ∙ c.insert_reserved.ensures.updates.changed;
-      others = λ q differs. c.insert_reserved.ensures.updates.others q (λ e. differs (e ∙ key)) ∙ c.remove.ensures.updates.others q differs;
-    })).kept_is
+    (put_anew c.self.inside.placed c.remove.new.self c.insert_reserved.new.self c.self.inside.places c.self.inside.opened c.args.number c.in-Some.place c.insert_reserved.result c.in-Some-one.one
+    c.self.invariant (sym c.get.ensures.value ∙ (sym c.copied.ensures ∙ c.in-Some.is)) c.remove.ensures.updates
+    (c.insert_reserved.ensures.key ∙ c.remove.ensures.key_is_next) c.insert_reserved.ensures.updates).kept_is
     ∙ ap₂ (λ xs x. set xs c.args.number x) (ap (λ v. v.kept) c.self.view_is) (sym c.in-Some-one.is)
 
 pub invariant_of-self-in-None : goal.invariant_of-self-in-None
