@@ -20,7 +20,9 @@ mod Opened
 mod LaneGrows
 mod Became
 mod Hears
+mod Wheels
 mod Woken
+mod Quiet
 mod Wakings
 mod Reached
 pub mod Sent

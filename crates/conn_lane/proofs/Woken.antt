@@ -1,191 +1,172 @@
 -- The timers of a lane once a connection is as it is next, or a tick is taken.
-use Rattle.std.proofs.Common.{◌≡◌, ℕ, zero, suc, ◌+◌, ◌-◌, ◌==◌, ◌<◌, ◌≤◌, ◌||◌, not, Bool, true, false, List, [], ◌∷◌, ◌++◌, length, filter, get_or, set, All, Option, Some, None, refl, sym, subst, ap, arith, length-append}
-use Rattle.std.specs.Prelude.{min, max, nat_lt, IfSome}
+use Rattle.std.proofs.Common.{◌≡◌, ℕ, pred, ◌+◌, ◌-◌, ◌/◌, ◌%◌, ◌==◌, ◌<◌, ◌≤◌, Bool, true, false, List, [], ◌∷◌, length, get_or, set, option_to_list, Option, Some, None, inl, inr, refl, sym, subst, ap, ◌∙◌, arith}
+use Rattle.std.specs.Prelude.{option_map, IfSome}
 use Rattle.std.specs.List.{list_any}
-use Rattle.std.proofs.lemmas.Bool.{both_ways, or_left, or_right}
-use Rattle.std.proofs.lemmas.List.{length-map}
-use Rattle.std.proofs.lemmas.List.Elements.{All-nil, All-cons, All-head, All-tail}
+use Rattle.std.proofs.lemmas.List.{get_or-set_same, get_or-set_other}
+use Rattle.std.proofs.lemmas.Bool.{both_ways, false_from_ne_true, cases_eq, ne_eqb, or_parts}
 use Rattle.timer_wheel.specs.declared.due.Due.{Due}
-use Rattle.timer_wheel.specs.Order.{is_before}
-use Rattle.timer_wheel.specs.Timers.{Armed, is_timer, before, behind, lowered, after_tick}
-use Rattle.timer_wheel.proofs.Order.{before-asym}
-use Rattle.section_coupling.specs.Duos.{DuoState}
-use Rattle.conn_lane.specs.Inner.Views.{Sleeps, first_tick, wakes_in}
-use Rattle.conn_lane.specs.Inner.Waking.{waking, woken_in, HasTimer, FiresFor, IsTimely}
-
--- Lists.
-
-pub all_kept : {X : Type 0} (p : X → Bool) (P Q : X → Type 0) → ((x : X) → p x ≡ true → P x → Q x) → (xs : List X) → All P xs → All Q (filter p xs)
-all_kept p P Q more [] all = All-nil Q
-all_kept p P Q more (x ∷ xs) all = by_test (p x) refl (all_kept p P Q more xs (All-tail P x xs all))
-  where
-    by_test : (b : Bool) → p x ≡ b → All Q (filter p xs) → All Q (filter p (x ∷ xs))
-    by_test true is rest = rw is (All-cons Q x (filter p xs) (more x is (All-head P x xs all)) rest)
-    by_test false is rest = rw is rest
-
-all_append : {X : Type 0} (P : X → Type 0) (xs ys : List X) → All P xs → All P ys → All P (xs ++ ys)
-all_append P [] ys front rest = rest
-all_append P (x ∷ xs) ys front rest = All-cons P x (xs ++ ys) (All-head P x xs front) (all_append P xs ys (All-tail P x xs front) rest)
-
-any_kept : {X : Type 0} (test p : X → Bool) → ((x : X) → test x ≡ true → p x ≡ true) → (xs : List X) → list_any test xs ≡ true → list_any test (filter p xs) ≡ true
-any_kept test p more [] any = any
-any_kept test p more (x ∷ xs) any = by_test (test x) (p x) refl refl any (λ e. any_kept test p more xs e)
-  where
-    by_test : (a b : Bool) → test x ≡ a → p x ≡ b → (a || list_any test xs) ≡ true → (list_any test xs ≡ true → list_any test (filter p xs) ≡ true) → list_any test (filter p (x ∷ xs)) ≡ true
-    by_test true true is so e rest = rw so (or_left (test x) (list_any test (filter p xs)) is)
-    by_test true false is so e rest = absurd (both_ways (p x) so (more x is))
-    by_test false true is so e rest = rw so (or_right (test x) (list_any test (filter p xs)) (rest e))
-    by_test false false is so e rest = rw so (rest e)
-
-any_front : {X : Type 0} (test : X → Bool) (xs ys : List X) → list_any test xs ≡ true → list_any test (xs ++ ys) ≡ true
-any_front test [] ys any = absurd (cc)
-any_front test (x ∷ xs) ys any = by_test (test x) any (λ e. any_front test xs ys e)
-  where
-    by_test : (a : Bool) → (a || list_any test xs) ≡ true → (list_any test xs ≡ true → list_any test (xs ++ ys) ≡ true) → (a || list_any test (xs ++ ys)) ≡ true
-    by_test true e rest = refl
-    by_test false e rest = rest e
-
-any_rest : {X : Type 0} (test : X → Bool) (xs ys : List X) → list_any test ys ≡ true → list_any test (xs ++ ys) ≡ true
-any_rest test [] ys any = any
-any_rest test (x ∷ xs) ys any = or_right (test x) (list_any test (xs ++ ys)) (any_rest test xs ys any)
-
-get_set : {X : Type 0} (xs : List X) (n : ℕ) (x d : X) → n < length xs → get_or (set xs n x) n d ≡ x
-get_set [] n x d within = absurd (omega (arith, within))
-get_set (y ∷ xs) zero x d within = refl
-get_set (y ∷ xs) (suc n) x d within = get_set xs n x d (omega (arith, within))
-
-get_other : {X : Type 0} (xs : List X) (n m : ℕ) (x d : X) → (m ≡ n → ⊥) → get_or (set xs n x) m d ≡ get_or xs m d
-get_other [] n m x d apart = refl
-get_other (y ∷ xs) zero zero x d apart = absurd (apart refl)
-get_other (y ∷ xs) zero (suc m) x d apart = refl
-get_other (y ∷ xs) (suc n) zero x d apart = refl
-get_other (y ∷ xs) (suc n) (suc m) x d apart = get_other xs n m x d (λ e. apart (ap suc e))
-
--- Room.
-
-pub kept_length : {X : Type 0} (p : X → Bool) (xs : List X) → length (filter p xs) ≤ length xs
-kept_length p [] = omega arith
-kept_length p (x ∷ xs) = by_test (p x) refl (kept_length p xs)
-  where
-    by_test : (b : Bool) → p x ≡ b → length (filter p xs) ≤ length xs → length (filter p (x ∷ xs)) ≤ length (x ∷ xs)
-    by_test true is rest = rw is (omega (arith, rest))
-    by_test false is rest = rw is (omega (arith, rest))
-
-parted_length : (due : Due) (xs : List Armed) → length (before due xs) + length (behind due xs) ≤ length xs
-parted_length due [] = omega arith
-parted_length due (x ∷ xs) = by_test (is_before x.due due) (is_before due x.due) refl refl (parted_length due xs)
-  where
-    by_test : (a b : Bool) → is_before x.due due ≡ a → is_before due x.due ≡ b → length (before due xs) + length (behind due xs) ≤ length xs → length (before due (x ∷ xs)) + length (behind due (x ∷ xs)) ≤ length (x ∷ xs)
-    by_test true true is so rest = absurd (both_ways (is_before due x.due) (before-asym x.due due is) so)
-    by_test true false is so rest = rw (is, so) (omega (arith, rest))
-    by_test false true is so rest = rw (is, so) (omega (arith, rest))
-    by_test false false is so rest = rw (is, so) (omega (arith, rest))
-
-pub woken_length : (taken number : ℕ) (one : Option DuoState) (armed : List Armed) → length (woken_in taken number one armed) ≤ length armed + 1
-woken_length taken number None armed = omega (arith, kept_length (λ a. not (is_timer (waking number) a)) armed)
-woken_length taken number (Some d) armed =
-    let new : Armed = record { due = waking number; ticks = wakes_in taken d } in
-    omega (arith, length-append (before (waking number) armed) (new ∷ behind (waking number) armed), parted_length (waking number) armed)
-
-pub tick_length : (armed : List Armed) → length (after_tick armed) ≤ length armed
-tick_length armed =
-    omega (arith, length-map (filter (λ (a : Armed). not (a.ticks == 1)) armed) lowered, kept_length (λ (a : Armed). not (a.ticks == 1)) armed)
+use Rattle.timer_wheel.specs.Timers.{Armed, timer_of, due_now, after_tick}
+use Rattle.section_model.specs.declared.cell.Timer.{Timer}
+use Rattle.section_model.specs.declared.cell.Timer.TheVariants.{Connect, Reset, Iar, Ias, Rel, Int, Repeat}
+use Rattle.section_model.specs.Ends.{End, wire, owner, Connection}
+use Rattle.section_model.specs.Timing.{timer_in}
+use Rattle.section_model.specs.Step.{is_due_at, ticked}
+use Rattle.connection_law.specs.TimerLaw.{NoneFires, IsQuiet}
+use Rattle.section_coupling.specs.declared.side.Side.{Side}
+use Rattle.section_coupling.specs.declared.side.Side.TheVariants as side
+use Rattle.section_coupling.specs.Views.{left_at, end_at}
+use Rattle.section_coupling.specs.Duos.{DuoState, duo_at, left_of_timer, timer_placed, ticks_left}
+use Rattle.section_coupling.proofs.LaterTimers.{ticked_pair}
+use Rattle.conn_lane.specs.declared.change.Next.{Next}
+use Rattle.conn_lane.specs.Inner.Views.{IsIdle}
+use Rattle.conn_lane.specs.Inner.Wheels.{ticks_of, is_due}
+use Rattle.conn_lane.specs.Inner.Waking.{ticks_in_wheel, timer_left, with_timers, IsTimed, is_next, IsWoken, AllWoken}
+use Rattle.conn_lane.proofs.Wheels.{first_own, first_other, ticks_after, ticked as wheel_ticked, none_due}
 
 -- One connection as it is next.
 
-other_timer : (number : ℕ) (a : Armed) → not (is_timer (waking number) a) ≡ true → a.due.timer ≡ 0 → a.due.conn ≡ number → ⊥
-other_timer number a is one e = grind (arith, is, one, e)
-
-other_before : (number : ℕ) (a : Armed) → is_before a.due (waking number) ≡ true → a.due.timer ≡ 0 → a.due.conn ≡ number → ⊥
-other_before number a is one e = grind (arith, is, one, e)
-
-other_behind : (number : ℕ) (a : Armed) → is_before (waking number) a.due ≡ true → a.due.timer ≡ 0 → a.due.conn ≡ number → ⊥
-other_behind number a is one e = grind (arith, is, one, e)
-
-still_timely : (taken number : ℕ) (kept : List (Option DuoState)) (one : Option DuoState) (a : Armed) → (a.due.conn ≡ number → ⊥) → IsTimely taken kept a → IsTimely taken (set kept number one) a
-still_timely taken number kept one a apart at =
-    record { one = at.one; fires = subst (FiresFor taken a.ticks) (sym (get_other kept number a.due.conn one None apart)) at.fires }
-
-not_later : (taken first : ℕ) → taken + min (max (first - taken) 1) 4294967295 ≤ max (taken + 1) first
-not_later taken first = grind arith
-
-not_earlier : (taken first : ℕ) → min first 4294967295 ≤ taken + min (max (first - taken) 1) 4294967295
-not_earlier taken first = grind arith
-
-timely_next : (taken number : ℕ) (kept : List (Option DuoState)) (one : Option DuoState) (armed : List Armed) → number < length kept → All (IsTimely taken kept) armed
-    → All (IsTimely taken (set kept number one)) (woken_in taken number one armed)
-timely_next taken number kept None armed within all =
-    all_kept (λ a. not (is_timer (waking number) a)) (IsTimely taken kept) (IsTimely taken (set kept number None))
-    (λ a is at. still_timely taken number kept None a (other_timer number a is at.one) at) armed all
-timely_next taken number kept (Some d) armed within all =
-    let new : Armed = record { due = waking number; ticks = wakes_in taken d } in
-    let Q : Armed → Type 0 = IsTimely taken (set kept number (Some d)) in
-    all_append Q (before (waking number) armed) (new ∷ behind (waking number) armed)
-    (all_kept (λ a. is_before a.due (waking number)) (IsTimely taken kept) Q (λ a is at. still_timely taken number kept (Some d) a (other_before number a is at.one) at) armed all)
-    (All-cons Q new (behind (waking number) armed)
-    (record { one = refl; fires = subst (FiresFor taken (wakes_in taken d)) (sym (get_set kept number (Some d) None within)) (not_later taken (first_tick d), not_earlier taken (first_tick d)) })
-    (all_kept (λ a. is_before (waking number) a.due) (IsTimely taken kept) Q (λ a is at. still_timely taken number kept (Some d) a (other_behind number a is at.one) at) armed all))
-
-elsewhere : (n number : ℕ) (a : Armed) → (n ≡ number → ⊥) → is_timer (waking n) a ≡ true → not (is_timer (waking number) a) ≡ true
-elsewhere n number a apart is = grind (arith, apart, is)
-
-earlier : (n number : ℕ) (a : Armed) → n < number → is_timer (waking n) a ≡ true → is_before a.due (waking number) ≡ true
-earlier n number a less is = grind (arith, less, is)
-
-later : (n number : ℕ) (a : Armed) → number < n → is_timer (waking n) a ≡ true → is_before (waking number) a.due ≡ true
-later n number a less is = grind (arith, less, is)
-
-pub any_other : (taken n number : ℕ) (one : Option DuoState) (armed : List Armed) → (n ≡ number → ⊥) → list_any (is_timer (waking n)) armed ≡ true → list_any (is_timer (waking n)) (woken_in taken number one armed) ≡ true
-any_other taken n number None armed apart any =
-    any_kept (is_timer (waking n)) (λ a. not (is_timer (waking number) a)) (λ a is. elsewhere n number a apart is) armed any
-any_other taken n number (Some d) armed apart any =
-    let new : Armed = record { due = waking number; ticks = wakes_in taken d } in
-    by_order new (nat_lt n number) refl
-  where
-    by_order : (new : Armed) (b : Bool) → nat_lt n number ≡ b → list_any (is_timer (waking n)) (before (waking number) armed ++ new ∷ behind (waking number) armed) ≡ true
-    by_order new true is =
-        any_front (is_timer (waking n)) (before (waking number) armed) (new ∷ behind (waking number) armed)
-        (any_kept (is_timer (waking n)) (λ a. is_before a.due (waking number)) (λ a so. earlier n number a (grind (arith, is)) so) armed any)
-    by_order new false is =
-        any_rest (is_timer (waking n)) (before (waking number) armed) (new ∷ behind (waking number) armed)
-        (or_right (is_timer (waking n) new) (list_any (is_timer (waking n)) (behind (waking number) armed))
-        (any_kept (is_timer (waking n)) (λ a. is_before (waking number) a.due) (λ a so. later n number a (grind (arith, is, apart)) so) armed any))
-
-has_other : (taken n number : ℕ) (one x : Option DuoState) (armed : List Armed) → (n ≡ number → ⊥) → HasTimer n armed x → HasTimer n (woken_in taken number one armed) x
-has_other taken n number one None armed apart has = tt
-has_other taken n number one (Some d) armed apart has = (has.0, any_other taken n number one armed apart has.1)
-
-has_next : (taken number : ℕ) (one : Option DuoState) (armed : List Armed) → IfSome one Sleeps → HasTimer number (woken_in taken number one armed) one
-has_next taken number None armed sleeps = tt
-has_next taken number (Some d) armed sleeps =
-    let new : Armed = record { due = waking number; ticks = wakes_in taken d } in (
-      sleeps,
-      any_rest (is_timer (waking number)) (before (waking number) armed) (new ∷ behind (waking number) armed)
-          (or_left (is_timer (waking number) new) (list_any (is_timer (waking number)) (behind (waking number) armed)) (own number)),
-    )
-  where
-    own : (n : ℕ) → is_timer (waking n) (record { due = waking n; ticks = wakes_in taken d }) ≡ true
-    own n = grind arith
-
--- all that have to have their timers have them
+-- the timers of all that have to have them
 pub record AreTimed (P : ℕ → Type 0) (taken : ℕ) (kept : List (Option DuoState)) (armed : List Armed) : Type 0 where
-  pub timely : All (IsTimely taken kept) armed
-  pub timed : (n : ℕ) → P n → HasTimer n armed (get_or kept n None)
+  pub running : (n timer : ℕ) → P n → timer < 14 → ticks_of (timer_of n timer) armed ≡ option_to_list (timer_left taken timer (get_or kept n None))
+  pub others : (n timer : ℕ) → 14 ≤ timer → ticks_of (timer_of n timer) armed ≡ []
 
-pub one_timed : (P Q : ℕ → Type 0) (taken number : ℕ) (kept : List (Option DuoState)) (one : Option DuoState) (armed : List Armed) → number < length kept → IfSome one Sleeps
-    → ((n : ℕ) → (n ≡ number → ⊥) → Q n → P n) → AreTimed P taken kept armed → AreTimed Q taken (set kept number one) (woken_in taken number one armed)
-one_timed P Q taken number kept one armed within sleeps less are =
+pub one_timed : (P Q : ℕ → Type 0) (taken number : ℕ) (kept : List (Option DuoState)) (one : Option DuoState) (armed : List Armed) → number < length kept
+    → ((n : ℕ) → (n ≡ number → ⊥) → Q n → P n) → AreTimed P taken kept armed → AreTimed Q taken (set kept number one) (with_timers taken number one armed)
+one_timed P Q taken number kept one armed within less are =
     record {
-      timely = timely_next taken number kept one armed within are.timely;
-      timed = λ n q. by_test n q (n == number) refl;
+      running = λ n timer q bound. elim (cases_eq n number) [
+        | inl same ↦ subst (λ m. IsRight m timer (get_or (set kept number one) m None)) (sym same)
+            (subst (IsRight number timer) (sym (get_or-set_same kept number one None within)) (first_own left number 14 timer armed bound))
+        | inr apart ↦ subst (IsRight n timer) (sym (get_or-set_other kept number n one None apart))
+            (first_other left number 14 (timer_of n timer) armed (λ t below e. apart (ap (λ (d : Due). d.conn) e)) ∙ are.running n timer (less n apart q) bound)
+      ];
+      others = λ n timer above.
+          first_other left number 14 (timer_of n timer) armed (λ t below e. omega (arith, above, below, ap (λ (d : Due). d.timer) e))
+          ∙ are.others n timer above;
     }
   where
-    by_test : (n : ℕ) → Q n → (b : Bool) → (n == number) ≡ b → HasTimer n (woken_in taken number one armed) (get_or (set kept number one) n None)
-    by_test n q true is =
-        let same : number ≡ n = grind (arith, is) in
-        subst (λ m. HasTimer m (woken_in taken number one armed) (get_or (set kept number one) m None)) same
-        (subst (HasTimer number (woken_in taken number one armed)) (sym (get_set kept number one None within)) (has_next taken number one armed sleeps))
-    by_test n q false is =
-        let apart : n ≡ number → ⊥ = λ e. grind (arith, is, e) in
-        subst (HasTimer n (woken_in taken number one armed)) (sym (get_other kept number n one None apart))
-        (has_other taken n number one (get_or kept n None) armed apart (are.timed n (less n apart q)))
+    left : ℕ → Option ℕ
+    left timer = timer_left taken timer one
+
+    IsRight : ℕ → ℕ → Option DuoState → Type 0
+    IsRight n timer x = ticks_of (timer_of n timer) (with_timers taken number one armed) ≡ option_to_list (timer_left taken timer x)
+
+-- A tick.
+
+left_less : (taken : ℕ) (deadline : Option ℕ) → left_at (taken + 1) deadline ≡ option_map (λ n. n - 1) (left_at taken deadline)
+left_less taken None = refl
+left_less taken (Some tick) = let e : tick - (taken + 1) ≡ tick - taken - 1 = omega arith in ap Some e
+
+end_less : (timer : Timer) (taken : ℕ) (s : Side) → left_of_timer timer (end_at (taken + 1) s) ≡ option_map (λ n. n - 1) (left_of_timer timer (end_at taken s))
+end_less timer taken (side.User o) = refl
+end_less timer taken (side.Wire w) =
+    elim timer as (λ t. left_of_timer t (end_at (taken + 1) (side.Wire w)) ≡ option_map (λ n. n - 1) (left_of_timer t (end_at taken (side.Wire w)))) [
+      | Connect ↦ left_less taken w.timers.connect
+      | Reset ↦ left_less taken w.timers.reset
+      | Iar ↦ left_less taken w.timers.iar
+      | Ias ↦ left_less taken w.timers.ias
+      | Rel ↦ left_less taken w.timers.rel
+      | Int ↦ left_less taken w.timers.int
+      | Repeat ↦ left_less taken w.timers.repeat
+    ]
+
+later_left : (timer taken : ℕ) (d : DuoState) → ticks_left timer (duo_at (taken + 1) d) ≡ option_map (λ n. n - 1) (ticks_left timer (duo_at taken d))
+later_left timer taken d = by_side (timer / 7 == 0) refl
+  where
+    by_side : (b : Bool) → (timer / 7 == 0) ≡ b → ticks_left timer (duo_at (taken + 1) d) ≡ option_map (λ n. n - 1) (ticks_left timer (duo_at taken d))
+    by_side true is = rw is (end_less (timer_placed (timer % 7)) taken d.pair.this)
+    by_side false is = rw is (end_less (timer_placed (timer % 7)) taken d.pair.that)
+
+in_less : (taken left : ℕ) → (ticks_in_wheel taken left == 1) ≡ false → ticks_in_wheel taken left - 1 ≡ ticks_in_wheel (taken + 1) (left - 1)
+in_less taken left is = grind (arith, is)
+
+ticks_less : (taken : ℕ) (left : Option ℕ) → list_any (λ n. n == 1) (option_to_list (option_map (ticks_in_wheel taken) left)) ≡ false
+    → ticks_after (option_to_list (option_map (ticks_in_wheel taken) left)) ≡ option_to_list (option_map (ticks_in_wheel (taken + 1)) (option_map (λ n. n - 1) left))
+ticks_less taken None none = refl
+ticks_less taken (Some left) none =
+    let late : (ticks_in_wheel taken left == 1) ≡ false = (or_parts (ticks_in_wheel taken left == 1) false none).0 in
+    rw late (ap (λ n. n ∷ []) (in_less taken left late))
+
+-- those that the tick doesn't change have their timers yet
+pub tick_timed : (taken : ℕ) (kept : List (Option DuoState)) (nexts : List Next) (armed : List Armed) → AllWoken (λ n. is_due n (due_now armed)) kept nexts → IsTimed taken kept armed
+    → AreTimed (λ n. is_next n nexts ≡ false) (taken + 1) kept (after_tick armed)
+tick_timed taken kept nexts armed woken timed =
+    record {
+      running = λ n timer free bound. by_one n timer free bound (get_or kept n None) refl;
+      others = λ n timer above. wheel_ticked (timer_of n timer) armed ∙ ap ticks_after (timed.others n timer above);
+    }
+  where
+    before : (n timer : ℕ) → timer < 14 → (one : Option DuoState) → get_or kept n None ≡ one → ticks_of (timer_of n timer) armed ≡ option_to_list (timer_left taken timer one)
+    before n timer bound one here = timed.running n timer bound ∙ ap (λ x. option_to_list (timer_left taken timer x)) here
+
+    by_one : (n timer : ℕ) → is_next n nexts ≡ false → timer < 14 → (one : Option DuoState) → get_or kept n None ≡ one
+        → ticks_of (timer_of n timer) (after_tick armed) ≡ option_to_list (timer_left (taken + 1) timer one)
+    by_one n timer free bound None here = wheel_ticked (timer_of n timer) armed ∙ ap ticks_after (before n timer bound None here)
+    by_one n timer free bound (Some d) here =
+        let idle : is_due n (due_now armed) ≡ false =
+        false_from_ne_true (is_due n (due_now armed)) (λ e. both_ways (is_next n nexts) free (subst (λ x. IsWoken n x nexts) here (woken n e))) in
+        let was = before n timer bound (Some d) here in
+        wheel_ticked (timer_of n timer) armed
+        ∙ (ap ticks_after was
+        ∙ (ticks_less taken (ticks_left timer (duo_at taken d)) (ap (list_any (λ n. n == 1)) (sym was) ∙ none_due n timer armed idle)
+        ∙ ap (λ x. option_to_list (option_map (ticks_in_wheel (taken + 1)) x)) (sym (later_left timer taken d))))
+
+-- A connection of which no timer is due.
+
+two_left : (taken : ℕ) (left : Option ℕ) → list_any (λ n. n == 1) (option_to_list (option_map (ticks_in_wheel taken) left)) ≡ false → IfSome left (λ n. 2 ≤ n)
+two_left taken None none = tt
+two_left taken (Some left) none = at_least left (or_parts (ticks_in_wheel taken left == 1) false none).0
+  where
+    at_least : (n : ℕ) → (ticks_in_wheel taken n == 1) ≡ false → 2 ≤ n
+    at_least n late = grind (arith, late)
+
+not_yet : (left : Option ℕ) → IfSome left (λ n. 2 ≤ n) → elim (option_map pred left) [ None ↦ false | Some n ↦ n == 0 ] ≡ false
+not_yet None more = refl
+not_yet (Some n) more = ne_eqb (pred n) 0 (λ e. omega (arith, more, e))
+
+none_fires : (e : End) → ((timer : Timer) → IfSome (left_of_timer timer e) (λ n. 2 ≤ n)) → NoneFires e
+none_fires (owner u) all timer = refl
+none_fires (wire x) all timer =
+    elim timer as (λ t. IfSome (timer_in t x.timers) (λ n. 2 ≤ n) → is_due_at t (ticked (wire x)) ≡ false) [
+      | Connect ↦ not_yet x.timers.connect
+      | Reset ↦ not_yet x.timers.reset
+      | Iar ↦ not_yet x.timers.iar
+      | Ias ↦ not_yet x.timers.ias
+      | Rel ↦ not_yet x.timers.rel
+      | Int ↦ not_yet x.timers.int
+      | Repeat ↦ not_yet x.timers.repeat
+    ] (all timer)
+
+abbrev AllLate : Connection → Type 0
+AllLate c = (timer : ℕ) → timer < 14 → IfSome (ticks_left timer c) (λ n. 2 ≤ n)
+
+of_this : (c : Connection) → AllLate c → (timer : Timer) → IfSome (left_of_timer timer c.this) (λ n. 2 ≤ n)
+of_this c late timer =
+    elim timer as (λ t. IfSome (left_of_timer t c.this) (λ n. 2 ≤ n)) [
+      | Connect ↦ late 0 (omega arith)
+      | Reset ↦ late 1 (omega arith)
+      | Iar ↦ late 2 (omega arith)
+      | Ias ↦ late 3 (omega arith)
+      | Rel ↦ late 4 (omega arith)
+      | Int ↦ late 5 (omega arith)
+      | Repeat ↦ late 6 (omega arith)
+    ]
+
+of_that : (c : Connection) → AllLate c → (timer : Timer) → IfSome (left_of_timer timer c.that) (λ n. 2 ≤ n)
+of_that c late timer =
+    elim timer as (λ t. IfSome (left_of_timer t c.that) (λ n. 2 ≤ n)) [
+      | Connect ↦ late 7 (omega arith)
+      | Reset ↦ late 8 (omega arith)
+      | Iar ↦ late 9 (omega arith)
+      | Ias ↦ late 10 (omega arith)
+      | Rel ↦ late 11 (omega arith)
+      | Int ↦ late 12 (omega arith)
+      | Repeat ↦ late 13 (omega arith)
+    ]
+
+pub idle_until_due : (taken number : ℕ) (d : DuoState) (armed : List Armed) → IsQuiet d.ticks (duo_at taken d) → is_due number (due_now armed) ≡ false
+    → ((timer : ℕ) → timer < 14 → ticks_of (timer_of number timer) armed ≡ option_to_list (timer_left taken timer (Some d))) → IsIdle taken d
+idle_until_due taken number d armed quiet idle are =
+    let c : Connection = duo_at taken d in
+    let late : AllLate c = λ timer bound. two_left taken (ticks_left timer c) (ap (list_any (λ n. n == 1)) (sym (are timer bound)) ∙ none_due number timer armed idle) in
+    quiet (none_fires c.this (of_this c late)) (none_fires c.that (of_that c late)) ∙ ap (λ x. (x, [])) (ticked_pair taken (taken + 1) d.pair refl)

@@ -12,3 +12,4 @@ pub mod Turns
 pub mod Uses
 pub mod Views
 pub mod Waking
+pub mod Wheels

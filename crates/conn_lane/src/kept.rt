@@ -4,9 +4,10 @@ ghost use Rattle.std.specs.Option.{option_map};
 ghost use Rattle.relay_base.specs.declared.words.Event.TheVariants.{Tick};
 ghost use Rattle.section_model.specs.Step.{hears, is_over};
 ghost use Rattle.section_model.specs.Lane.{fed};
-ghost use Rattle.section_coupling.specs.Duos.{duo_at, taken_after, end_numbered};
+ghost use Rattle.section_coupling.specs.Duos.{duo_at, taken_after, end_numbered, ticks_left};
+ghost use Rattle.section_coupling.specs.Views.{left_at};
 ghost use Rattle.conn_lane.specs.Inner.Remnants.{part_in, live_of};
-ghost use Rattle.conn_lane.specs.Inner.Views.{IsAlive, Sleeps, live_at, wakes_in};
+ghost use Rattle.conn_lane.specs.Inner.Views.{IsAlive, live_at};
 ghost use Rattle.conn_lane.specs.Inner.Hearing.{gives, Becomes, HeardBy};
 
 use relay_base::{Event, Memory, Outs, Ref24};
@@ -111,14 +112,12 @@ impl Kept {
         Ok(Kept { duo })
     }
 
-    /// In how many ticks it wakes, where its lane took so many: then its first timer fires. One at least, and the ticks before only bring
-    /// its timers nearer.
-    pub fn wakes_in(&self, taken: u64) -> u32
-        ensures ticks { result ≡ wakes_in taken self.now }
-        ensures sleeps { Sleeps self.now }
+    /// The lane's tick, counted from 1, at which a timer fires; None where it doesn't run. Timers are numbered from 0 to 13.
+    pub fn deadline(&self, timer: u8) -> Option<u64>
+        requires { timer < 14 }
+        ensures { (now : ℕ) → left_at now result ≡ ticks_left timer (duo_at now self.now) }
     {
-        let ticks = self.duo.wakes().saturating_sub(taken);
-        ticks.max(1).min(u64::from(u32::MAX)) as u32
+        self.duo.deadline(timer)
     }
 
     /// What an event makes of the connection; None where it doesn't hear it. `now` is how many ticks the lane took before.

@@ -1,5 +1,5 @@
 //! The connection lane.
-ghost use Rattle.std.specs.Prelude.{◌≡◌, ◌≤◌, ◌<◌, ◌^◌, ◌++◌, [], List, length, map, true, false, IfOk, IfSome, OnOk, OnErr};
+ghost use Rattle.std.specs.Prelude.{◌≡◌, ◌≤◌, ◌<◌, ◌^◌, ◌++◌, [], ℕ, Bool, List, length, map, true, false, IfOk, IfSome, OnOk, OnErr};
 ghost use Rattle.plant_core.specs.declared.terms.Terms.{Terms};
 ghost use Rattle.std.specs.Option.{option_map};
 ghost use Rattle.relay_base.specs.declared.limits.TheConstants.{MOST_LANES};
@@ -15,9 +15,9 @@ ghost use Rattle.plant_core.specs.Plant.{PlantState};
 ghost use Rattle.conn_lane.specs.Inner.Remnants.{Remnant};
 ghost use Rattle.conn_lane.specs.Inner.Changes.{Fits, changed};
 ghost use Rattle.conn_lane.specs.Inner.Stands.{IsStanding};
-ghost use Rattle.conn_lane.specs.Inner.Waking.{IsTimed, Sleepers, WakesDue};
+ghost use Rattle.conn_lane.specs.Inner.Wheels.{is_due};
+ghost use Rattle.conn_lane.specs.Inner.Waking.{AreQuiet, IsTimed, WakesDue};
 ghost use Rattle.timer_wheel.specs.Timers.{due_now};
-ghost use Rattle.timer_wheel.specs.declared.due.Due.{Due};
 ghost use Rattle.conn_lane.specs.Inner.Lowest.{lowest_of};
 ghost use Rattle.section_model.specs.Journals.{lane_of};
 ghost use Rattle.conn_lane.specs.Lanes.{conn_asked_of};
@@ -183,8 +183,8 @@ impl Context {
         requires wish { is_wish (wish_of self.now.head.terms event.now) ≡ true }
         ensures turns { IfOk result (λ turn.
             TurnsInto plant.now self.now event.now openings.now turn) }
-        ensures woken { (due : List Due) → IfOk result (λ turn.
-            WakesDue due openings.now.kept turn.change) }
+        ensures woken { (wakes : ℕ → Bool) → IfOk result (λ turn.
+            WakesDue wakes openings.now.kept turn.change) }
     {
         let asked = asked_by(plant, event);
         let begun = self.begin(event, &asked, openings)?;
@@ -204,8 +204,8 @@ impl Context {
         requires wish { is_wish (wish_of self.now.head.terms event.now) ≡ false }
         ensures turns { (plant : PlantState) →
             IfOk result (λ turn. TurnsInto plant self.now event.now openings.now turn) }
-        ensures woken { (due : List Due) → IfOk result (λ turn.
-            WakesDue due openings.now.kept turn.change) }
+        ensures woken { (wakes : ℕ → Bool) → IfOk result (λ turn.
+            WakesDue wakes openings.now.kept turn.change) }
     {
         let (change, part) = openings.hear(event)?;
         let outs = or_stray(self.alloc, event, part)?;
@@ -220,13 +220,14 @@ impl Context {
     fn tick(&self, openings: &Openings, wheel: &Wheel) -> Result<Turn, Memory>
         requires taken { openings.now.taken ≤ 4_294_967_295 }
         requires timed { IsTimed openings.now.taken openings.now.kept wheel.now.armed }
+        requires quiet { AreQuiet openings.now.taken openings.now.kept }
         ensures turns { (plant : PlantState) →
             IfOk result (λ turn. TurnsInto plant self.now Tick openings.now turn) }
-        ensures woken { IfOk result (λ turn.
-            WakesDue (due_now wheel.now.armed) openings.now.kept turn.change) }
+        ensures woken { let due = due_now wheel.now.armed in IfOk result (λ turn.
+            WakesDue (λ n. is_due n due) openings.now.kept turn.change) }
     {
-        let due = due(self.alloc, wheel)?;
-        let (change, outs) = openings.tick(due.as_slice())?;
+        let numbers = due(self.alloc, wheel)?;
+        let (change, outs) = openings.tick(numbers.as_slice())?;
         Ok(Turn {
             change,
             asked: None,
@@ -244,13 +245,14 @@ impl Context {
     ) -> Result<Turn, Memory>
         requires standing { IsStanding openings.now }
         requires timed { IsTimed openings.now.taken openings.now.kept wheel.now.armed }
+        requires quiet { AreQuiet openings.now.taken openings.now.kept }
         requires taken { openings.now.taken ≤ 4_294_967_295 }
         requires number { self.now.number < MOST_LANES }
         requires credit { IsCredit self.now.head.terms.credit }
         ensures turns { IfOk result (λ turn.
             TurnsInto plant.now self.now event.now openings.now turn) }
-        ensures woken { IfOk result (λ turn.
-            WakesDue (due_now wheel.now.armed) openings.now.kept turn.change) }
+        ensures woken { let due = due_now wheel.now.armed in IfOk result (λ turn.
+            WakesDue (λ n. is_due n due) openings.now.kept turn.change) }
     {
         if matches!(event, Event::Tick) {
             self.tick(openings, wheel)
@@ -272,6 +274,7 @@ impl Context {
     ) -> Result<(Change, Entry), Memory>
         requires standing { IsStanding openings.now }
         requires timed { IsTimed openings.now.taken openings.now.kept wheel.now.armed }
+        requires quiet { AreQuiet openings.now.taken openings.now.kept }
         requires taken { openings.now.taken ≤ 4_294_967_295 }
         requires number { self.now.number < MOST_LANES }
         requires credit { IsCredit self.now.head.terms.credit }
@@ -280,8 +283,8 @@ impl Context {
         ensures fits { (keeps : List Remnant) →
             StandsIn self.now.head self.now.number keeps openings.now →
             IfOk result (λ r. Fits r.0 openings.now) }
-        ensures woken { IfOk result (λ r.
-            WakesDue (due_now wheel.now.armed) openings.now.kept r.0) }
+        ensures woken { let due = due_now wheel.now.armed in IfOk result (λ r.
+            WakesDue (λ n. is_due n due) openings.now.kept r.0) }
         ensures stamp { IfOk result (λ r. r.1.stamp ≡ stamp) }
         ensures event { IfOk result (λ r. r.1.event ≡ event.now) }
     {

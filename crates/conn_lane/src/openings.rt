@@ -1,10 +1,9 @@
 //! What a lane keeps: its connections that aren't over, and its local references.
-ghost use Rattle.std.specs.Prelude.{◌≡◌, ◌≤◌, ◌<◌, ◌+◌, ◌++◌, ◌∷◌, [], ℕ, List, Some, None, map, length, replicate, slice_get, false, IfOk, IfSome, OnOk, OnErr};
+ghost use Rattle.std.specs.Prelude.{◌≡◌, ◌≤◌, ◌<◌, ◌+◌, ◌++◌, ◌∷◌, [], ℕ, Bool, List, Some, None, map, length, replicate, slice_get, false, IfOk, IfSome, OnOk, OnErr};
 ghost use Rattle.relay_base.specs.declared.words.Event.TheVariants.{Tick};
 ghost use Rattle.relay_base.specs.declared.limits.TheConstants.{MOST_LANES, SLOTS};
 ghost use Rattle.std.specs.Option.{option_map};
 ghost use Rattle.section_model.specs.Lane.{is_tick};
-ghost use Rattle.timer_wheel.specs.declared.due.Due.{Due};
 ghost use Rattle.relay_base.specs.References.{slot_of};
 ghost use Rattle.local_refs.specs.Slots.{free_references};
 ghost use Rattle.local_refs.specs.declared.state.SlotState.TheVariants.{Free};
@@ -14,7 +13,8 @@ ghost use Rattle.conn_lane.specs.Inner.Views.{IsAlive, OpeningsState};
 ghost use Rattle.conn_lane.specs.Inner.Finding.{IsPlaceIn};
 ghost use Rattle.conn_lane.specs.Inner.Stands.{Stands, IsStanding};
 ghost use Rattle.conn_lane.specs.Inner.Ticking.{AreTicked, WokenAt};
-ghost use Rattle.conn_lane.specs.Inner.Waking.{alarms_after, WakesAll, AllWoken, WakesDue, Sleepers};
+ghost use Rattle.conn_lane.specs.Inner.Wheels.{is_in};
+ghost use Rattle.conn_lane.specs.Inner.Waking.{alarms_after, WakesAll, AllWoken, WakesDue};
 ghost use Rattle.conn_lane.specs.Inner.Changes.{giving_up, taking, put, put_all, ticked, changed, listed, CanGiveUp, CanBePut, CanAllBePut, Fits, Makes, Opens};
 ghost use Rattle.conn_lane.specs.Inner.Lowest.{lowest_of};
 
@@ -22,7 +22,7 @@ use crate::change::{Change, NewConnection, Next};
 use crate::connections::Connections;
 use crate::index::Index;
 use crate::kept::{Heard, Kept};
-use crate::waking::follow;
+use crate::waking::{follow, reserve};
 use local_refs::Slots;
 use plant_core::{Entry, EntryList};
 use relay_base::{Event, Memory, Outs, PlainList, Ref24};
@@ -30,7 +30,7 @@ use section_coupling::{Duo, named};
 use section_model::arrival_in;
 use std::alloc::Global;
 use std::marker::Model;
-use timer_wheel::{Due, Wheel};
+use timer_wheel::Wheel;
 
 /// Local references, in order.
 pub type RefList = PlainList<Ref24>;
@@ -87,17 +87,18 @@ fn ticked(
     alloc: Global,
     now: u32,
     kept: &Connections,
-    due: &[Due],
+    numbers: &[usize],
 ) -> Result<(Vec<Next>, Outs), Memory>
-    requires wakes { WakesAll now kept.now.kept 0 due.now }
+    requires wakes { WakesAll now kept.now.kept 0 numbers.now }
     ensures ticked { (keeps : List Remnant) (o : OpeningsState) → Stands keeps o → o.taken ≡ now →
         o.kept ≡ kept.now.kept → IfOk result (λ r. AreTicked keeps o r.0.items r.1) }
-    ensures woken { IfOk result (λ r. AllWoken due.now kept.now.kept r.0.items) }
+    ensures woken { IfOk result (λ r.
+        AllWoken (λ n. is_in n numbers.now) kept.now.kept r.0.items) }
 {
     let mut nexts = Vec::new(alloc);
     let mut outs = Outs::new(alloc);
-    for timer in due {
-        let number = timer.conn as usize;
+    for number in numbers {
+        let number = *number;
         if let Some(heard) = tick(alloc, now, kept.get(number))? {
             outs.append(heard.outs)?;
             nexts.push(Next {
@@ -163,8 +164,8 @@ impl Openings {
         ensures makes { (keeps : List Remnant) → Stands keeps self.now →
             let later = map (remnant_after event.now) keeps in
             IfOk result (λ r. Makes r.0 self.now self.now.taken later) }
-        ensures woken { (due : List Due) →
-            IfOk result (λ r. WakesDue due self.now.kept r.0) }
+        ensures woken { (wakes : ℕ → Bool) →
+            IfOk result (λ r. WakesDue wakes self.now.kept r.0) }
     {
         let Some(number) = self.number_of(event) else {
             return Ok((Change::Nothing, None));
@@ -186,18 +187,19 @@ impl Openings {
         }
     }
 
-    /// What a tick changes, by which these connections wake, and the outputs of all, one after another.
-    pub fn tick(&self, due: &[Due]) -> Result<(Change, Outs), Memory>
+    /// What a tick changes, by which the connections of these numbers wake, and the outputs of all, one after another.
+    pub fn tick(&self, numbers: &[usize]) -> Result<(Change, Outs), Memory>
         requires taken { self.now.taken ≤ 4_294_967_295 }
-        requires wakes { WakesAll self.now.taken self.now.kept 0 due.now }
+        requires wakes { WakesAll self.now.taken self.now.kept 0 numbers.now }
         ensures outs { (keeps : List Remnant) → Stands keeps self.now →
             IfOk result (λ r. r.1 ≡ all_parts Tick keeps) }
         ensures makes { (keeps : List Remnant) → Stands keeps self.now →
             let later = map (remnant_after Tick) keeps in
             IfOk result (λ r. Makes r.0 self.now (self.now.taken + 1) later) }
-        ensures woken { IfOk result (λ r. WakesDue due.now self.now.kept r.0) }
+        ensures woken { IfOk result (λ r.
+            WakesDue (λ n. is_in n numbers.now) self.now.kept r.0) }
     {
-        let (nexts, outs) = ticked(self.alloc, self.taken as u32, &self.kept, due)?;
+        let (nexts, outs) = ticked(self.alloc, self.taken as u32, &self.kept, numbers)?;
         Ok((Change::Ticked(nexts), outs))
     }
 
@@ -205,8 +207,8 @@ impl Openings {
     pub fn open(&self, duo: Option<Duo>) -> Result<Change, Memory>
         requires alive { IfSome duo IsAlive }
         ensures opens { IfOk result (λ change. Opens duo change) }
-        ensures woken { (due : List Due) →
-            IfOk result (λ change. WakesDue due self.now.kept change) }
+        ensures woken { (wakes : ℕ → Bool) →
+            IfOk result (λ change. WakesDue wakes self.now.kept change) }
     {
         let Some(duo) = duo else {
             return Ok(Change::Nothing);
@@ -248,12 +250,11 @@ impl Openings {
         ensures wheel { let number = length self.old.kept in
             let later = alarms_after change number self.old.taken wheel.old.armed in
             OnOk result (wheel.new.armed ≡ later) }
-        ensures sleepers { OnOk result (Sleepers change) }
         ensures err { OnErr result ((journal.new ≡ journal.old) × (self.new ≡ self.old)
             × (wheel.new.armed ≡ wheel.old.armed)) }
     {
         // Room for a connection and for timers is taken here, so that the journal grows last of what may lack memory.
-        wheel.reserve_more(change.count())?;
+        reserve(wheel, &change)?;
         self.kept.reserve()?;
         journal.push(entry)?;
         follow(wheel, &change, self.kept.opened(), self.taken);

@@ -1,8 +1,8 @@
 -- What the code of a lane keeps, after so many ticks of the lane.
-use Rattle.std.specs.Prelude.{◌≡◌, ℕ, ◌+◌, ◌-◌, ◌<◌, min, max, false, List, [], map, Option, option_map}
+use Rattle.std.specs.Prelude.{◌≡◌, ℕ, ◌+◌, false, List, [], map, Option, option_map}
 use Rattle.relay_base.specs.declared.words.Event.TheVariants.{Tick}
 use Rattle.section_model.specs.Step.{is_over, connection_step}
-use Rattle.section_coupling.specs.Duos.{DuoState, duo_at, fewest_left}
+use Rattle.section_coupling.specs.Duos.{DuoState, duo_at}
 use Rattle.local_refs.specs.Slots.{LaneSlots}
 use Rattle.conn_lane.specs.Inner.Remnants.{Live}
 
@@ -13,18 +13,6 @@ IsAlive d = is_over (duo_at 0 d) ≡ false
 -- the next tick only brings its timers nearer
 abbrev pub IsIdle : ℕ → DuoState → Type 0
 IsIdle now d = connection_step d.ticks (duo_at now d) Tick ≡ (duo_at (now + 1) d, [])
-
--- the lane's tick, counted from 1, at which its first timer fires
-abbrev pub first_tick : DuoState → ℕ
-first_tick d = min (fewest_left (duo_at 0 d).this) (fewest_left (duo_at 0 d).that)
-
--- each tick before only brings its timers nearer
-abbrev pub Sleeps : DuoState → Type 0
-Sleeps d = (now : ℕ) → now + 1 < first_tick d → IsIdle now d
-
--- in how many ticks it wakes, after so many of its lane: one at least, and 2^32 - 1 at most
-abbrev pub wakes_in : ℕ → DuoState → ℕ
-wakes_in taken d = min (max (first_tick d - taken) 1) 4294967295
 
 abbrev pub live_at : ℕ → DuoState → Live
 live_at now d = record { ticks = d.ticks; connection = duo_at now d }

@@ -1,73 +1,59 @@
--- When the connections of a lane wake: the wheel has one timer for each that isn't over, under its number in the lane's journal.
-use Rattle.std.specs.Prelude.{◌≡◌, ◌==◌, ℕ, ◌+◌, ◌<◌, ◌≤◌, min, max, true, false, Bool, List, [], ◌∷◌, length, get_or, All, Option, Some, None, IfSome}
+-- When the connections of a lane wake: its wheel has the running timers of each that isn't over, under the connection's number in the lane's
+-- journal. The number of a timer is 7 times that of its end, and its place in the order in which timers fire.
+use Rattle.std.specs.Prelude.{◌≡◌, ◌==◌, ℕ, ◌+◌, ◌-◌, ◌*◌, ◌<◌, ◌≤◌, min, max, true, false, Bool, List, [], ◌∷◌, length, get_or, All, Option, Some, None, option_map, option_to_list, IfSome}
 use Rattle.std.specs.List.{list_any}
-use Rattle.timer_wheel.specs.declared.due.Due.{Due}
-use Rattle.timer_wheel.specs.Timers.{Armed, timer_of, is_timer, others, with_timer, after_tick}
-use Rattle.section_coupling.specs.Duos.{DuoState}
+use Rattle.timer_wheel.specs.Timers.{Armed, timer_of, after_tick}
+use Rattle.connection_law.specs.TimerLaw.{IsQuiet}
+use Rattle.section_coupling.specs.Duos.{DuoState, duo_at, ticks_left}
 use Rattle.conn_lane.specs.declared.change.Next.{Next}
 use Rattle.conn_lane.specs.declared.change.Change.{Change}
 use Rattle.conn_lane.specs.declared.change.Change.TheVariants.{Nothing, Heard, Opened, Ticked}
 use Rattle.conn_lane.specs.Inner.Ticking.{TickedAt}
-use Rattle.conn_lane.specs.Inner.Views.{Sleeps, first_tick, wakes_in}
+use Rattle.conn_lane.specs.Inner.Wheels.{ticks_of, with_first, is_in, AreRising}
 
--- the one timer of the connection of a number
-abbrev pub waking : ℕ → Due
-waking number = timer_of number 0
+-- what a wheel has for a timer of which so many ticks are left, where its lane took so many: these, but one at least, and none beyond the lane's
+-- tick 2^32 - 1
+abbrev pub ticks_in_wheel : ℕ → ℕ → ℕ
+ticks_in_wheel taken left = max (min left (4294967295 - taken)) 1
+
+-- the ticks that a wheel has for a timer of a connection, where the connection isn't over and the timer runs
+abbrev pub timer_left : ℕ → ℕ → Option DuoState → Option ℕ
+timer_left taken timer None = None
+timer_left taken timer (Some d) = option_map (ticks_in_wheel taken) (ticks_left timer (duo_at taken d))
 
 -- The wheel.
 
--- with the timer of a connection that is as it is now, after so many ticks of its lane
-abbrev pub woken_in : ℕ → ℕ → Option DuoState → List Armed → List Armed
-woken_in taken number None armed = others (waking number) armed
-woken_in taken number (Some d) armed = with_timer (waking number) (wakes_in taken d) armed
+-- with the timers of a connection that is as it is now, after so many ticks of its lane
+abbrev pub with_timers : ℕ → ℕ → Option DuoState → List Armed → List Armed
+with_timers taken number one armed = with_first (λ timer. timer_left taken timer one) number 14 armed
 
-abbrev pub all_woken : ℕ → List Next → List Armed → List Armed
-all_woken taken [] armed = armed
-all_woken taken (next ∷ more) armed = all_woken taken more (woken_in taken next.number next.one armed)
+abbrev pub all_with_timers : ℕ → List Next → List Armed → List Armed
+all_with_timers taken [] armed = armed
+all_with_timers taken (next ∷ more) armed = all_with_timers taken more (with_timers taken next.number next.one armed)
 
 -- once a change is made, where so many openings were made and ticks taken before
 abbrev pub alarms_after : Change → ℕ → ℕ → List Armed → List Armed
 alarms_after Nothing number taken armed = armed
-alarms_after (Heard next) number taken armed = woken_in taken next.number next.one armed
-alarms_after (Opened new) number taken armed = woken_in taken number (Some new.one) armed
-alarms_after (Ticked nexts) number taken armed = all_woken (taken + 1) nexts.items (after_tick armed)
+alarms_after (Heard next) number taken armed = with_timers taken next.number next.one armed
+alarms_after (Opened new) number taken armed = with_timers taken number (Some new.one) armed
+alarms_after (Ticked nexts) number taken armed = all_with_timers (taken + 1) nexts.items (after_tick armed)
 
--- What holds of it.
-
--- a connection that isn't over has its timer there
-abbrev pub HasTimer : ℕ → List Armed → Option DuoState → Type 0
-HasTimer number armed None = Unit {0}
-HasTimer number armed (Some d) = Sleeps d × (list_any (is_timer (waking number)) armed ≡ true)
-
--- a timer of a connection that isn't over, which fires at the tick of the connection's first: not later than then, or than the next tick,
--- and not earlier up to the tick 2^32 - 1, beyond which no lane goes
-abbrev pub FiresFor : ℕ → ℕ → Option DuoState → Type 0
-FiresFor taken ticks None = ⊥
-FiresFor taken ticks (Some d) = (taken + ticks ≤ max (taken + 1) (first_tick d)) × (min (first_tick d) 4294967295 ≤ taken + ticks)
-
-pub record IsTimely (taken : ℕ) (kept : List (Option DuoState)) (a : Armed) : Type 0 where
-  pub one : a.due.timer ≡ 0
-  pub fires : FiresFor taken a.ticks (get_or kept a.due.conn None)
-
--- the wheel has one timer for each connection that isn't over, and no others
+-- What holds of it: it has each running timer of a connection that isn't over, once, with the ticks that are left of it, and it has no others.
 pub record IsTimed (taken : ℕ) (kept : List (Option DuoState)) (armed : List Armed) : Type 0 where
-  pub timely : All (IsTimely taken kept) armed
-  pub timed : (number : ℕ) → HasTimer number armed (get_or kept number None)
+  pub running : (number timer : ℕ) → timer < 14
+      → ticks_of (timer_of number timer) armed ≡ option_to_list (timer_left taken timer (get_or kept number None))
+  pub others : (number timer : ℕ) → 14 ≤ timer → ticks_of (timer_of number timer) armed ≡ []
 
 -- A tick.
 
-abbrev pub is_due : ℕ → List Due → Bool
-is_due number due = list_any (λ d. d.conn == number) due
+-- where no timer of a connection fires, the tick only brings its timers nearer
+abbrev pub AreQuiet : ℕ → List (Option DuoState) → Type 0
+AreQuiet taken kept = (number : ℕ) → IfSome (get_or kept number None) (λ d. IsQuiet d.ticks (duo_at taken d))
 
--- connections by rising number from this one on, of so many
-abbrev pub AreRising : ℕ → ℕ → List Due → Type 0
-AreRising count from [] = Unit {0}
-AreRising count from (d ∷ due) = (from ≤ d.conn) × (d.conn < count) × AreRising count (d.conn + 1) due
-
--- they rise, and for all others from this number on the tick only brings timers nearer
-pub record WakesAll (now : ℕ) (kept : List (Option DuoState)) (from : ℕ) (due : List Due) : Type 0 where
-  pub rising : AreRising (length kept) from due
-  pub asleep : (number : ℕ) → from ≤ number → number < length kept → is_due number due ≡ false → TickedAt now (get_or kept number None) None
+-- connections by rising number; and for all others from this number on the tick only brings timers nearer
+pub record WakesAll (now : ℕ) (kept : List (Option DuoState)) (from : ℕ) (numbers : List ℕ) : Type 0 where
+  pub rising : AreRising (length kept) from numbers
+  pub asleep : (number : ℕ) → from ≤ number → number < length kept → is_in number numbers ≡ false → TickedAt now (get_or kept number None) None
 
 abbrev pub is_next : ℕ → List Next → Bool
 is_next number nexts = list_any (λ n. n.number == number) nexts
@@ -76,12 +62,12 @@ is_next number nexts = list_any (λ n. n.number == number) nexts
 abbrev pub IsWoken : ℕ → Option DuoState → List Next → Type 0
 IsWoken number one nexts = IfSome one (λ d. is_next number nexts ≡ true)
 
-abbrev pub AllWoken : List Due → List (Option DuoState) → List Next → Type 0
-AllWoken due kept nexts = (number : ℕ) → is_due number due ≡ true → IsWoken number (get_or kept number None) nexts
+abbrev pub AllWoken : (ℕ → Bool) → List (Option DuoState) → List Next → Type 0
+AllWoken wakes kept nexts = (number : ℕ) → wakes number ≡ true → IsWoken number (get_or kept number None) nexts
 
-abbrev pub WakesDue : List Due → List (Option DuoState) → Change → Type 0
-WakesDue due kept (Ticked nexts) = AllWoken due kept nexts.items
-WakesDue due kept _ = Unit {0}
+abbrev pub WakesDue : (ℕ → Bool) → List (Option DuoState) → Change → Type 0
+WakesDue wakes kept (Ticked nexts) = AllWoken wakes kept nexts.items
+WakesDue wakes kept _ = Unit {0}
 
 -- A change.
 
@@ -91,6 +77,10 @@ count_of (Heard next) = 1
 count_of (Opened new) = 1
 count_of (Ticked nexts) = length nexts.items
 
+-- how many timers the connections have that it changes
+abbrev pub timers_of : Change → ℕ
+timers_of change = 14 * count_of change
+
 abbrev pub AllBelow : ℕ → List Next → Type 0
 AllBelow count nexts = All (λ n. n.number < count) nexts
 
@@ -99,13 +89,3 @@ abbrev pub AreBelow : ℕ → Change → Type 0
 AreBelow count (Heard next) = next.number < count
 AreBelow count (Ticked nexts) = AllBelow count nexts.items
 AreBelow count _ = Unit {0}
-
--- and sleep until they wake
-abbrev pub AllSleep : List Next → Type 0
-AllSleep nexts = All (λ n. IfSome n.one Sleeps) nexts
-
-abbrev pub Sleepers : Change → Type 0
-Sleepers Nothing = Unit {0}
-Sleepers (Heard next) = IfSome next.one Sleeps
-Sleepers (Opened new) = Sleeps new.one
-Sleepers (Ticked nexts) = AllSleep nexts.items

@@ -1,11 +1,11 @@
 use Rattle.std.proofs.Common.{length, ap, arith}
 use Rattle.timer_wheel.specs.Timers.{Timers}
 use Rattle.conn_lane.specs.Inner.Waking.{count_of}
-use Rattle.conn_lane.proofs.Woken.{tick_length}
+use Rattle.conn_lane.proofs.Wheels.{tick_length}
 use Rattle.conn_lane.proofs.waking.follow.Goals as goal
 
-pub arm_all-requires-clause-room : goal.arm_all-requires-clause-room
-arm_all-requires-clause-room c = omega (
+pub set_all-requires-clause-room : goal.set_all-requires-clause-room
+set_all-requires-clause-room c = omega (
   arith,
   c.requires.room,
   ap count_of c.in-Ticked.is,

@@ -2,8 +2,12 @@ use Rattle.std.proofs.Common.{◌≡◌, ◌<◌, ◌^◌, length, sym, subst, a
 use Rattle.conn_lane.specs.Lanes.{ConnLaneState, ConnLaneTakes, conn_asked_of}
 use Rattle.conn_lane.specs.Inner.Changes.{changed}
 use Rattle.conn_lane.proofs.LaneGrows.{lane_stands, lane_written, few_taken, on_ok, on_err}
+use Rattle.conn_lane.proofs.Quiet.{kept_quiet}
 use Rattle.conn_lane.proofs.Wakings.{timed_written}
 use Rattle.conn_lane.proofs.lane.ConnLane.step.Goals as goal
+
+pub entry-requires-clause-quiet : goal.entry-requires-clause-quiet
+entry-requires-clause-quiet c = kept_quiet c.self.inside.head c.self.inside.number c.self.inside.journal c.self.inside.openings c.self.invariant.0
 
 pub write-requires-clause-taken : goal.write-requires-clause-taken
 write-requires-clause-taken c =
@@ -26,7 +30,7 @@ invariant_of-self c = (
       c.write.ensures.openings c.write.ensures.err,
   timed_written (c.write.new.journal ≡ c.self.inside.journal) c.write.result c.in_ok-change.change c.self.inside.openings c.write.new.self c.self.inside.wheel.armed c.write.new.wheel.armed
       (c.in_ok-change.ensures.fits _ (lane_stands c.self.inside.head c.self.inside.number c.self.inside.journal c.self.inside.openings c.self.invariant.0)) c.in_ok-change.ensures.woken
-      c.write.ensures.sleepers c.write.ensures.openings c.write.ensures.wheel c.write.ensures.err c.self.invariant.1,
+      c.write.ensures.openings c.write.ensures.wheel c.write.ensures.err c.self.invariant.1,
 )
 
 pub returns-clause-ok : goal.returns-clause-ok

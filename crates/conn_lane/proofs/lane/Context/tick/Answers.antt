@@ -1,7 +1,9 @@
-use Rattle.std.proofs.Common.{sym, subst, ◌∙◌}
-use Rattle.conn_lane.specs.Inner.Waking.{WakesAll, WakesDue}
+use Rattle.std.proofs.Common.{sym, subst, ap, ◌∙◌}
+use Rattle.timer_wheel.specs.Timers.{due_now}
+use Rattle.conn_lane.specs.Inner.Waking.{WakesAll}
+use Rattle.conn_lane.specs.Inner.Wheels.{is_due, is_in}
 use Rattle.conn_lane.proofs.LaneGrows.{tick_comes}
-use Rattle.conn_lane.proofs.Wakings.{wakes_all}
+use Rattle.conn_lane.proofs.Wakings.{wakes_all, wakes_same}
 use Rattle.conn_lane.proofs.lane.Context.tick.Goals as goal
 
 pub returns-clause-turns : goal.returns-clause-turns
@@ -16,9 +18,10 @@ returns-clause-turns c =
 pub tick-requires-clause-wakes : goal.tick-requires-clause-wakes
 tick-requires-clause-wakes c =
     let o = c.args.openings.now in
-    subst (WakesAll o.taken o.kept 0) (sym (c.as_slice.ensures ∙ c.in_ok-due.ensures.value))
-    (wakes_all o.taken o.kept c.args.wheel.now.armed c.requires.timed c.in_ok-due.ensures.rising c.in_ok-due.ensures.running)
+    subst (WakesAll o.taken o.kept 0) (sym c.as_slice.ensures.value)
+    (wakes_all o.taken o.kept c.args.wheel.now.armed c.in_ok-numbers.numbers.items c.requires.quiet c.requires.timed c.in_ok-numbers.ensures)
 
 pub returns-clause-woken : goal.returns-clause-woken
 returns-clause-woken c =
-    subst (λ due. WakesDue due c.args.openings.now.kept c.in_ok-change.change) (c.as_slice.ensures ∙ c.in_ok-due.ensures.value) c.in_ok-change.ensures.woken
+    wakes_same (λ n. is_in n c.as_slice.result.now) (λ n. is_due n (due_now c.args.wheel.now.armed))
+    (λ n. ap (is_in n) c.as_slice.ensures.value ∙ c.in_ok-numbers.ensures.same n) c.args.openings.now.kept c.in_ok-change.change c.in_ok-change.ensures.woken

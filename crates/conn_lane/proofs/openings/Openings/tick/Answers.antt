@@ -1,4 +1,4 @@
-use Rattle.std.proofs.Common.{sym, ap, ◌∙◌}
+use Rattle.std.proofs.Common.{sym, ap}
 use Rattle.conn_lane.proofs.Standing.{makes_ticked}
 use Rattle.conn_lane.proofs.openings.Openings.tick.Goals as goal
 

@@ -9,7 +9,7 @@ follow-requires-clause-below c =
     let many : length c.args.self.now.kept ≡ c.opened.result = omega (
       arith,
       ap (λ (v : OpeningsState). length v.kept) c.self.view_is,
-      ap (λ xs. length xs) c.in_ok-reserve.ensures.kept,
+      ap (λ xs. length xs) c.in_ok-reserve-2.ensures.kept,
       c.opened.ensures,
     ) in
     subst (λ n. AreBelow n c.args.change) many (below_fits c.args.change c.args.self.now c.requires.fits)

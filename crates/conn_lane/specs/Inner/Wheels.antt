@@ -1,0 +1,43 @@
+-- The timers of a wheel, one by one, and the connections of those that are due.
+use Rattle.std.specs.Prelude.{◌≡◌, ◌==◌, ℕ, zero, suc, ◌+◌, ◌<◌, ◌≤◌, Bool, List, [], ◌∷◌, map, filter, Option, Some, None}
+use Rattle.std.specs.List.{list_any}
+use Rattle.timer_wheel.specs.declared.due.Due.{Due}
+use Rattle.timer_wheel.specs.Timers.{Armed, timer_of, is_timer, others, with_timer}
+
+-- the ticks that a wheel has for a timer: one number where it runs, and none else
+abbrev pub ticks_of : Due → List Armed → List ℕ
+ticks_of due armed = map (λ a. a.ticks) (filter (is_timer due) armed)
+
+-- with a timer that runs for so many ticks, or that doesn't run
+abbrev pub with_ticks : Due → Option ℕ → List Armed → List Armed
+with_ticks due None armed = others due armed
+with_ticks due (Some ticks) armed = with_timer due ticks armed
+
+-- with so many timers of a connection that run for these ticks
+unfoldable pub with_first : (ℕ → Option ℕ) → ℕ → ℕ → List Armed → List Armed
+with_first left number zero armed = armed
+with_first left number (suc timer) armed = with_ticks (timer_of number timer) (left timer) (with_first left number timer armed)
+
+-- The connections of timers.
+
+abbrev pub is_due : ℕ → List Due → Bool
+is_due number due = list_any (λ d. d.conn == number) due
+
+abbrev pub is_in : ℕ → List ℕ → Bool
+is_in number numbers = list_any (λ n. n == number) numbers
+
+-- timers of connections from this one on, in their order
+abbrev pub AreOrdered : ℕ → List Due → Type 0
+AreOrdered from [] = Unit {0}
+AreOrdered from (d ∷ due) = (from ≤ d.conn) × AreOrdered d.conn due
+
+-- connections by rising number from this one on, of so many
+abbrev pub AreRising : ℕ → ℕ → List ℕ → Type 0
+AreRising count from [] = Unit {0}
+AreRising count from (n ∷ numbers) = (from ≤ n) × (n < count) × AreRising count (n + 1) numbers
+
+-- the connections of these timers, each once, and a number above them all
+pub record AreConnections (due : List Due) (numbers : List ℕ) : Type 0 where
+  pub above : ℕ
+  pub rising : AreRising above 0 numbers
+  pub same : (number : ℕ) → is_in number numbers ≡ is_due number due
