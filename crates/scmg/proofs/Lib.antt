@@ -1,4 +1,4 @@
+pub mod IntervalLemmas
 pub mod JournalLemmas
 pub mod KnownLemmas
 pub mod TestLemmas
-pub mod OrderLemmas

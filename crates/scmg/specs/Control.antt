@@ -1,5 +1,5 @@
 -- SCCP management (Q.714, 5.2 and 5.3): what each event of the control lane does, and a legal control journal.
-use Rattle.std.specs.Prelude.{◌≡◌, ℕ, pred, ◌+◌, ◌*◌, ◌==◌, ◌&&◌, ◌||◌, nat_lt, nat_le, not, Bool, true, false, List, [], ◌∷◌, ◌++◌, map, filter, find, fold, min, if◌then◌else◌, Option, Some, None, option_map, option_to_list}
+use Rattle.std.specs.Prelude.{◌≡◌, ℕ, pred, ◌+◌, ◌*◌, ◌==◌, ◌&&◌, ◌||◌, nat_lt, nat_le, not, Bool, true, false, List, [], ◌∷◌, ◌++◌, map, filter, find, min, if◌then◌else◌, Option, Some, None, option_map, option_to_list}
 use Rattle.std.specs.List.{list_any, insert, position_or_len, range_with_len}
 use Rattle.relay_base.specs.declared.words.Output.{Output}
 use Rattle.relay_base.specs.declared.words.Output.TheVariants.{Told, Lost as Dropped}
@@ -34,8 +34,8 @@ use Rattle.scmg_messages.specs.declared.message.Format.TheVariants.{Allowed, Pro
 use Rattle.scmg_messages.specs.declared.message.Notice.{Notice}
 use Rattle.scmg_messages.specs.Messages.{sent, notice_in, data_in}
 
--- What the control lane keeps: the routing data; the status tests, in the order in which they began; the coordinated changes that were
--- asked for, by rising subsystem; and the requests to go out of service that a user may still grant.
+-- What the control lane keeps: the routing data; the status tests, by rising point and subsystem; the coordinated changes that were asked for,
+-- by rising subsystem; and the requests to go out of service that a user may still grant.
 pub record Control : Type 0 where
   pub routing : RoutingData
   pub tests : List StatusTest
@@ -199,7 +199,7 @@ asks head c ssn _ = quiet
 -- A tick: a status test that is due is sent to its point (Q.714, 5.3.4), and a coordinated change that is due is denied.
 
 abbrev pub is_due_test : StatusTest → Bool
-is_due_test t = nat_le t.left 1
+is_due_test t = t.left == 0
 
 abbrev pub is_due_coordination : Coordination → Bool
 is_due_coordination x = nat_le x.left 1
@@ -210,23 +210,8 @@ test_sent t = sent t.point Tested t.ssn t.point
 abbrev pub denied : Coordination → Output
 denied x = Told x.ssn (tell.Denied x.point)
 
--- a test stands before those of later points, and of later subsystems of its point
-abbrev pub is_test_before : StatusTest → StatusTest → Bool
-is_test_before t other = nat_lt t.point other.point || (t.point == other.point && nat_lt t.ssn other.ssn)
-
--- puts a test among others by rising point and subsystem, in place of one of its subsystem
-abbrev pub in_place : List StatusTest → StatusTest → List StatusTest
-in_place [] t = t ∷ []
-in_place (other ∷ more) t =
-    if is_test_before t other then t ∷ other ∷ more
-    else if t.point == other.point && t.ssn == other.ssn then t ∷ more
-    else other ∷ in_place more t
-
-abbrev pub by_subsystem : List StatusTest → List StatusTest
-by_subsystem tests = fold in_place [] tests
-
 abbrev pub tests_sent : List StatusTest → List Output
-tests_sent tests = map test_sent (by_subsystem (filter is_due_test tests))
+tests_sent tests = map test_sent (filter is_due_test tests)
 
 abbrev pub ticks : Control → Effect
 ticks c = record { outs = tests_sent c.tests ++ map denied (filter is_due_coordination c.coordinations); act = Tick }
@@ -243,11 +228,19 @@ abbrev pub is_test_of : ℕ → ℕ → StatusTest → Bool
 is_test_of point ssn t = t.point == point && t.ssn == ssn
 
 abbrev pub test_begun : ℕ → ℕ → ℕ → StatusTest
-test_begun ticks point ssn = record { point = point; ssn = ssn; left = ticks; interval = ticks }
+test_begun ticks point ssn = record { point = point; ssn = ssn; left = pred ticks; interval = ticks }
+
+-- a test stands before those of later points, and of later subsystems of its point
+abbrev pub is_test_before : StatusTest → StatusTest → Bool
+is_test_before t other = nat_lt t.point other.point || (t.point == other.point && nat_lt t.ssn other.ssn)
+
+-- in place of one of its subsystem
+abbrev pub with_test : StatusTest → List StatusTest → List StatusTest
+with_test t tests = filter (λ other. is_test_before other t) tests ++ t ∷ filter (is_test_before t) tests
 
 -- a test begins with its subsystem's going out of service, and ends with its coming back (Q.714, 5.3.4)
 abbrev pub tests_after : Ticks → Change → List StatusTest → List StatusTest
-tests_after ticks (BarSub point ssn) tests = tests ++ test_begun ticks.status point ssn ∷ []
+tests_after ticks (BarSub point ssn) tests = with_test (test_begun ticks.status point ssn) tests
 tests_after ticks (FreeSub point ssn) tests = filter (λ t. not (is_test_of point ssn t)) tests
 tests_after ticks _ tests = tests
 
@@ -257,7 +250,7 @@ next_interval ticks t = min (2 * t.interval) ticks.status_max
 
 abbrev pub test_after_tick : Ticks → StatusTest → StatusTest
 test_after_tick ticks t =
-    if is_due_test t then record t { left = next_interval ticks t; interval = next_interval ticks t } else record t { left = pred t.left }
+    if is_due_test t then test_begun (next_interval ticks t) t.point t.ssn else record t { left = pred t.left }
 
 abbrev pub is_coordination_before : Coordination → Coordination → Bool
 is_coordination_before x other = nat_lt x.ssn other.ssn

@@ -1,8 +1,7 @@
 //! What comes of an event of the control lane.
 ghost use Rattle.std.specs.Prelude.{◌≡◌, ◌++◌, [], ◌∷◌, map, filter, IfOk};
-ghost use Rattle.std.specs.BTreeMap.{values};
 ghost use Rattle.scmg_messages.specs.Messages.{data_in};
-ghost use Rattle.scmg.specs.Control.{is_due_coordination, test_sent, by_subsystem, denied, only, one, quiet, dropped, refused, is_by_operator, refusal, is_replicate, replicate_of, publishes, changes, announced, tested, asked_out, granted, hears_notice, hears_data, hears, coordinates_with, grants, asks, ticks, effect_of, change_of};
+ghost use Rattle.scmg.specs.Control.{is_due_coordination, test_sent, denied, only, one, quiet, dropped, refused, is_by_operator, refusal, is_replicate, replicate_of, publishes, changes, announced, tested, asked_out, granted, hears_notice, hears_data, hears, coordinates_with, grants, asks, ticks, effect_of, change_of};
 
 use crate::head::ControlHead;
 use crate::kept::Kept;
@@ -12,7 +11,6 @@ use plant_core::{Change, ControlEvent, RemoteSubsystem, Replicate, Verdict};
 use relay_base::{Event, Lost, Memory, Output, Outs, Pc, Reason, Request, Ssn, Tell};
 use scmg_messages::{Format, Notice, data_in, notice_in, sent};
 use std::alloc::Global;
-use std::collections::BTreeMap;
 
 /// What is done with what the lane keeps.
 #[derive(Clone, Copy)]
@@ -137,32 +135,12 @@ fn test_sent(alloc: Global, test: &StatusTest) -> Result<Output, Memory>
     sent(alloc, test.point, Format::StatusTest, test.ssn, test.point)
 }
 
-/// Tests by rising point and subsystem.
-type Placed = BTreeMap<(u32, u32), StatusTest>;
-
-fn placed(alloc: Global, tests: &[StatusTest]) -> Result<Placed, Memory>
-    ensures { IfOk result (λ placed. values placed ≡ by_subsystem tests.now) }
-{
-    let mut placed = BTreeMap::new(alloc);
-    for test in tests {
-        placed.insert((test.point.number(), test.ssn.number()), *test)?;
-    }
-    Ok(placed)
-}
-
-fn by_subsystem(alloc: Global, tests: &[StatusTest]) -> Result<Vec<StatusTest>, Memory>
-    ensures { IfOk result (λ placed. placed.items ≡ by_subsystem tests.now) }
-{
-    Ok(placed(alloc, tests)?.into_values().collect(alloc)?)
-}
-
 /// The status tests that are due, by rising point and subsystem (Q.714, 5.3.4).
 fn tests_sent(alloc: Global, due: &[StatusTest]) -> Result<Outs, Memory>
-    ensures { IfOk result (λ outs. outs ≡ map test_sent (by_subsystem due.now)) }
+    ensures { IfOk result (λ outs. outs ≡ map test_sent due.now) }
 {
-    let tests = by_subsystem(alloc, due)?;
-    let mut outs = Vec::with_capacity(alloc, tests.len())?;
-    for test in &tests {
+    let mut outs = Vec::with_capacity(alloc, due.len())?;
+    for test in due {
         outs.push(test_sent(alloc, test)?)?;
     }
     Ok(Outs::from(outs))

@@ -87,7 +87,7 @@ impl Kept {
         &self.plant
     }
 
-    /// The status tests that the next tick sends, in the order in which they began.
+    /// The status tests that the next tick sends, by rising point and subsystem.
     pub fn due_tests(&self, alloc: Global) -> Result<Vec<StatusTest>, Memory>
         ensures { IfOk result (λ due. due.items ≡ filter is_due_test self.now.control.tests) }
     {
@@ -153,12 +153,10 @@ impl Kept {
         self.plant.absorb(&change)?;
         match change {
             Change::BarSub(point, ssn) => self.tests.begin(point, ssn, ticks.status),
-            Change::FreeSub(point, ssn) => {
-                self.tests.end(point, ssn);
-                Ok(())
-            }
-            _ => Ok(()),
+            Change::FreeSub(point, ssn) => self.tests.end(point, ssn),
+            _ => {}
         }
+        Ok(())
     }
 
     #[tactic(auto, unfolding(crate::specs::Control::control_after))]

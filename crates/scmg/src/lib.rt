@@ -3,6 +3,7 @@
 
 mod effect;
 mod head;
+mod intervals;
 mod kept;
 mod known;
 mod lane;

@@ -1,18 +1,17 @@
 //! What waits for a tick (Q.714, 5.3.4 and 5.3.5).
-ghost use Rattle.std.specs.Prelude.{◌≡◌, ◌<◌, ◌≤◌, map, filter, not, position, vec_len, IsOk, OnOk, OnErr};
+ghost use Rattle.std.specs.Prelude.{◌≡◌, ◌<◌, map, filter, not, position, vec_len, IsOk, OnOk, OnErr};
 ghost use Rattle.std.specs.Vec.{vec_capacity};
-ghost use Rattle.scmg.specs.Control.{is_due_test, is_due_coordination, test_after_tick, is_coordination_before, with_coordination, without_coordination, lowered, coordinations_after_tick};
-ghost use Rattle.scmg.specs.Inner.Tests.{after_quiet, armed};
+ghost use Rattle.scmg.specs.Control.{is_due_coordination, is_coordination_before, with_coordination, without_coordination, lowered, coordinations_after_tick};
 
-use plant_core::Ticks;
 use relay_base::{Memory, Pc, Ssn};
 
-/// The test of a subsystem of another point that is out of service: the ticks until it is sent, and how many it was armed with.
+/// The test of a subsystem of another point that is out of service: the ticks that go by before the one that sends it, and how many it was
+/// armed with.
 #[derive(Clone, Copy)]
 pub struct StatusTest {
     pub point: Pc,
     pub ssn: Ssn,
-    pub left: u64,
+    pub left: u32,
     pub interval: u32,
 }
 
@@ -22,61 +21,6 @@ pub struct Coordination {
     pub ssn: Ssn,
     pub point: Pc,
     pub left: u32,
-}
-
-impl StatusTest {
-    /// Whether the next tick sends it.
-    pub fn is_due(&self) -> bool
-        ensures { result ≡ is_due_test self.now }
-    {
-        self.left <= 1
-    }
-
-    /// The ticks that it has left, or the most that can be counted.
-    pub fn ticks_left(&self) -> u32
-        ensures { result ≤ self.now.left }
-    {
-        match u32::try_from(self.left) {
-            Ok(left) => left,
-            Err(_) => u32::MAX,
-        }
-    }
-
-    /// After so many ticks that didn't send it.
-    pub fn after_quiet(&self, passed: u32) -> StatusTest
-        ensures { result ≡ after_quiet passed self.now }
-    {
-        StatusTest {
-            left: self.left.saturating_sub(u64::from(passed)),
-            ..*self
-        }
-    }
-
-    /// After a tick: one that was sent has twice the ticks, but no more than the most (Q.714, 5.3.4).
-    fn after_tick(&self, ticks: &Ticks) -> StatusTest
-        ensures { result ≡ test_after_tick ticks.now self.now }
-    {
-        if self.is_due() {
-            let interval = self.interval.saturating_mul(2).min(ticks.status_max);
-            StatusTest {
-                left: u64::from(interval),
-                interval,
-                ..*self
-            }
-        } else {
-            StatusTest {
-                left: self.left - 1,
-                ..*self
-            }
-        }
-    }
-
-    /// After so many ticks that didn't send it, and one more.
-    pub fn armed(&self, passed: u32, ticks: &Ticks) -> StatusTest
-        ensures { result ≡ armed ticks.now passed self.now }
-    {
-        self.after_quiet(passed).after_tick(ticks)
-    }
 }
 
 impl Coordination {

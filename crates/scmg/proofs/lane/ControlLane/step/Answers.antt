@@ -1,4 +1,4 @@
-use Rattle.std.proofs.Common.{◌∙◌, ◌∷◌, length, OnOk, ap, subst, arith}
+use Rattle.std.proofs.Common.{◌∙◌, length, OnOk, ap, subst, arith}
 use Rattle.plant_core.specs.declared.entry.ControlEntry.{ControlEntry}
 use Rattle.scmg.specs.Control.{start_of_control, changes_in}
 use Rattle.scmg.specs.Lane.{ControlState, changes_of, GrowAlike}

@@ -1,11 +1,23 @@
-use Rattle.std.proofs.Common.{◌+◌, ◌<◌, ap, sym, filter, arith, ◌∙◌}
+use Rattle.std.proofs.Common.{◌≡◌, ◌<◌, List, All, IfOk, map, filter, ap, sym, subst, ◌∙◌}
+use Rattle.timer_wheel.specs.declared.due.Due.{Due}
+use Rattle.timer_wheel.specs.Timers.{Dues, due_now}
+use Rattle.scmg.specs.declared.timed.StatusTest.{StatusTest}
 use Rattle.scmg.specs.Control.{is_due_test}
-use Rattle.scmg.specs.Inner.Tests.{TestsState}
-use Rattle.scmg.proofs.TestLemmas.{none-due}
+use Rattle.scmg.specs.Inner.Tests.{TestsState, due_test, interval_at}
+use Rattle.scmg.proofs.TestLemmas.{dues-all, due-tests}
 use Rattle.scmg.proofs.status_tests.StatusTests.due.Goals as goal
 
-pub returns-then-saturating_sub-gt1 : goal.returns-then-saturating_sub-gt1
-returns-then-saturating_sub-gt1 c =
-    let later : c.self.inside.passed + 1 < c.self.inside.first = omega arith in
-    c.new.ensures.items ∙ sym (none-due c.self.inside.passed c.self.inside.first c.self.inside.list.items c.self.invariant later)
-    ∙ ap (λ (s : TestsState). filter is_due_test s.tests) c.self.view_is
+pub tests_of-requires : goal.tests_of-requires
+tests_of-requires c =
+    let armed = c.self.inside.wheel.armed in
+    let is : c.as_slice.result.now ≡ due_now armed = c.as_slice.ensures ∙ ap (λ (d : Dues). d.timers) c.due-2.ensures.value in
+    subst (All (λ (d : Due). d.conn < 16384)) (sym is) (dues-all (λ point. point < 16384) armed c.self.invariant.2)
+
+pub returns : goal.returns
+returns c =
+    let armed = c.self.inside.wheel.armed in
+    let of = interval_at c.self.inside.intervals.rows in
+    let is : c.as_slice.result.now ≡ due_now armed = c.as_slice.ensures ∙ ap (λ (d : Dues). d.timers) c.due-2.ensures.value in
+    subst (λ (list : List StatusTest). IfOk c.tests_of.result (λ tests. tests.items ≡ list))
+    (ap (map (due_test of)) is ∙ due-tests of armed c.due-2.ensures.running ∙ ap (λ (s : TestsState). filter is_due_test s.tests) c.self.view_is)
+    c.tests_of.ensures
