@@ -14,14 +14,19 @@ use Rattle.lane_gate.proofs.gate.Gate.TheSendSync.{the_field_sync as gate_sync}
 use Rattle.lane_gate.proofs.pass.Pass.TheSendSync.{the_send as pass_send}
 use Rattle.data_lane.proofs.lane.DataLane.TheSendSync.{the_send as data_lane_send}
 use Rattle.conn_lane.proofs.Sent.{conn_lane_send}
+use Rattle.scmg.proofs.Sent.{control_lane_send}
 use Rattle.lane_turns.proofs.lane_name.LaneName.TheSendSync.{the_field_sync as name_sync}
 use Rattle.lane_turns.proofs.seat.Seat.TheSendSync.{the_send as seat_send}
-use Rattle.lane_turns.proofs.control_seat.ControlSeat.TheSendSync.{the_send as control_send}
+use Rattle.lane_turns.proofs.publisher.PhasePublisher.TheSendSync.{the_send as publisher_send}
+use Rattle.lane_turns.specs.contracts.control_seat.ControlSeat as ControlSeat
 use Rattle.lane_turns.specs.contracts.lane_kind.LaneKind as LaneKind
 use Rattle.lane_turns.specs.contracts.phase_lane.PhaseLane as PhaseLane
 use Rattle.lane_turns.specs.contracts.turn.LaneTurn as LaneTurn
 use Rattle.lane_turns.specs.contracts.door.Door as Door
 use Rattle.lane_turns.specs.contracts.hands.Feeder as Feeder
+
+control_send : (a : NamedLft) (T : RattleType) → IsSync T → IsSend (ControlSeat.the_row a T)
+control_send a T y = search (sendable, crosses, publisher_send, control_lane_send) depth 60 fits 20000
 
 kind_send : (a : NamedLft) (T : RattleType) → IsSync T → IsSend (LaneKind.the_field a T).row
 kind_send a T y = search (sendable, crosses, control_send, seat_send, conn_lane_send, data_lane_send) depth 60 fits 20000

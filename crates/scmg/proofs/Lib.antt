@@ -2,3 +2,4 @@ pub mod IntervalLemmas
 pub mod JournalLemmas
 pub mod KnownLemmas
 pub mod TestLemmas
+pub mod Sent
