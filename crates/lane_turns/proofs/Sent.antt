@@ -17,7 +17,7 @@ use Rattle.conn_lane.proofs.Sent.{conn_lane_send}
 use Rattle.scmg.proofs.Sent.{control_lane_send}
 use Rattle.lane_turns.proofs.lane_name.LaneName.TheSendSync.{the_field_sync as name_sync}
 use Rattle.lane_turns.proofs.seat.Seat.TheSendSync.{the_send as seat_send}
-use Rattle.lane_turns.proofs.publisher.PhasePublisher.TheSendSync.{the_send as publisher_send}
+use Rattle.lane_turns.proofs.publisher.PhasePublisher.TheSendSync.{the_field_send as publisher_send}
 use Rattle.lane_turns.specs.contracts.control_seat.ControlSeat as ControlSeat
 use Rattle.lane_turns.specs.contracts.lane_kind.LaneKind as LaneKind
 use Rattle.lane_turns.specs.contracts.phase_lane.PhaseLane as PhaseLane
@@ -26,7 +26,9 @@ use Rattle.lane_turns.specs.contracts.door.Door as Door
 use Rattle.lane_turns.specs.contracts.hands.Feeder as Feeder
 
 control_send : (a : NamedLft) (T : RattleType) → IsSync T → IsSend (ControlSeat.the_row a T)
-control_send a T y = search (sendable, crosses, publisher_send, control_lane_send) depth 60 fits 20000
+control_send a T y =
+    let inside = ControlSeat.TheInside.the_type a T in
+    view_send _ _ _ _ _ (recorded_send _ _ inside.to inside.to_one (struct_send (shape inside) (control_lane_send, (publisher_send a T y, tt))))
 
 kind_send : (a : NamedLft) (T : RattleType) → IsSync T → IsSend (LaneKind.the_field a T).row
 kind_send a T y = search (sendable, crosses, control_send, seat_send, conn_lane_send, data_lane_send) depth 60 fits 20000

@@ -1,6 +1,7 @@
 -- SCCP management (Q.714, 5.2 and 5.3): what each event of the control lane does, and a legal control journal.
 use Rattle.std.specs.Prelude.{◌≡◌, ℕ, pred, ◌+◌, ◌*◌, ◌==◌, ◌&&◌, ◌||◌, nat_lt, nat_le, not, Bool, true, false, List, [], ◌∷◌, ◌++◌, map, filter, find, min, if◌then◌else◌, Option, Some, None, option_map, option_to_list}
 use Rattle.std.specs.List.{list_any, insert, position_or_len, range_with_len}
+use Rattle.relay_base.specs.declared.limits.TheConstants.{SUBSYSTEM_NUMBERS}
 use Rattle.relay_base.specs.declared.words.Output.{Output}
 use Rattle.relay_base.specs.declared.words.Output.TheVariants.{Told, Lost as Dropped}
 use Rattle.relay_base.specs.declared.words.Lost.TheVariants as lost
@@ -75,7 +76,7 @@ abbrev pub told_among : RoutingData → Option ℕ → Tell → List ℕ → Lis
 told_among p subject t numbers = map (λ ssn. Told ssn t) (filter (is_told p subject) numbers)
 
 unfoldable pub subsystems : List ℕ
-subsystems = range_with_len 0 256
+subsystems = range_with_len 0 SUBSYSTEM_NUMBERS
 
 abbrev pub told_all : RoutingData → Option ℕ → Tell → List Output
 told_all p subject t = told_among p subject t subsystems

@@ -1,8 +1,10 @@
 //! The ticks with which status tests were armed last, found by the numbers of their points and subsystems.
 ghost use Rattle.std.specs.Prelude.{◌≡◌, ◌==◌, ◌<◌, ◌≤◌, ℕ, [], get_or, length, replicate, set, vec_len, IsTrue, IfOk, OnOk};
 ghost use Rattle.std.specs.Vec.{vec_capacity};
+ghost use Rattle.relay_base.specs.declared.limits.TheConstants.{POINT_CODES, SUBSYSTEM_NUMBERS};
 ghost use Rattle.scmg.specs.Inner.Tests.{interval_at, has_row, with_interval};
 
+use relay_base::limits::{POINT_CODES, SUBSYSTEM_NUMBERS};
 use relay_base::{Memory, Pc};
 use std::alloc::Global;
 use std::marker::Model;
@@ -10,10 +12,10 @@ use std::mem;
 use timer_wheel::Due;
 
 /// How many points there are.
-const POINTS: usize = 16_384;
+const POINTS: usize = POINT_CODES as usize;
 
 /// How many subsystems a point has.
-const SUBSYSTEMS: usize = 256;
+const SUBSYSTEMS: usize = SUBSYSTEM_NUMBERS as usize;
 
 /// The intervals of one point, by subsystem; or none.
 #[derive(Drop)]
@@ -40,7 +42,7 @@ impl Row {
 
     /// All places, with 0 in them.
     fn zeros(alloc: Global) -> Result<Row, Memory>
-        ensures { IfOk result (λ r. r ≡ replicate 256 0) }
+        ensures { IfOk result (λ r. r ≡ replicate SUBSYSTEM_NUMBERS 0) }
     {
         Ok(Row {
             places: vec![in alloc; 0; SUBSYSTEMS]?,
@@ -63,7 +65,7 @@ impl Row {
     }
 
     fn set(&mut self, ssn: u8, interval: u32)
-        requires { length self.old ≡ 256 }
+        requires { length self.old ≡ SUBSYSTEM_NUMBERS }
         ensures { self.new ≡ set self.old ssn interval }
     {
         self.places[usize::from(ssn)] = interval;
@@ -83,28 +85,29 @@ pub struct Intervals {
 impl Model for Intervals {
     ghost use Rattle.std.specs.Prelude.{◌==◌, ◌&&◌, ◌≤◌, ◌≡◌, ◌⊎◌, [], List, ℕ, All, length, nat_le, replicate};
     ghost use Rattle.std.specs.Vec.{vec_capacity};
+    ghost use Rattle.relay_base.specs.declared.limits.TheConstants.{POINT_CODES, SUBSYSTEM_NUMBERS};
     ghost use Rattle.scmg.specs.Inner.Tests.{IntervalsState};
 
     ghost Value = { IntervalsState };
 
     ghost view = { λ s. record {
       rows = s.rows.items;
-      has_room = length s.spare == 256 && nat_le 16384 (vec_capacity s.rows);
+      has_room = length s.spare == SUBSYSTEM_NUMBERS && nat_le POINT_CODES (vec_capacity s.rows);
     } };
 
     ghost invariant = { λ s.
-        (length s.rows.items ≤ 16384)
-        × All (λ row. (row ≡ []) ⊎ (length row ≡ 256)) s.rows.items
-        × ((s.spare ≡ []) ⊎ (s.spare ≡ replicate 256 0)) };
+        (length s.rows.items ≤ POINT_CODES)
+        × All (λ row. (row ≡ []) ⊎ (length row ≡ SUBSYSTEM_NUMBERS)) s.rows.items
+        × ((s.spare ≡ []) ⊎ (s.spare ≡ replicate SUBSYSTEM_NUMBERS 0)) };
 }
 
 /// Lets rows reach up to a point.
 fn reach(alloc: Global, rows: &mut Vec<Row>, point: Pc)
-    requires room { 16384 ≤ vec_capacity rows.old }
-    requires few { vec_len rows.old ≤ 16384 }
+    requires room { POINT_CODES ≤ vec_capacity rows.old }
+    requires few { vec_len rows.old ≤ POINT_CODES }
     ensures rows { (x : ℕ) → get_or rows.new.items x [] ≡ get_or rows.old.items x [] }
     ensures reaches { point < vec_len rows.new }
-    ensures few { vec_len rows.new ≤ 16384 }
+    ensures few { vec_len rows.new ≤ POINT_CODES }
     ensures capacity { vec_capacity rows.new ≡ vec_capacity rows.old }
 {
     for _ in rows.len()..point.number() as usize + 1 {

@@ -4,6 +4,7 @@ ghost use Rattle.scmg.specs.Control.{is_told, told_all, service_format, to_conce
 
 use crate::head::ControlHead;
 use plant_core::{Change, Plant};
+use relay_base::limits::SUBSYSTEM_NUMBERS;
 use relay_base::{Memory, Output, Outs, Ssn, Tell};
 use scmg_messages::{Format, sent};
 use std::alloc::{AllocError, Global};
@@ -26,7 +27,7 @@ fn told_all(alloc: Global, plant: &Plant, subject: Option<Ssn>, tell: &Tell) -> 
     ensures { IfOk result (λ outs. outs ≡ told_all plant.now.routing subject tell.now) }
 {
     let mut outs = Outs::new(alloc);
-    for number in 0..256u16 {
+    for number in 0..SUBSYSTEM_NUMBERS {
         let ssn = Ssn::from(number as u8);
         if is_told(plant, subject, ssn) {
             outs.push(Output::Told {

@@ -1,5 +1,6 @@
 -- Status tests as timers that run, and their intervals beside them.
 use Rattle.std.specs.Prelude.{◌==◌, ◌&&◌, ◌*◌, ◌-◌, ℕ, Bool, List, [], map, max, min, get_or, length, if◌then◌else◌}
+use Rattle.relay_base.specs.declared.limits.TheConstants.{SUBSYSTEM_NUMBERS}
 use Rattle.plant_core.specs.declared.terms.Ticks.{Ticks}
 use Rattle.scmg.specs.declared.timed.StatusTest.{StatusTest}
 use Rattle.timer_wheel.specs.declared.due.Due.{Due}
@@ -19,7 +20,7 @@ abbrev pub interval_at : List (List ℕ) → ℕ → ℕ → ℕ
 interval_at rows point ssn = get_or (get_or rows point []) ssn 0
 
 abbrev pub has_row : List (List ℕ) → ℕ → Bool
-has_row rows point = length (get_or rows point []) == 256
+has_row rows point = length (get_or rows point []) == SUBSYSTEM_NUMBERS
 
 -- the intervals with this one in its place
 abbrev pub with_interval : Due → ℕ → (ℕ → ℕ → ℕ) → ℕ → ℕ → ℕ
