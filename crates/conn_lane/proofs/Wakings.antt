@@ -1,4 +1,5 @@
 -- The wheel once a change is made, and what the next tick wakes.
+use Rattle.section_coupling.specs.declared.duo.TheConstants.{TIMERS}
 use Rattle.std.proofs.Common.{◌≡◌, ℕ, zero, suc, ◌+◌, ◌==◌, ◌<◌, ◌≤◌, OnOk, OnErr, Ok, Err, Bool, true, false, List, [], ◌∷◌, ◌++◌, length, get_or, set, option_to_list, Option, Some, None, inl, inr, refl, sym, subst, ap, ◌∙◌, arith}
 use Rattle.std.specs.Prelude.{IfSome}
 use Rattle.std.specs.declared.result.Result.{Result}
@@ -117,7 +118,7 @@ due_kept taken n kept armed timed is =
   where
     none : length kept ≤ n → (timer : ℕ) → ticks_of (timer_of n timer) armed ≡ []
     none past timer =
-        elim (cases_lt timer 14) [
+        elim (cases_lt timer TIMERS) [
           | inl bound ↦ timed.running n timer bound ∙ ap (λ x. option_to_list (timer_left taken timer x)) (get_or_past kept n None past)
           | inr above ↦ timed.others n timer above
         ]

@@ -1,4 +1,5 @@
 -- The timers of a lane once a connection is as it is next, or a tick is taken.
+use Rattle.section_coupling.specs.declared.duo.TheConstants.{TIMERS}
 use Rattle.std.proofs.Common.{◌≡◌, ℕ, pred, ◌+◌, ◌-◌, ◌/◌, ◌%◌, ◌==◌, ◌<◌, ◌≤◌, Bool, true, false, List, [], ◌∷◌, length, get_or, set, option_to_list, Option, Some, None, inl, inr, refl, sym, subst, ap, ◌∙◌, arith}
 use Rattle.std.specs.Prelude.{option_map, IfSome}
 use Rattle.std.specs.List.{list_any}
@@ -27,8 +28,8 @@ use Rattle.conn_lane.proofs.Wheels.{first_own, first_other, ticks_after, ticked 
 
 -- the timers of all that have to have them
 pub record AreTimed (P : ℕ → Type 0) (taken : ℕ) (kept : List (Option DuoState)) (armed : List Armed) : Type 0 where
-  pub running : (n timer : ℕ) → P n → timer < 14 → ticks_of (timer_of n timer) armed ≡ option_to_list (timer_left taken timer (get_or kept n None))
-  pub others : (n timer : ℕ) → 14 ≤ timer → ticks_of (timer_of n timer) armed ≡ []
+  pub running : (n timer : ℕ) → P n → timer < TIMERS → ticks_of (timer_of n timer) armed ≡ option_to_list (timer_left taken timer (get_or kept n None))
+  pub others : (n timer : ℕ) → TIMERS ≤ timer → ticks_of (timer_of n timer) armed ≡ []
 
 pub one_timed : (P Q : ℕ → Type 0) (taken number : ℕ) (kept : List (Option DuoState)) (one : Option DuoState) (armed : List Armed) → number < length kept
     → ((n : ℕ) → (n ≡ number → ⊥) → Q n → P n) → AreTimed P taken kept armed → AreTimed Q taken (set kept number one) (with_timers taken number one armed)
@@ -36,12 +37,12 @@ one_timed P Q taken number kept one armed within less are =
     record {
       running = λ n timer q bound. elim (cases_eq n number) [
         | inl same ↦ subst (λ m. IsRight m timer (get_or (set kept number one) m None)) (sym same)
-            (subst (IsRight number timer) (sym (get_or-set_same kept number one None within)) (first_own left number 14 timer armed bound))
+            (subst (IsRight number timer) (sym (get_or-set_same kept number one None within)) (first_own left number TIMERS timer armed bound))
         | inr apart ↦ subst (IsRight n timer) (sym (get_or-set_other kept number n one None apart))
-            (first_other left number 14 (timer_of n timer) armed (λ t below e. apart (ap (λ (d : Due). d.conn) e)) ∙ are.running n timer (less n apart q) bound)
+            (first_other left number TIMERS (timer_of n timer) armed (λ t below e. apart (ap (λ (d : Due). d.conn) e)) ∙ are.running n timer (less n apart q) bound)
       ];
       others = λ n timer above.
-          first_other left number 14 (timer_of n timer) armed (λ t below e. omega (arith, above, below, ap (λ (d : Due). d.timer) e))
+          first_other left number TIMERS (timer_of n timer) armed (λ t below e. omega (arith, above, below, ap (λ (d : Due). d.timer) e))
           ∙ are.others n timer above;
     }
   where
@@ -96,10 +97,10 @@ tick_timed taken kept nexts armed woken timed =
       others = λ n timer above. wheel_ticked (timer_of n timer) armed ∙ ap ticks_after (timed.others n timer above);
     }
   where
-    before : (n timer : ℕ) → timer < 14 → (one : Option DuoState) → get_or kept n None ≡ one → ticks_of (timer_of n timer) armed ≡ option_to_list (timer_left taken timer one)
+    before : (n timer : ℕ) → timer < TIMERS → (one : Option DuoState) → get_or kept n None ≡ one → ticks_of (timer_of n timer) armed ≡ option_to_list (timer_left taken timer one)
     before n timer bound one here = timed.running n timer bound ∙ ap (λ x. option_to_list (timer_left taken timer x)) here
 
-    by_one : (n timer : ℕ) → is_next n nexts ≡ false → timer < 14 → (one : Option DuoState) → get_or kept n None ≡ one
+    by_one : (n timer : ℕ) → is_next n nexts ≡ false → timer < TIMERS → (one : Option DuoState) → get_or kept n None ≡ one
         → ticks_of (timer_of n timer) (after_tick armed) ≡ option_to_list (timer_left (taken + 1) timer one)
     by_one n timer free bound None here = wheel_ticked (timer_of n timer) armed ∙ ap ticks_after (before n timer bound None here)
     by_one n timer free bound (Some d) here =
@@ -138,7 +139,7 @@ none_fires (wire x) all timer =
     ] (all timer)
 
 abbrev AllLate : Connection → Type 0
-AllLate c = (timer : ℕ) → timer < 14 → IfSome (ticks_left timer c) (λ n. 2 ≤ n)
+AllLate c = (timer : ℕ) → timer < TIMERS → IfSome (ticks_left timer c) (λ n. 2 ≤ n)
 
 of_this : (c : Connection) → AllLate c → (timer : Timer) → IfSome (left_of_timer timer c.this) (λ n. 2 ≤ n)
 of_this c late timer =
@@ -165,7 +166,7 @@ of_that c late timer =
     ]
 
 pub idle_until_due : (taken number : ℕ) (d : DuoState) (armed : List Armed) → IsQuiet d.ticks (duo_at taken d) → is_due number (due_now armed) ≡ false
-    → ((timer : ℕ) → timer < 14 → ticks_of (timer_of number timer) armed ≡ option_to_list (timer_left taken timer (Some d))) → IsIdle taken d
+    → ((timer : ℕ) → timer < TIMERS → ticks_of (timer_of number timer) armed ≡ option_to_list (timer_left taken timer (Some d))) → IsIdle taken d
 idle_until_due taken number d armed quiet idle are =
     let c : Connection = duo_at taken d in
     let late : AllLate c = λ timer bound. two_left taken (ticks_left timer c) (ap (list_any (λ n. n == 1)) (sym (are timer bound)) ∙ none_due number timer armed idle) in

@@ -5,6 +5,7 @@ ghost use Rattle.relay_base.specs.declared.words.Event.TheVariants.{Tick};
 ghost use Rattle.section_model.specs.Step.{hears, is_over};
 ghost use Rattle.section_model.specs.Lane.{fed};
 ghost use Rattle.section_coupling.specs.Duos.{duo_at, taken_after, end_numbered, ticks_left};
+ghost use Rattle.section_coupling.specs.declared.duo.TheConstants.{TIMERS};
 ghost use Rattle.section_coupling.specs.Views.{left_at};
 ghost use Rattle.conn_lane.specs.Inner.Remnants.{part_in, live_of};
 ghost use Rattle.conn_lane.specs.Inner.Views.{IsAlive, live_at};
@@ -114,7 +115,7 @@ impl Kept {
 
     /// The lane's tick, counted from 1, at which a timer fires; None where it doesn't run. Timers are numbered from 0 to 13.
     pub fn deadline(&self, timer: u8) -> Option<u64>
-        requires { timer < 14 }
+        requires { timer < TIMERS }
         ensures { (now : ℕ) → left_at now result ≡ ticks_left timer (duo_at now self.now) }
     {
         self.duo.deadline(timer)

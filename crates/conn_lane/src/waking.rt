@@ -1,5 +1,6 @@
 //! When connections wake: the wheel of a lane has the running timers of each that isn't over, under its number in the journal.
 ghost use Rattle.std.specs.Prelude.{◌≡◌, ◌≤◌, ◌<◌, ◌+◌, ◌-◌, ◌*◌, length, max, option_map, IfOk, IfSome, OnOk, OnErr};
+ghost use Rattle.section_coupling.specs.declared.duo.TheConstants.{TIMERS};
 ghost use Rattle.timer_wheel.specs.Timers.{timer_of, due_now};
 ghost use Rattle.conn_lane.specs.Inner.Wheels.{with_ticks, AreOrdered, AreConnections};
 ghost use Rattle.conn_lane.specs.Inner.Waking.{ticks_in_wheel, timer_left, with_timers, all_with_timers, alarms_after, timers_of, count_of, AreBelow, AllBelow};
@@ -7,11 +8,9 @@ ghost use Rattle.conn_lane.specs.Inner.Waking.{ticks_in_wheel, timer_left, with_
 use crate::change::{Change, Next};
 use crate::kept::Kept;
 use relay_base::Memory;
+use section_coupling::TIMERS;
 use std::alloc::Global;
 use timer_wheel::{Due, DueList, Wheel};
-
-/// How many timers a connection has, seven at each end.
-const TIMERS: u8 = 14;
 
 /// The connections of timers that stand in order, each once.
 fn connections_of(alloc: Global, timers: &[Due]) -> Result<Vec<usize>, Memory>
@@ -52,7 +51,7 @@ fn ticks_in_wheel(deadline: u64, taken: u64) -> u32
 
 /// The ticks that the wheel has for a timer of a connection, where the connection isn't over and the timer runs.
 fn ticks_left(one: Option<&Kept>, timer: u8, taken: u64) -> Option<u32>
-    requires timer { timer < 14 }
+    requires timer { timer < TIMERS }
     ensures value { result ≡ timer_left taken timer (option_map (λ k. k.now) one.entry) }
     ensures some { IfSome result (λ ticks. 1 ≤ ticks) }
 {
@@ -77,7 +76,7 @@ fn set_timer(wheel: &mut Wheel, number: usize, timer: u8, left: Option<u32>)
 /// Lets the timers of a connection run that run as it is next, and stops the others; all of them once it is over.
 fn set_timers(wheel: &mut Wheel, number: usize, one: Option<&Kept>, taken: u64)
     requires number { number ≤ 4_294_967_295 }
-    requires room { length wheel.old.armed + 14 ≤ wheel.old.room }
+    requires room { length wheel.old.armed + TIMERS ≤ wheel.old.room }
     ensures { let next = option_map (λ k. k.now) one.entry in
         let later = with_timers taken number next wheel.old.armed in
         wheel.new ≡ record wheel.old { armed = later } }
@@ -90,7 +89,7 @@ fn set_timers(wheel: &mut Wheel, number: usize, one: Option<&Kept>, taken: u64)
 /// The same for connections, one after another.
 fn set_all(wheel: &mut Wheel, nexts: &[Next], taken: u64)
     requires numbers { AllBelow 4_294_967_296 nexts.now }
-    requires room { length wheel.old.armed + 14 * length nexts.now ≤ wheel.old.room }
+    requires room { length wheel.old.armed + TIMERS * length nexts.now ≤ wheel.old.room }
     ensures { let later = all_with_timers taken nexts.now wheel.old.armed in
         wheel.new ≡ record wheel.old { armed = later } }
 {

@@ -1,5 +1,5 @@
 -- What an opening comes to, by its cases.
-use Rattle.std.proofs.Common.{◌≡◌, ℕ, ◌≤◌, ◌<◌, true, false, List, [], ◌∷◌, length, get_or, refl, sym, subst, arith}
+use Rattle.std.proofs.Common.{◌-◌, ◌≡◌, ℕ, ◌≤◌, ◌<◌, true, false, List, [], ◌∷◌, length, get_or, refl, sym, subst, arith}
 use Rattle.std.specs.Prelude.{slice_get, Option, Some, None, is_some}
 use Rattle.relay_base.specs.declared.causes.TheConstants.{REFUSAL_NOT_AVAILABLE, REFUSAL_UNQUALIFIED}
 use Rattle.relay_base.specs.declared.limits.TheConstants.{LONGEST_GIVEN_ADDRESS}
@@ -11,6 +11,7 @@ use Rattle.q713_codec.specs.Writing.{InRange}
 use Rattle.plant_core.specs.Rewriting.{called_onward}
 use Rattle.plant_core.proofs.AddressLengths.{length-called_onward}
 use Rattle.section_model.specs.Line.{credit_of}
+use Rattle.section_model.specs.declared.limits.TheConstants.{LONGEST_ADDRESS}
 use Rattle.section_model.specs.Lengths.{IsAddress, IsData}
 use Rattle.section_model.specs.Opening.{Wanted, by_cr, onward, fits, cref_to, not_opened, opened_onward, opened_by_cr, opened, slots_needed}
 use Rattle.section_model.proofs.InRanges.{cr-in_range}
@@ -52,7 +53,7 @@ local-none terms w answer ssn (mine ∷ refs) e f = absurd (cc)
 -- a user's CR may be written
 pub user-in_range : (w : Wanted) (rewrite : Rewrite) (hop : Option ℕ) (mine : ℕ) → length w.called ≤ LONGEST_GIVEN_ADDRESS → IsAddress w.calling → IsData w.body → InRange (onward w rewrite hop mine)
 user-in_range w rewrite hop mine called calling body =
-    let short : length (called_onward rewrite w.called) ≤ 253 = omega (arith, called, length-called_onward rewrite w.called) in
+    let short : length (called_onward rewrite w.called) ≤ LONGEST_ADDRESS - 2 = omega (arith, called, length-called_onward rewrite w.called) in
     cr-in_range mine w.class (called_onward rewrite w.called) (credit_of w.class w.credit) w.calling w.body hop w.importance short calling body
 
 -- a CR of which routing wasn't asked

@@ -1,4 +1,5 @@
 //! A connection: two coupled ends.
+ghost use Rattle.section_coupling.specs.declared.duo.TheConstants.{TIMERS};
 ghost use Rattle.std.specs.Prelude.{◌≡◌, ◌≤◌, ◌<◌, ◌+◌, ℕ, [], min, Some, IsTrue, IfOk, IfSome};
 ghost use Rattle.section_model.specs.Step.{connection_step, event_step, hears, is_over, end_is_gone, destination_of, names, named, is_in_range};
 ghost use Rattle.std.specs.Option.{option_map};
@@ -32,6 +33,9 @@ use section_grid::Timer;
 use section_model::arrival_in;
 use std::alloc::Global;
 use std::marker::Model;
+
+/// How many timers a connection has: seven at each end.
+pub const TIMERS: u8 = 14;
 
 /// A connection, with the ticks of its timers.
 #[derive(Drop)]
@@ -225,7 +229,7 @@ impl Duo {
     /// The lane's tick, counted from 1, at which a timer fires; None where it doesn't run. The number of a timer, 0 to 13, is 7 times
     /// that of its end, and its place in the order in which timers fire: connect, reset, iar, ias, rel, int, repeat.
     pub fn deadline(&self, timer: u8) -> Option<u64>
-        requires { timer < 14 }
+        requires { timer < TIMERS }
         ensures { (now : ℕ) → left_at now result ≡ ticks_left timer (duo_at now self.now) }
     {
         // One number for both, since a caller keeps and compares timers of many connections by such numbers; inside both have their names.

@@ -22,7 +22,7 @@ mod wire;
 mod wish;
 
 pub use clock::taken_after;
-pub use duo::{Begun, Duo, Heard};
+pub use duo::{Begun, Duo, Heard, TIMERS};
 pub use taken::Taken;
 pub use unheard::{named, stray};
 pub use wish::{ask_of, opens};

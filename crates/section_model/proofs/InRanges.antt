@@ -1,8 +1,9 @@
 -- The messages of a connection may be written.
-use Rattle.std.proofs.Common.{ℕ, ◌+◌, ◌≤◌, ◌==◌, ◌&&◌, nat_le, Bool, true, false, List, [], length, refl, arith, length-append, le-leb, if◌then◌else◌}
+use Rattle.std.proofs.Common.{◌-◌, ℕ, ◌+◌, ◌≤◌, ◌==◌, ◌&&◌, nat_le, Bool, true, false, List, [], length, refl, arith, length-append, le-leb, if◌then◌else◌}
 use Rattle.std.specs.Prelude.{Option, Some, None, IsTrue}
 use Rattle.std.specs.List.{list_all}
 use Rattle.std.proofs.lemmas.Bool.{and_from}
+use Rattle.section_model.specs.declared.limits.TheConstants.{LONGEST_ADDRESS}
 use Rattle.relay_base.specs.declared.limits.TheConstants.{GREATEST_OCTET, LONGEST_DATA, LONGEST_EXPEDITED, LONGEST_PARAMETER}
 use Rattle.q713_shape.specs.Format.{is_option_length}
 use Rattle.q713_shape.specs.Writing.{have_lengths, is_option, are_options, fits_pointer, pointers, optional_skip_of, are_in_range}
@@ -49,7 +50,7 @@ skip-fits before size h = by_test (size == 0)
     by_test true = refl
     by_test false = le-leb (1 + before) GREATEST_OCTET (omega arith)
 
-pub cr-in_range : (slr class : ℕ) (called : List ℕ) (credit : Option ℕ) (calling body : Option (List ℕ)) (hop importance : Option ℕ) → length called ≤ 253 → IsAddress calling → IsData body → InRange (Cr slr class called credit calling body hop importance)
+pub cr-in_range : (slr class : ℕ) (called : List ℕ) (credit : Option ℕ) (calling body : Option (List ℕ)) (hop importance : Option ℕ) → length called ≤ LONGEST_ADDRESS - 2 → IsAddress calling → IsData body → InRange (Cr slr class called credit calling body hop importance)
 cr-in_range slr class called credit calling body hop importance short address content =
     in_range (Cr slr class called credit calling body hop importance)
     (only 0 LONGEST_PARAMETER called (omega arith, omega arith))

@@ -1,5 +1,5 @@
 -- How many octets the addresses and the data of a connection's messages have (Q.713).
-use Rattle.std.specs.Prelude.{◌≡◌, ℕ, ◌≤◌, List, [], ◌∷◌, length, Option, Some, None, Ok}
+use Rattle.std.specs.Prelude.{◌-◌, ◌≡◌, ℕ, ◌≤◌, List, [], ◌∷◌, length, Option, Some, None, Ok}
 use Rattle.q713_codec.specs.Names.{Message}
 use Rattle.q713_codec.specs.declared.message.Message.TheVariants.{Cr, Cc, Cref, Rlsd, Rlc, Dt1, Dt2, Ak, Ed, Ea, Rsr, Rsc, Err as Error, It}
 use Rattle.q713_codec.specs.Reading.{reading_of}
@@ -104,9 +104,9 @@ abbrev pub ArrivesWithin : Type 0
 ArrivesWithin = (b : List ℕ) (a : Arrival) → arrival_in b ≡ Some a → ArrivalWithin a
 
 -- What has these lengths may be written. In a CR the pointer of the optional part skips the called address too, which leaves
--- 253 octets for that.
+-- two octets less for that.
 pub record WritesWithin : Type 0 where
-  pub cr : (slr class : ℕ) (called : List ℕ) (credit : Option ℕ) (calling body : Option (List ℕ)) (hop importance : Option ℕ) → length called ≤ 253 → IsAddress calling → IsData body → InRange (Cr slr class called credit calling body hop importance)
+  pub cr : (slr class : ℕ) (called : List ℕ) (credit : Option ℕ) (calling body : Option (List ℕ)) (hop importance : Option ℕ) → length called ≤ LONGEST_ADDRESS - 2 → IsAddress calling → IsData body → InRange (Cr slr class called credit calling body hop importance)
   pub cc : (dlr slr class : ℕ) (credit : Option ℕ) (called body : Option (List ℕ)) (importance : Option ℕ) → IsAddress called → IsData body → InRange (Cc dlr slr class credit called body importance)
   pub cref : (dlr cause : ℕ) (called body : Option (List ℕ)) (importance : Option ℕ) → IsAddress called → IsData body → InRange (Cref dlr cause called body importance)
   pub rlsd : (dlr slr cause : ℕ) (body : Option (List ℕ)) (importance : Option ℕ) → IsData body → InRange (Rlsd dlr slr cause body importance)

@@ -4,6 +4,7 @@ use Rattle.std.specs.Prelude.{◌≡◌, ◌==◌, ℕ, ◌+◌, ◌-◌, ◌*�
 use Rattle.std.specs.List.{list_any}
 use Rattle.timer_wheel.specs.Timers.{Armed, timer_of, after_tick}
 use Rattle.connection_law.specs.TimerLaw.{IsQuiet}
+use Rattle.section_coupling.specs.declared.duo.TheConstants.{TIMERS}
 use Rattle.section_coupling.specs.Duos.{DuoState, duo_at, ticks_left}
 use Rattle.conn_lane.specs.declared.change.Next.{Next}
 use Rattle.conn_lane.specs.declared.change.Change.{Change}
@@ -25,7 +26,7 @@ timer_left taken timer (Some d) = option_map (ticks_in_wheel taken) (ticks_left 
 
 -- with the timers of a connection that is as it is now, after so many ticks of its lane
 abbrev pub with_timers : ℕ → ℕ → Option DuoState → List Armed → List Armed
-with_timers taken number one armed = with_first (λ timer. timer_left taken timer one) number 14 armed
+with_timers taken number one armed = with_first (λ timer. timer_left taken timer one) number TIMERS armed
 
 abbrev pub all_with_timers : ℕ → List Next → List Armed → List Armed
 all_with_timers taken [] armed = armed
@@ -40,9 +41,9 @@ alarms_after (Ticked nexts) number taken armed = all_with_timers (taken + 1) nex
 
 -- What holds of it: it has each running timer of a connection that isn't over, once, with the ticks that are left of it, and it has no others.
 pub record IsTimed (taken : ℕ) (kept : List (Option DuoState)) (armed : List Armed) : Type 0 where
-  pub running : (number timer : ℕ) → timer < 14
+  pub running : (number timer : ℕ) → timer < TIMERS
       → ticks_of (timer_of number timer) armed ≡ option_to_list (timer_left taken timer (get_or kept number None))
-  pub others : (number timer : ℕ) → 14 ≤ timer → ticks_of (timer_of number timer) armed ≡ []
+  pub others : (number timer : ℕ) → TIMERS ≤ timer → ticks_of (timer_of number timer) armed ≡ []
 
 -- A tick.
 
@@ -79,7 +80,7 @@ count_of (Ticked nexts) = length nexts.items
 
 -- how many timers the connections have that it changes
 abbrev pub timers_of : Change → ℕ
-timers_of change = 14 * count_of change
+timers_of change = TIMERS * count_of change
 
 abbrev pub AllBelow : ℕ → List Next → Type 0
 AllBelow count nexts = All (λ n. n.number < count) nexts

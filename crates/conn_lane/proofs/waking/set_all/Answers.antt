@@ -1,3 +1,4 @@
+use Rattle.section_coupling.specs.declared.duo.TheConstants.{TIMERS}
 use Rattle.std.proofs.Common.{◌≡◌, ℕ, ◌+◌, ◌∷◌, length, drop, Option, sym, ap, ◌∙◌, arith}
 use Rattle.timer_wheel.specs.Timers.{Timers}
 use Rattle.conn_lane.specs.Inner.Waking.{timer_left, with_timers, all_with_timers}
@@ -22,7 +23,7 @@ loop-next-preserved c =
         ap (λ xs. length xs) here,
         ap (λ (v : Timers). length v.armed) value,
         ap (λ (v : Timers). v.room) value,
-        first_length left next.number 14 c.loop-next.wheel.armed,
+        first_length left next.number TIMERS c.loop-next.wheel.armed,
       );
       still = ap (λ (v : Timers). v.room) value ∙ c.loop-next.invariant.still;
     }
