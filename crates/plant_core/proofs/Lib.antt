@@ -1,2 +1,2 @@
 pub mod AddressLengths
-pub mod StatusLemmas
+pub mod MemberLemmas

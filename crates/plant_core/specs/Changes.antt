@@ -1,6 +1,6 @@
 -- What changes do to the routing data: edits of the translation (Q.714, 2.4), the status of points (Q.714, 5.2), that of subsystems of
 -- other points (Q.714, 5.3.2 and 5.3.3), and users that go in and out of service (Q.714, 5.3).
-use Rattle.std.specs.Prelude.{ℕ, ◌==◌, ◌&&◌, not, Bool, true, false, List, [], ◌∷◌, ◌++◌, filter, if◌then◌else◌, Option, Some, None}
+use Rattle.std.specs.Prelude.{ℕ, ◌==◌, ◌&&◌, ◌||◌, nat_lt, not, Bool, true, false, List, [], ◌∷◌, ◌++◌, filter, if◌then◌else◌, Option, Some, None}
 use Rattle.gtt_table.specs.Adding.{add_refusal}
 use Rattle.gtt_table.specs.Rows.{has_row, without}
 use Rattle.gtt_table.specs.declared.table.AddFault.{AddFault}
@@ -9,6 +9,7 @@ use Rattle.plant_core.specs.declared.change.Change.{Change}
 use Rattle.plant_core.specs.declared.change.Change.TheVariants.{AddRow, DelRow, BarPoint, FreePoint, BarSub, FreeSub, LocalUp, LocalDown}
 use Rattle.plant_core.specs.declared.change.Verdict.{Verdict}
 use Rattle.plant_core.specs.declared.change.Verdict.TheVariants.{Alters, Same, Duplicate, RowsFull, NoRow}
+use Rattle.plant_core.specs.declared.statuses.RemoteSubsystem.{RemoteSubsystem}
 use Rattle.plant_core.specs.Plant.{RoutingData, is_among, is_same_subsystem, is_barred_subsystem, is_in_service}
 
 abbrev pub alters_if : Bool → Verdict
@@ -35,16 +36,27 @@ verdict_on p (LocalDown ssn) = alters_if (is_in_service p ssn)
 abbrev pub but_for : ℕ → List ℕ → List ℕ
 but_for n list = filter (λ x. not (x == n)) list
 
+-- the numbers with this one, by rising number
+abbrev pub with_number : ℕ → List ℕ → List ℕ
+with_number n list = filter (λ x. nat_lt x n) list ++ n ∷ filter (nat_lt n) list
+
+-- the subsystems with this one, by rising point and subsystem
+abbrev pub is_before : RemoteSubsystem → RemoteSubsystem → Bool
+is_before x other = nat_lt x.point other.point || (x.point == other.point && nat_lt x.ssn other.ssn)
+
+abbrev pub with_subsystem : RemoteSubsystem → List RemoteSubsystem → List RemoteSubsystem
+with_subsystem x list = filter (λ other. is_before other x) list ++ x ∷ filter (is_before x) list
+
 -- a change that alters adds to one list or takes from it
 unfoldable pub changed : RoutingData → Change → RoutingData
 changed p (AddRow row) = record p { rows = p.rows ++ row ∷ [] }
 changed p (DelRow selector prefix) = record p { rows = without selector prefix p.rows }
-changed p (BarPoint point) = record p { barred_points = p.barred_points ++ point ∷ [] }
+changed p (BarPoint point) = record p { barred_points = with_number point p.barred_points }
 changed p (FreePoint point) = record p { barred_points = but_for point p.barred_points }
-changed p (BarSub point ssn) = record p { barred_subsystems = p.barred_subsystems ++ record { point = point; ssn = ssn } ∷ [] }
+changed p (BarSub point ssn) = record p { barred_subsystems = with_subsystem (record { point = point; ssn = ssn }) p.barred_subsystems }
 changed p (FreeSub point ssn) = record p { barred_subsystems = filter (λ x. not (is_same_subsystem point ssn x)) p.barred_subsystems }
 changed p (LocalUp ssn) = record p { out_of_service = but_for ssn p.out_of_service }
-changed p (LocalDown ssn) = record p { out_of_service = p.out_of_service ++ ssn ∷ [] }
+changed p (LocalDown ssn) = record p { out_of_service = with_number ssn p.out_of_service }
 
 abbrev pub is_alters : Verdict → Bool
 is_alters Alters = true

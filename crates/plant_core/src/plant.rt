@@ -1,17 +1,14 @@
 //! The routing data, and its changes.
-ghost use Rattle.std.specs.Prelude.{◌≡◌, ◌+◌, ◌^◌, ◌<◌, ◌++◌, ◌∷◌, [], false, filter, not, vec_len, IsTrue, IsOk, None, IfOk, OnOk, OnErr};
-ghost use Rattle.std.specs.Vec.{vec_capacity};
-ghost use Rattle.plant_core.specs.Changes.{alters_if, but_for};
+ghost use Rattle.std.specs.Prelude.{◌≡◌, ◌+◌, ◌^◌, ◌<◌, ◌++◌, ◌∷◌, [], IsTrue, IsOk, None, IfOk, OnOk, OnErr};
+ghost use Rattle.plant_core.specs.Changes.{alters_if};
 ghost use Rattle.gtt_table.specs.Adding.{add_refusal, Refuses, HasMemory};
 ghost use Rattle.gtt_table.specs.Translation.{seen_look, translation_of};
 ghost use Rattle.sccp_address.specs.Form.{seen};
 
 use crate::answer::{Answer, Ask, Origin, Rewrite, RouteCause};
 use crate::change::{Change, Verdict};
-use crate::statuses::{
-    BarredPoints, BarredSubsystems, has_point, has_subsystem, points_of, put_point, put_subsystem,
-    put_user, subsystems_of, take_point_out, take_subsystem_out, take_user_out,
-};
+use crate::marks::Members;
+use crate::statuses::{BarredSubsystems, POINTS, SUBSYSTEMS};
 use gtt_table::{AddFault, Entity, Look, Row, Table};
 use relay_base::{Digits, Memory, Pc, Ssn};
 use sccp_address::Selector;
@@ -25,16 +22,14 @@ pub struct Plant {
     own: Pc,
     users: Vec<Ssn>,
     rows: Table,
-    barred_points: BarredPoints,
+    barred_points: Members,
     barred_subsystems: BarredSubsystems,
-    out_of_service: Vec<Ssn>,
+    out_of_service: Members,
     edition: u64,
 }
 
 impl Model for Plant {
-    ghost use Rattle.std.specs.Prelude.{◌&&◌, nat_lt, vec_len};
-    ghost use Rattle.std.specs.Vec.{vec_capacity};
-    ghost use Rattle.indexmap.specs.IndexSet.{spare};
+    ghost use Rattle.std.specs.Prelude.{◌≡◌, ◌&&◌};
     ghost use Rattle.plant_core.specs.Plant.{PlantState};
 
     ghost Value = { PlantState };
@@ -44,16 +39,19 @@ impl Model for Plant {
         own = p.own;
         users = p.users.items;
         rows = p.rows.rows;
-        barred_points = p.barred_points.keys;
-        barred_subsystems = p.barred_subsystems.keys;
-        out_of_service = p.out_of_service.items;
+        barred_points = p.barred_points.members;
+        barred_subsystems = p.barred_subsystems.members;
+        out_of_service = p.out_of_service.members;
       };
       edition = p.edition;
       has_room = p.rows.has_room
-          && nat_lt 0 (spare p.barred_points)
-          && nat_lt 0 (spare p.barred_subsystems)
-          && nat_lt (vec_len p.out_of_service) (vec_capacity p.out_of_service);
+          && p.barred_points.has_room
+          && p.barred_subsystems.has_room
+          && p.out_of_service.has_room;
     } };
+
+    ghost invariant = { λ p.
+        (p.barred_points.size ≡ 16384) × (p.out_of_service.size ≡ 256) };
 }
 
 impl Plant {
@@ -72,9 +70,9 @@ impl Plant {
             own: point,
             users: Vec::from_slice(alloc, users)?,
             rows: Table::new(alloc),
-            barred_points: BarredPoints::new(alloc),
+            barred_points: Members::new(alloc, POINTS),
             barred_subsystems: BarredSubsystems::new(alloc),
-            out_of_service: Vec::new(alloc),
+            out_of_service: Members::new(alloc, SUBSYSTEMS),
             edition: 0,
         })
     }
@@ -111,44 +109,16 @@ impl Plant {
         ensures routing { IfOk result (λ p. p.routing ≡ self.now.routing) }
         ensures edition { IfOk result (λ p. p.edition ≡ self.now.edition) }
     {
-        let out_of_service = self.out_of_service.clone()?;
-        let barred = self.barred()?;
-        self.with_statuses(out_of_service, barred)
-    }
-
-    /// What is barred at other points.
-    fn barred(&self) -> Result<(BarredPoints, BarredSubsystems), Memory>
-        ensures points { IfOk result (λ x. x.0.keys ≡ self.now.routing.barred_points) }
-        ensures subsystems { IfOk result (λ x. x.1.keys ≡ self.now.routing.barred_subsystems) }
-    {
-        let points = points_of(&self.barred_points)?;
-        Ok((points, subsystems_of(&self.barred_subsystems)?))
-    }
-
-    /// A plant with these statuses, and all else as here.
-    fn with_statuses(
-        &self,
-        out_of_service: Vec<Ssn>,
-        barred: (BarredPoints, BarredSubsystems),
-    ) -> Result<Plant, Memory>
-        ensures routing { let routing = record self.now.routing {
-          barred_points = barred.0.keys;
-          barred_subsystems = barred.1.keys;
-          out_of_service = out_of_service.items;
-        }
-            in IfOk result (λ p. p.routing ≡ routing) }
-        ensures edition { IfOk result (λ p. p.edition ≡ self.now.edition) }
-    {
         let users = self.users.clone()?;
         let rows = self.rows.copy()?;
-        let (barred_points, barred_subsystems) = barred;
+        let barred_points = self.barred_points.copy()?;
         Ok(Plant {
             own: self.own,
             users,
             rows,
             barred_points,
-            barred_subsystems,
-            out_of_service,
+            barred_subsystems: self.barred_subsystems.copy()?,
+            out_of_service: self.out_of_service.copy()?,
             edition: self.edition,
         })
     }
@@ -169,7 +139,7 @@ impl Plant {
     fn is_out(&self, ssn: Ssn) -> bool
         ensures { result ≡ is_among ssn self.now.routing.out_of_service }
     {
-        self.out_of_service.contains(&ssn)
+        self.out_of_service.has(ssn.number() as usize)
     }
 
     /// Whether a subsystem number is that of a user in service (Q.714, 2.3).
@@ -182,13 +152,13 @@ impl Plant {
     fn is_barred_point(&self, point: Pc) -> bool
         ensures { result ≡ is_among point self.now.routing.barred_points }
     {
-        has_point(&self.barred_points, point)
+        self.barred_points.has(point.number() as usize)
     }
 
     fn is_barred_subsystem(&self, point: Pc, ssn: Ssn) -> bool
         ensures { result ≡ is_barred_subsystem self.now.routing point ssn }
     {
-        has_subsystem(&self.barred_subsystems, point, ssn)
+        self.barred_subsystems.has(point, ssn)
     }
 
     fn is_barred_at(&self, point: Pc, ssn: Option<Ssn>) -> bool
@@ -241,10 +211,9 @@ impl Plant {
         ensures room { OnOk result (IsTrue self.new.has_room) }
     {
         self.rows.make_room()?;
-        self.barred_points.reserve(1)?;
-        self.barred_subsystems.reserve(1)?;
-        self.out_of_service.reserve(1)?;
-        Ok(())
+        self.barred_points.make_room()?;
+        self.barred_subsystems.make_room()?;
+        self.out_of_service.make_room()
     }
 
     #[tactic(auto, unfolding(crate::specs::Changes::changed))]
@@ -264,26 +233,24 @@ impl Plant {
 
     #[tactic(auto, unfolding(crate::specs::Changes::changed))]
     fn bar_point(&mut self, point: Pc) -> Result<(), Memory>
-        requires { is_among point self.old.routing.barred_points ≡ false }
         ensures ok { let routing = changed self.old.routing (change.BarPoint point)
             in OnOk result (self.new.routing ≡ routing) }
         ensures err { OnErr result (self.new.routing ≡ self.old.routing) }
         ensures edition { self.new.edition ≡ self.old.edition }
         ensures memory { IsTrue self.old.has_room → IsOk result }
     {
-        put_point(&mut self.barred_points, point)
+        self.barred_points.put(point.number() as usize)
     }
 
     #[tactic(auto, unfolding(crate::specs::Changes::changed))]
     fn bar_subsystem(&mut self, point: Pc, ssn: Ssn) -> Result<(), Memory>
-        requires { is_barred_subsystem self.old.routing point ssn ≡ false }
         ensures ok { let routing = changed self.old.routing (change.BarSub point ssn)
             in OnOk result (self.new.routing ≡ routing) }
         ensures err { OnErr result (self.new.routing ≡ self.old.routing) }
         ensures edition { self.new.edition ≡ self.old.edition }
         ensures memory { IsTrue self.old.has_room → IsOk result }
     {
-        put_subsystem(&mut self.barred_subsystems, point, ssn)
+        self.barred_subsystems.put(point, ssn)
     }
 
     /// Makes a change that alters the routing data.
@@ -301,15 +268,11 @@ impl Plant {
                 let _ = self.rows.remove(selector, prefix);
             }
             Change::BarPoint(point) => return self.bar_point(*point),
-            Change::FreePoint(point) => take_point_out(&mut self.barred_points, *point),
+            Change::FreePoint(point) => self.barred_points.take(point.number() as usize),
             Change::BarSub(point, ssn) => return self.bar_subsystem(*point, *ssn),
-            Change::FreeSub(point, ssn) => take_subsystem_out(
-                &mut self.barred_subsystems,
-                *point,
-                *ssn,
-            ),
-            Change::LocalUp(ssn) => take_user_out(&mut self.out_of_service, *ssn),
-            Change::LocalDown(ssn) => return put_user(&mut self.out_of_service, *ssn),
+            Change::FreeSub(point, ssn) => self.barred_subsystems.take(*point, *ssn),
+            Change::LocalUp(ssn) => self.out_of_service.take(ssn.number() as usize),
+            Change::LocalDown(ssn) => return self.out_of_service.put(ssn.number() as usize),
         }
         Ok(())
     }

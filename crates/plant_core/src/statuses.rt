@@ -1,17 +1,21 @@
-//! Lists of what is out of service.
-ghost use Rattle.std.proofs.Common.{rules};
-ghost use Rattle.std.specs.Cmp.Rules.{hashing};
-ghost use Rattle.std.specs.Hash as fed;
+//! The subsystems of other points that are barred.
 ghost use Rattle.std.specs.List.{list_any};
-ghost use Rattle.std.specs.Prelude.{◌≡◌, ◌<◌, ◌++◌, ◌∷◌, [], false, filter, not, vec_len, IsOk, IfOk, OnOk, OnErr};
+ghost use Rattle.std.specs.Prelude.{◌≡◌, ◌⊎◌, ◌<◌, ◌≤◌, [], All, false, filter, get_or, length, not, replicate, set, vec_len, IsTrue, IsOk, IfOk, OnOk, OnErr};
 ghost use Rattle.std.specs.Vec.{vec_capacity};
-ghost use Rattle.indexmap.specs.IndexSet.{spare};
-ghost use Rattle.plant_core.specs.Plant.{is_among, is_same_subsystem};
-ghost use Rattle.plant_core.specs.Changes.{but_for};
+ghost use Rattle.plant_core.specs.Plant.{is_same_subsystem};
+ghost use Rattle.plant_core.specs.Changes.{with_subsystem};
+ghost use Rattle.plant_core.specs.Inner.Members.{IsWhole, subsystem, subsystems_from};
 
-use indexmap::IndexSet;
+use crate::marks::{Marks, fill};
 use relay_base::{Memory, Pc, Ssn};
-use std::hash::{Hash, Hasher};
+use std::alloc::Global;
+use std::marker::Model;
+
+/// How many points there are.
+pub const POINTS: usize = 16_384;
+
+/// How many subsystems a point has.
+pub const SUBSYSTEMS: usize = 256;
 
 /// A subsystem of another point.
 #[derive(Clone, Copy, Debug, PartialEq, Eq)]
@@ -20,107 +24,164 @@ pub struct RemoteSubsystem {
     pub ssn: Ssn,
 }
 
-impl Hash for RemoteSubsystem {
-    ghost hash_input = { λ remote. fed.u32 remote.point ++ fed.u32 remote.ssn };
+/// Subsystems of other points.
+#[derive(Drop)]
+pub struct BarredSubsystems {
+    /// The marks of each point's subsystems, by the number of the point. Points of which none was barred have none.
+    rows: Vec<Marks>,
+    /// The marks of the next point that has none; or none.
+    spare: Marks,
+    alloc: Global,
+}
 
-    ghost respects_eq = { Prim.search (hashing, rules) };
+impl Model for BarredSubsystems {
+    ghost use Rattle.std.specs.Prelude.{◌≡◌, ◌==◌, ◌&&◌, ◌≤◌, ◌⊎◌, [], All, false, length, nat_le, replicate};
+    ghost use Rattle.std.specs.Vec.{vec_capacity};
+    ghost use Rattle.plant_core.specs.Inner.Members.{SubsystemsState, IsWhole, subsystems_from};
 
-    fn hash<H: Hasher>(&self, state: &mut H) {
-        self.point.number().hash(state);
-        self.ssn.number().hash(state);
+    ghost Value = { SubsystemsState };
+
+    ghost view = { λ s. record {
+      members = subsystems_from 0 s.rows.items;
+      has_room = length s.spare == 256 && nat_le 16384 (vec_capacity s.rows);
+    } };
+
+    ghost invariant = { λ s. (length s.rows.items ≤ 16384) × All IsWhole s.rows.items
+        × ((s.spare ≡ []) ⊎ (s.spare ≡ replicate 256 false)) };
+}
+
+/// Lets rows reach up to a point.
+fn reach(alloc: Global, rows: &mut Vec<Marks>, point: Pc)
+    requires room { 16384 ≤ vec_capacity rows.old }
+    requires few { vec_len rows.old ≤ 16384 }
+    requires whole { All IsWhole rows.old.items }
+    ensures members { subsystems_from 0 rows.new.items ≡ subsystems_from 0 rows.old.items }
+    ensures whole { All IsWhole rows.new.items }
+    ensures reaches { point < vec_len rows.new }
+    ensures few { vec_len rows.new ≤ 16384 }
+{
+    for _ in rows.len()..point.number() as usize + 1 {
+        rows.push_reserved(Marks::none(alloc));
     }
 }
 
-/// The numbers of points in the order in which they were barred. Here and below one is found by its hash, in a time that doesn't grow with
-/// how many there are.
-pub type BarredPoints = IndexSet<u32>;
-
-/// Subsystems of other points in the order in which they were barred.
-pub type BarredSubsystems = IndexSet<RemoteSubsystem>;
-
-/// Whether a point is among them.
-pub fn has_point(barred: &BarredPoints, point: Pc) -> bool
-    ensures { result ≡ is_among point barred.now.keys }
+/// Gives a point that rows reach marks for its subsystems, where it has none.
+fn open(alloc: Global, rows: &mut Vec<Marks>, spare: &mut Marks, point: Pc)
+    requires reaches { point < vec_len rows.old }
+    requires whole { All IsWhole rows.old.items }
+    requires spare { spare.old ≡ replicate 256 false }
+    ensures members { subsystems_from 0 rows.new.items ≡ subsystems_from 0 rows.old.items }
+    ensures whole { All IsWhole rows.new.items }
+    ensures row { length (get_or rows.new.items point []) ≡ 256 }
+    ensures len { vec_len rows.new ≡ vec_len rows.old }
+    ensures spare { (spare.new ≡ []) ⊎ (spare.new ≡ replicate 256 false) }
 {
-    barred.contains(&point.number())
+    fill(alloc, &mut rows[point.number() as usize], spare, SUBSYSTEMS);
 }
 
-/// Whether a subsystem of another point is among them.
-pub fn has_subsystem(barred: &BarredSubsystems, point: Pc, ssn: Ssn) -> bool
-    ensures { result ≡ list_any (is_same_subsystem point ssn) barred.now.keys }
+fn is_marked(rows: &[Marks], point: usize, ssn: usize) -> bool
+    ensures { result ≡ get_or (get_or rows.now point []) ssn false }
 {
-    barred.contains(&RemoteSubsystem { point, ssn })
-}
-
-/// The same points.
-pub fn points_of(barred: &BarredPoints) -> Result<BarredPoints, Memory>
-    ensures { IfOk result (λ copy. copy.keys ≡ barred.now.keys) }
-{
-    Ok(barred.clone()?)
-}
-
-/// The same subsystems.
-pub fn subsystems_of(barred: &BarredSubsystems) -> Result<BarredSubsystems, Memory>
-    ensures { IfOk result (λ copy. copy.keys ≡ barred.now.keys) }
-{
-    Ok(barred.clone()?)
-}
-
-/// Puts a point, which isn't there, at the end.
-pub fn put_point(barred: &mut BarredPoints, point: Pc) -> Result<(), Memory>
-    requires { is_among point barred.old.keys ≡ false }
-    ensures ok { OnOk result (barred.new.keys ≡ barred.old.keys ++ point ∷ []) }
-    ensures err { OnErr result (barred.new.keys ≡ barred.old.keys) }
-    ensures memory { 0 < spare barred.old → IsOk result }
-{
-    match barred.insert(point.number()) {
-        Ok(_) => Ok(()),
-        Err(_) => Err(Memory),
+    match rows.get(point) {
+        Some(row) => row.has(ssn),
+        None => false,
     }
 }
 
-/// Puts a subsystem of another point, which isn't there, at the end.
-pub fn put_subsystem(barred: &mut BarredSubsystems, point: Pc, ssn: Ssn) -> Result<(), Memory>
-    requires { list_any (is_same_subsystem point ssn) barred.old.keys ≡ false }
-    ensures ok { let keys = barred.old.keys ++ record { point = point; ssn = ssn } ∷ []
-        in OnOk result (barred.new.keys ≡ keys) }
-    ensures err { OnErr result (barred.new.keys ≡ barred.old.keys) }
-    ensures memory { 0 < spare barred.old → IsOk result }
+fn take_from(rows: &mut Vec<Marks>, point: usize, ssn: usize)
+    ensures { let row = get_or rows.old.items point []
+        in rows.new.items ≡ set rows.old.items point (set row ssn false) }
 {
-    match barred.insert(RemoteSubsystem { point, ssn }) {
-        Ok(_) => Ok(()),
-        Err(_) => Err(Memory),
+    if point < rows.len() {
+        rows[point].take(ssn);
     }
 }
 
-/// Puts a user at the end.
-pub fn put_user(list: &mut Vec<Ssn>, ssn: Ssn) -> Result<(), Memory>
-    ensures ok { OnOk result (list.new.items ≡ list.old.items ++ ssn ∷ []) }
-    ensures err { OnErr result (list.new.items ≡ list.old.items) }
-    ensures memory { vec_len list.old < vec_capacity list.old → IsOk result }
+fn copy_of(alloc: Global, rows: &[Marks]) -> Result<Vec<Marks>, Memory>
+    ensures { IfOk result (λ copy. copy.items ≡ rows.now) }
 {
-    list.reserve(1)?;
-    list.push_reserved(ssn);
-    Ok(())
+    let mut copy = Vec::with_capacity(alloc, rows.len())?;
+    for row in rows {
+        copy.push(row.copy()?)?;
+    }
+    Ok(copy)
 }
 
-/// Takes a point out.
-pub fn take_point_out(barred: &mut BarredPoints, point: Pc)
-    ensures { barred.new.keys ≡ but_for point barred.old.keys }
-{
-    barred.retain(|item| *item != point.number());
-}
+impl BarredSubsystems {
+    /// No subsystems.
+    pub fn new(alloc: Global) -> BarredSubsystems
+        ensures { result.members ≡ [] }
+    {
+        BarredSubsystems {
+            rows: Vec::new(alloc),
+            spare: Marks::none(alloc),
+            alloc,
+        }
+    }
 
-/// Takes a user out.
-pub fn take_user_out(list: &mut Vec<Ssn>, ssn: Ssn)
-    ensures { list.new.items ≡ but_for ssn list.old.items }
-{
-    list.retain(|item| *item != ssn);
-}
+    /// The same subsystems.
+    pub fn copy(&self) -> Result<BarredSubsystems, Memory>
+        ensures { IfOk result (λ copy. copy.members ≡ self.now.members) }
+    {
+        Ok(BarredSubsystems {
+            rows: copy_of(self.alloc, &self.rows)?,
+            spare: Marks::none(self.alloc),
+            alloc: self.alloc,
+        })
+    }
 
-/// Takes a subsystem of another point out.
-pub fn take_subsystem_out(barred: &mut BarredSubsystems, point: Pc, ssn: Ssn)
-    ensures { barred.new.keys ≡ filter (λ x. not (is_same_subsystem point ssn x)) barred.old.keys }
-{
-    barred.retain(|remote| !(remote.point == point && remote.ssn == ssn));
+    /// Whether a subsystem is among them.
+    pub fn has(&self, point: Pc, ssn: Ssn) -> bool
+        ensures { result ≡ list_any (is_same_subsystem point ssn) self.now.members }
+    {
+        is_marked(&self.rows, point.number() as usize, ssn.number() as usize)
+    }
+
+    /// Takes memory: the next one that is put in isn't refused.
+    pub fn make_room(&mut self) -> Result<(), Memory>
+        ensures members { self.new.members ≡ self.old.members }
+        ensures room { OnOk result (IsTrue self.new.has_room) }
+        ensures memory { IsTrue self.old.has_room → IsOk result }
+    {
+        self.rows.reserve(POINTS - self.rows.len())?;
+        if self.spare.is_none() {
+            self.spare = Marks::cleared(self.alloc, SUBSYSTEMS)?;
+        }
+        Ok(())
+    }
+
+    /// Puts a subsystem in its place, for which room was made.
+    fn mark(&mut self, point: Pc, ssn: Ssn)
+        requires { IsTrue self.old.has_room }
+        ensures { let members = with_subsystem (subsystem point ssn) self.old.members
+            in self.new.members ≡ members }
+    {
+        reach(self.alloc, &mut self.rows, point);
+        open(self.alloc, &mut self.rows, &mut self.spare, point);
+        self.rows[point.number() as usize].put(ssn.number() as usize);
+    }
+
+    /// Puts a subsystem in its place.
+    pub fn put(&mut self, point: Pc, ssn: Ssn) -> Result<(), Memory>
+        ensures ok { let members = with_subsystem (subsystem point ssn) self.old.members
+            in OnOk result (self.new.members ≡ members) }
+        ensures err { OnErr result (self.new.members ≡ self.old.members) }
+        ensures memory { IsTrue self.old.has_room → IsOk result }
+    {
+        self.make_room()?;
+        self.mark(point, ssn);
+        Ok(())
+    }
+
+    /// Takes a subsystem out.
+    pub fn take(&mut self, point: Pc, ssn: Ssn)
+        ensures { let others = filter (λ x. not (is_same_subsystem point ssn x)) self.old.members
+            in self.new.members ≡ others }
+    {
+        take_from(
+            &mut self.rows,
+            point.number() as usize,
+            ssn.number() as usize,
+        );
+    }
 }
