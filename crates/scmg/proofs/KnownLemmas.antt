@@ -1,5 +1,5 @@
 -- A change alters the service of no user but the one that it is about.
-use Rattle.std.proofs.Common.{◌≡◌, ℕ, ◌+◌, ◌==◌, Bool, true, false, not, List, [], ◌∷◌, ◌++◌, map, filter, cond, refl, sym, ap, ◌∙◌, ⊎_elim, arith, zero, suc, Option, Some, append-nil}
+use Rattle.std.proofs.Common.{◌≡◌, ℕ, ◌+◌, ◌==◌, Bool, true, false, not, List, [], ◌∷◌, ◌++◌, map, filter, cond, refl, sym, ap, ap₂, ◌∙◌, nat_lt, ⊎_elim, arith, zero, suc, Option, Some, append-nil}
 use Rattle.std.specs.Prelude.{◌&&◌, ◌||◌}
 use Rattle.std.specs.List.{range_with_len}
 use Rattle.std.proofs.lemmas.Bool.{cases_Bool, eqb-true, eqb-false, ne_eqb}
@@ -11,7 +11,8 @@ use Rattle.relay_base.specs.declared.words.Tell.{Tell}
 use Rattle.plant_core.specs.declared.change.Change.{Change}
 use Rattle.plant_core.specs.declared.change.Change.TheVariants.{AddRow, DelRow, BarPoint, FreePoint, BarSub, FreeSub, LocalUp, LocalDown}
 use Rattle.plant_core.specs.Plant.{RoutingData, is_among}
-use Rattle.plant_core.specs.Changes.{but_for, verdict_on, is_alters, changed, plant_after}
+use Rattle.plant_core.proofs.MemberLemmas.{any-append}
+use Rattle.plant_core.specs.Changes.{but_for, with_number, verdict_on, is_alters, changed, plant_after}
 use Rattle.scmg.specs.declared.head.ControlHead.{ControlHead}
 use Rattle.scmg.specs.Control.{subsystems, is_told, told_among, told_all, made_known, to_concerned}
 
@@ -71,9 +72,39 @@ all-alike : (ssn : ℕ) (p q : RoutingData) (t : Tell) → ServeAlike ssn p q �
 all-alike ssn p q t alike = ap (map (λ n. Told n t)) (filter-alike (is_told q (Some ssn)) (is_told p (Some ssn)) (told-alike ssn p q alike) subsystems)
 
 -- one user goes out of service, or comes back
-goes-out : (ssn x : ℕ) (out : List ℕ) → (x == ssn) ≡ false → is_among x (out ++ ssn ∷ []) ≡ is_among x out
-goes-out ssn x [] e = let f : (ssn == x) ≡ false = ne_eqb ssn x (λ s. eqb-false x ssn e (sym s)) in ap (λ b. b || false) f
-goes-out ssn x (y ∷ out) e = ap (λ b. (y == x) || b) (goes-out ssn x out e)
+on-either-side : (x y ssn : ℕ) → (x == ssn) ≡ false → (y == x) ≡ true → (nat_lt y ssn || nat_lt ssn y) ≡ true
+on-either-side x y ssn e t = grind (arith, e, t)
+
+among-more : (x y : ℕ) (b : Bool) (list : List ℕ) → is_among x (cond b (y ∷ list) list) ≡ ((b && (y == x)) || is_among x list)
+among-more x y true list = refl
+among-more x y false list = refl
+
+either-side : (below above same f g : Bool) → (same ≡ true → (below || above) ≡ true) → (((below && same) || f) || ((above && same) || g)) ≡ (same || (f || g))
+either-side true true true f g h = refl
+either-side true false true f g h = refl
+either-side false true true true g h = refl
+either-side false true true false g h = refl
+either-side false false true f g h = ap (λ b. cond b true (f || g)) (h refl)
+either-side true true false f g h = refl
+either-side true false false f g h = refl
+either-side false true false f g h = refl
+either-side false false false f g h = refl
+
+both-sides : (ssn x : ℕ) (out : List ℕ) → (x == ssn) ≡ false → (is_among x (filter (λ y. nat_lt y ssn) out) || is_among x (filter (nat_lt ssn) out)) ≡ is_among x out
+both-sides ssn x [] e = refl
+both-sides ssn x (y ∷ out) e =
+    let below = filter (λ y. nat_lt y ssn) out in
+    let above = filter (nat_lt ssn) out in
+    ap₂ (λ a b. a || b) (among-more x y (nat_lt y ssn) below) (among-more x y (nat_lt ssn y) above)
+    ∙ either-side (nat_lt y ssn) (nat_lt ssn y) (y == x) (is_among x below) (is_among x above) (on-either-side x y ssn e)
+    ∙ ap (λ b. (y == x) || b) (both-sides ssn x out e)
+
+goes-out : (ssn x : ℕ) (out : List ℕ) → (x == ssn) ≡ false → is_among x (with_number ssn out) ≡ is_among x out
+goes-out ssn x out e =
+    let below = filter (λ y. nat_lt y ssn) out in
+    let above = filter (nat_lt ssn) out in
+    let f : (ssn == x) ≡ false = ne_eqb ssn x (λ s. eqb-false x ssn e (sym s)) in
+    any-append (λ y. y == x) below (ssn ∷ above) ∙ ap (λ b. is_among x below || (b || is_among x above)) f ∙ both-sides ssn x out e
 
 comes-back : (ssn x : ℕ) (out : List ℕ) → (x == ssn) ≡ false → is_among x (but_for ssn out) ≡ is_among x out
 comes-back ssn x [] e = refl
