@@ -1,5 +1,6 @@
 //! Connections, from their opening to their release, and units beside them.
 use crate::running::assert_run;
+use crate::texts::TITLE;
 use std::alloc::{AllocError, Global};
 use std::process::Abort;
 use std::sync::Wait;
@@ -9,18 +10,6 @@ use std::thread::Threads;
 /// Own point 100 and user 8.
 const USER: &str = "point = 100
 users = [8]
-%%
-";
-
-/// The same, and a row that sends titles of digits 49 to point 300.
-const TITLE: &str = "point = 100
-users = [8]
-[[row]]
-gti = 4
-np = 1
-nai = 4
-digits = \"49\"
-first = \"300/8/s\"
 %%
 ";
 

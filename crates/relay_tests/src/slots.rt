@@ -1,23 +1,12 @@
 //! The slots of a lane, a reference that is frozen, and a connection that falls silent, over whole captures.
 
-use crate::running::{SOUND, assert_left, call, count_of};
+use crate::running::{SOUND, call, count_of};
+use crate::texts::TITLE;
 use std::alloc::{AllocError, Global};
 use std::process::Abort;
 use std::sync::Wait;
 use std::test::Fail;
 use std::thread::Threads;
-
-/// A node with subsystem 8, and with titles from 49 on at point 300.
-const NODE: &str = "point = 100
-users = [8]
-[[row]]
-gti = 4
-np = 1
-nai = 4
-digits = \"49\"
-first = \"300/8/s\"
-%%
-";
 
 /// CRs of point 200 for subsystem 8, under so many source local references.
 fn openings(alloc: Global, count: u32) -> Result<String, AllocError> {
@@ -39,7 +28,7 @@ m 1 200 4 01090000020200024208
 fn a_full_lane(rt: HostRuntime) -> Result<(), Fail> {
     let alloc = rt.alloc();
     let openings = openings(alloc, 4_094)?;
-    let text = format!(in alloc; "{NODE}{openings}{LAST}")?;
+    let text = format!(in alloc; "{TITLE}{openings}{LAST}")?;
     let ran = call(&rt, alloc, &["run"], text.as_bytes(), [SOUND; 3])?;
     assert_eq!(rt; ran.status, 0);
     for (start, count) in [

@@ -1,5 +1,17 @@
 //! A capture of the connectionless service, and its print.
 
+/// The head of a node with user 8, and a row that sends titles of digits 49 to point 300.
+pub const TITLE: &str = "point = 100
+users = [8]
+[[row]]
+gti = 4
+np = 1
+nai = 4
+digits = \"49\"
+first = \"300/8/s\"
+%%
+";
+
 /// Units that are told, sent on, returned, put together, cut into segments, and lost.
 pub const UNITS: &str = "point = 100
 users = [8]
