@@ -5,6 +5,7 @@ use crate::lane::LaneState;
 use crate::table::{Opening, Turns, View};
 use atomic_table::{Seat, Table};
 use std::alloc::Global;
+use std::sync::atomic::AtomicUsize;
 
 mod ends;
 mod turns;
@@ -13,6 +14,8 @@ mod turns;
 #[derive(Drop)]
 pub struct Gate<L: LaneState> {
     pub(crate) table: Table<Option<L>, View, Opening<L>, Turns<L>, Global>,
+    /// How many callers sleep, or are about to: only where there is one does a turn's end wake it. No clause speaks of it.
+    pub(crate) sleeping: AtomicUsize,
     ghost sized: { (table.shared.table_id.words ≡ 1) × (table.shared.table_id.slots ≡ 1) × (0 < table.shared.key.callers) },
 }
 

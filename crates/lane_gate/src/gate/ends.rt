@@ -12,6 +12,7 @@ use atomic_table::Table;
 use relay_base::Memory;
 use std::alloc::Global;
 use std::snapshot::Snapshot;
+use std::sync::atomic::AtomicUsize;
 
 impl<L: LaneState> Gate<L> {
     /// A gate round the lane, and a pass for each of 1 to 9 callers. The passes are numbered from 0, as the links of the lane's plan. Only want of memory refuses it, and the lane is then let go.
@@ -34,7 +35,10 @@ impl<L: LaneState> Gate<L> {
         let Ok((table, seat)) = Table::new(alloc, &[0], slots, &opening) else {
             return Err(Memory);
         };
-        let gate = Gate { table };
+        let gate = Gate {
+            table,
+            sleeping: AtomicUsize::new(0),
+        };
         gate.hand_out(seat, callers, &mut passes);
         Ok((gate, PassList::from(passes)))
     }
@@ -83,7 +87,7 @@ impl<L: LaneState> Gate<L> {
             All (λ p. p.number ≢ link) passes → L.taken result link ≡ 0 }
     {
         let seat = self.gather(passes.into_vec());
-        let Gate { table } = self;
+        let Gate { table, sleeping: _ } = self;
         let mut closed = table.close_with(seat);
         let lane = closed.take(0);
         closed.free();

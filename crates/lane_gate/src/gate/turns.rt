@@ -14,8 +14,12 @@ use crate::table::{Abandon, Enter, Finish, Known, View};
 use atomic_table::{Badge, Play};
 use relay_base::{Memory, Stamp};
 use std::marker::Brand;
-use std::mem;
 use std::sync::Wait;
+use std::sync::atomic::Ordering;
+use std::{hint, mem};
+
+/// How often a caller that waits looks for the end of a turn before it sleeps: a turn takes about as long.
+const LOOKS: u32 = 200;
 
 impl<L: LaneState> Gate<L> {
     // Takes the turn, and the lane with it, or tells who has it.
@@ -57,7 +61,9 @@ impl<L: LaneState> Gate<L> {
         let left = shared.exchange(seat, 0, Some(lane));
         let None = left else { unreachable!() };
         shared.store::<M>(seat, 0, 0);
-        shared.wake_one(0);
+        if self.sleeping.load(Ordering::SeqCst) != 0 {
+            shared.wake_one(0);
+        }
     }
 
     // One turn of the caller at this place.
@@ -92,6 +98,26 @@ impl<L: LaneState> Gate<L> {
                     Err(Refused::Memory { event })
                 }
             },
+        }
+    }
+
+    // Whether the turn of this caller ended within so many looks.
+    fn ends_soon(&self, holder: u8) -> bool {
+        for _ in 0..LOOKS {
+            if self.table.shared.peek(0) != u64::from(holder) + 1 {
+                return true;
+            }
+            hint::spin_loop();
+        }
+        false
+    }
+
+    // Waits for the end of this caller's turn. It may end early.
+    fn wait_for<R: Wait>(&self, rt: &R, holder: u8) {
+        if !self.ends_soon(holder) {
+            self.sleeping.fetch_add(1, Ordering::SeqCst);
+            self.table.shared.park(rt, 0, u32::from(holder) + 1);
+            self.sleeping.fetch_sub(1, Ordering::SeqCst);
         }
     }
 
@@ -147,7 +173,7 @@ impl<L: LaneState> Gate<L> {
                     },
                 ) => {
                     event = back;
-                    self.table.shared.park(rt, 0, u32::from(holder) + 1);
+                    self.wait_for(rt, holder);
                 }
             }
         }
