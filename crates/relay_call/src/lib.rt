@@ -17,7 +17,7 @@ use serving::serve;
 use std::alloc::Global;
 use std::sync::Wait;
 use std::thread::Threads;
-use stop::{note_of, status_of};
+use stop::{Stop, note_of, status_of};
 
 /// Writes a text to `notes`, whose fault is passed over.
 fn say<N: Sink>(notes: &mut N, text: &[u8])
@@ -25,6 +25,17 @@ fn say<N: Sink>(notes: &mut N, text: &[u8])
         Says noted (N.faults notes.old) (N.faults notes.new) text.now }
 {
     let _ = write_all(notes, text);
+}
+
+/// What a caller does whom memory lacks before it has the words: `notes` gets the line that tells so, and the status is answered.
+pub fn lacks_memory<N: Sink>(notes: &mut N) -> u8
+    ensures status { result ≡ 7 }
+    ensures said { let noted = bytes (N.held notes.old) (N.held notes.new) in
+        let says = Says noted (N.faults notes.old) (N.faults notes.new) in
+        IfSome (plain_note 7) says }
+{
+    say(notes, note_of(&Stop::Memory));
+    status_of(&Stop::Memory)
 }
 
 /// Does what the words ask, and answers the status. `notes` gets the line that tells why a run stopped.

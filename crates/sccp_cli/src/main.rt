@@ -5,15 +5,16 @@ ghost use Rattle.std.specs.Prelude.{◌≡◌, drop, IfOk};
 ghost use Rattle.std.specs.Vec.Iter.{into_iter_items};
 
 use capture_form::Book;
-use relay_base::{NoPace, StdSink, StdSource};
-use relay_call::relay;
-use std::alloc::{AllocFailed, Global};
+use relay_base::{Memory, NoPace, StdSink, StdSource};
+use relay_call::{lacks_memory, relay};
+use std::alloc::Global;
 use std::env::Args;
+use std::io::ErrorKind;
 use std::process::ExitCode;
 use std::{env, io, mem};
 
 /// The words after the program's name, in their order.
-fn words(alloc: Global, args: Args) -> Result<Vec<String>, AllocFailed<String>>
+fn words(alloc: Global, args: Args) -> Result<Vec<String>, Memory>
     ensures { IfOk result (λ words. words.items ≡ drop 1 (into_iter_items args)) }
 {
     let mut args = args;
@@ -27,11 +28,18 @@ fn words(alloc: Global, args: Args) -> Result<Vec<String>, AllocFailed<String>>
 
 fn main(rt: HostRuntime) -> ExitCode {
     let alloc: Global = rt.alloc();
-    let Ok(args) = env::args(&rt) else {
-        return ExitCode::from(7);
+    let mut notes = StdSink {
+        inner: rt.stderr(),
+        faults: 0,
     };
-    let Ok(words) = words(alloc, args) else {
-        return ExitCode::from(7);
+    let words = match env::args(&rt) {
+        Ok(args) => words(alloc, args),
+        // a word that is no text is no word of a command
+        Err(error) if error.kind() == ErrorKind::InvalidData => Ok(Vec::new(alloc)),
+        Err(_) => Err(Memory),
+    };
+    let Ok(words) = words else {
+        return ExitCode::from(lacks_memory(&mut notes));
     };
     let mut source = StdSource {
         inner: rt.reader(),
@@ -39,10 +47,6 @@ fn main(rt: HostRuntime) -> ExitCode {
     };
     let mut out = StdSink {
         inner: io::writer(&rt),
-        faults: 0,
-    };
-    let mut notes = StdSink {
-        inner: rt.stderr(),
         faults: 0,
     };
     let mut book = Book::new(alloc);
