@@ -76,7 +76,7 @@ impl DueList {
     /// Gives the timers that fire up to this tick, in the place of what is there.
     pub(crate) fn fill(&mut self, tree: &Tree, tick: u64)
         requires sound { IsSound tree.now }
-        requires room { length (alarms tree.now) ≤ self.old.room }
+        requires room { length (due_by tick (alarms tree.now)) ≤ self.old.room }
         ensures { self.new ≡ record self.old { timers = due_by tick (alarms tree.now) } }
     {
         self.timers.clear();

@@ -1,6 +1,6 @@
 //! The running timers in a tree, from left to right by rising connection and timer. Each node has a rank that is scattered over all
 //! numbers, and none below it a higher one, so that the depth is about a logarithm of the timers, in whatever order they are started.
-ghost use Rattle.std.specs.Prelude.{◌≡◌, ◌+◌, ◌<◌, ◌≤◌, ◌∷◌, ◌++◌, [], All, filter, length, vec_len, map};
+ghost use Rattle.std.specs.Prelude.{◌≡◌, ◌+◌, ◌<◌, ◌≤◌, ◌∷◌, ◌++◌, ◌^◌, [], All, filter, length, vec_len, map};
 ghost use Rattle.std.specs.Vec.{vec_capacity};
 ghost use Rattle.timer_wheel.specs.Order.{is_before};
 ghost use Rattle.timer_wheel.specs.Inner.Tree.{alarms, before, behind, due_by, not_fires, recounted, IsSound, Rises};
@@ -173,13 +173,34 @@ pub(crate) fn without_due(tree: Tree, tick: u64, spare: &mut Vec<Box<Node>>) -> 
     }
 }
 
-/// Puts the timers that fire up to this tick at the end of a list, which has room for all.
+/// How many timers fire up to this tick.
+#[tactic(auto, using(crate::proofs::Order::none_fires))]
+pub(crate) fn count_due(tree: &Tree, tick: u64) -> usize
+    requires sound { IsSound tree.now }
+    requires few { length (alarms tree.now) < 2 ^ 64 }
+    ensures { result ≡ length (due_by tick (alarms tree.now)) }
+{
+    let Tree::Fork(node) = tree else {
+        return 0;
+    };
+    if node.soonest > tick {
+        return 0;
+    }
+    let beside = count_due(&node.left, tick) + count_due(&node.right, tick);
+    if node.alarm.tick <= tick {
+        beside + 1
+    } else {
+        beside
+    }
+}
+
+/// Puts the timers that fire up to this tick at the end of a list, which has room for them.
 #[tactic(auto, using(crate::proofs::Order::none_fires))]
 pub(crate) fn list_due(tree: &Tree, tick: u64, list: &mut Vec<Due>)
     requires sound { IsSound tree.now }
-    requires room { vec_len list.old + length (alarms tree.now) ≤ vec_capacity list.old }
+    requires room { let due = due_by tick (alarms tree.now) in vec_len list.old + length due ≤ vec_capacity list.old }
     ensures items { list.new.items ≡ list.old.items ++ due_by tick (alarms tree.now) }
-    ensures room { vec_len list.new ≤ vec_len list.old + length (alarms tree.now) }
+    ensures room { vec_len list.new ≡ vec_len list.old + length (due_by tick (alarms tree.now)) }
     ensures capacity { vec_capacity list.new ≡ vec_capacity list.old }
 {
     if let Tree::Fork(node) = tree {

@@ -9,7 +9,7 @@ ghost use Rattle.timer_wheel.specs.Inner.Tree.{alarms};
 ghost use Rattle.timer_wheel.specs.Inner.Turning.{armed_at, IsTurned};
 
 use crate::due::{Alarm, Due, DueList};
-use crate::tree::{Node, Tree, join, part, planted, recount, without_due};
+use crate::tree::{Node, Tree, count_due, join, part, planted, recount, without_due};
 use relay_base::Memory;
 use std::alloc::Global;
 use std::marker::Model;
@@ -128,9 +128,16 @@ impl Wheel {
         self.tree = join(join(before, timer), behind);
     }
 
-    /// Gives the timers that the next tick makes due, by rising connection and timer.
+    /// How many timers the next tick makes due.
+    pub fn due_count(&self) -> usize
+        ensures { result ≡ length (due_now self.now.armed) }
+    {
+        count_due(&self.tree, self.passed + 1)
+    }
+
+    /// Gives the timers that the next tick makes due, by rising connection and timer. The list has room for them, as one has with room for all that run.
     pub fn due(&self, list: &mut DueList)
-        requires room { length self.now.armed ≤ list.old.room }
+        requires room { length (due_now self.now.armed) ≤ list.old.room }
         ensures value { list.new ≡ record list.old { timers = due_now self.now.armed } }
         ensures rising { IsRising self.now.armed }
         ensures running { AreRunning self.now.armed }
