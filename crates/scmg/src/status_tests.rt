@@ -161,7 +161,7 @@ impl StatusTests {
         ensures { IfOk result (λ due. due.items ≡ filter is_due_test self.now.tests) }
     {
         let mut due = DueList::new(alloc);
-        due.reserve(self.wheel.running())?;
+        due.reserve(self.wheel.due_count())?;
         self.wheel.due(&mut due);
         tests_of(alloc, &self.intervals, due.as_slice())
     }

@@ -6,6 +6,9 @@ use Rattle.scmg.specs.Inner.Tests.{Running, TestsState, armed_again, has_row, in
 use Rattle.scmg.proofs.TestLemmas.{AllAt, tick-length, again-length, dues-all, left-all, again-all, ticked}
 use Rattle.scmg.proofs.status_tests.StatusTests.tick.Goals as goal
 
+pub due-requires : goal.due-requires
+due-requires c = record { room = omega (arith, tick-length c.self.inside.wheel.armed, c.self.invariant.1) }
+
 pub arm_again-requires-clause-rows : goal.arm_again-requires-clause-rows
 arm_again-requires-clause-rows c =
     let armed = c.self.inside.wheel.armed in
