@@ -120,6 +120,15 @@ impl DataLane {
         ensures ok { OnOk result (AddsEntry plant.now stamp event.now self.old self.new) }
         ensures err { OnErr result (self.new ≡ self.old) }
     {
+        let event = event.copied()?;
+        self.step_owned(plant, stamp, event)
+    }
+
+    /// The same with an event that becomes the journal's own, so that none is copied.
+    pub fn step_owned(&mut self, plant: &Plant, stamp: Stamp, event: Event) -> Result<(), Memory>
+        ensures ok { OnOk result (AddsEntry plant.now stamp event self.old self.new) }
+        ensures err { OnErr result (self.new ≡ self.old) }
+    {
         let context = Context {
             alloc: self.alloc,
             head: self.head,
@@ -127,10 +136,10 @@ impl DataLane {
             cut: self.cut,
             plant,
         };
-        let (asked, effect) = context.effect_of(event)?;
+        let (asked, effect) = context.effect_of(&event)?;
         let entry = Entry {
             stamp,
-            event: event.copied()?,
+            event,
             asked,
             outs: effect.outs,
         };
