@@ -66,19 +66,19 @@ fn prepare(
     head: &ControlHead,
     kept: &Kept,
     stamp: Stamp,
-    event: &ControlEvent,
+    event: ControlEvent,
 ) -> Result<(ControlEntry, Act), Memory>
-    ensures entry { let outs = (effect_of head.now kept.now.control event.now).outs in
+    ensures entry { let outs = (effect_of head.now kept.now.control event).outs in
         let entry : ControlEntry =
-        record { stamp = stamp; event = event.now; published = None; outs = outs }
+        record { stamp = stamp; event = event; published = None; outs = outs }
         in IfOk result (λ x. x.0 ≡ entry) }
-    ensures act { IfOk result (λ x. x.1 ≡ (effect_of head.now kept.now.control event.now).act) }
+    ensures act { IfOk result (λ x. x.1 ≡ (effect_of head.now kept.now.control event).act) }
 {
     let context = Context { alloc, head, kept };
-    let Effect { outs, act } = context.effect_of(event)?;
+    let Effect { outs, act } = context.effect_of(&event)?;
     let entry = ControlEntry {
         stamp,
-        event: event_of(event)?,
+        event,
         published: None,
         outs: fitted(outs),
     };
@@ -234,6 +234,27 @@ impl ControlLane {
             in count ≡ length (changes_of self.old) }
         requires few { length self.old.journal < 4294967295 }
         ensures ok { OnOk result (AddsEntry stamp event.now self.old self.new) }
+        ensures err { OnErr result (self.new ≡ self.old) }
+        ensures first { P.first publish.new ≡ P.first publish.old }
+        ensures published { let old = P.published publish.old in let new = P.published publish.new
+            in OnOk result (GrowAlike old new (changes_of self.old) (changes_of self.new)) }
+        ensures unpublished { OnErr result (P.published publish.new ≡ P.published publish.old) }
+    {
+        let event = event_of(event)?;
+        self.step_owned(publish, stamp, event)
+    }
+
+    /// The same with an event that becomes the journal's own, so that none is copied.
+    pub fn step_owned<P: Publish>(
+        &mut self,
+        publish: &mut P,
+        stamp: Stamp,
+        event: ControlEvent,
+    ) -> Result<(), Memory>
+        requires in_step { let count = P.first publish.old + length (P.published publish.old)
+            in count ≡ length (changes_of self.old) }
+        requires few { length self.old.journal < 4294967295 }
+        ensures ok { OnOk result (AddsEntry stamp event self.old self.new) }
         ensures err { OnErr result (self.new ≡ self.old) }
         ensures first { P.first publish.new ≡ P.first publish.old }
         ensures published { let old = P.published publish.old in let new = P.published publish.new
