@@ -268,7 +268,7 @@ impl Context {
         &self,
         plant: &Plant,
         stamp: Stamp,
-        event: &Event,
+        event: Event,
         openings: &Openings,
         wheel: &Wheel,
     ) -> Result<(Change, Entry), Memory>
@@ -286,14 +286,13 @@ impl Context {
         ensures woken { let due = due_now wheel.now.armed in IfOk result (λ r.
             WakesDue (λ n. is_due n due) openings.now.kept r.0) }
         ensures stamp { IfOk result (λ r. r.1.stamp ≡ stamp) }
-        ensures event { IfOk result (λ r. r.1.event ≡ event.now) }
+        ensures event { IfOk result (λ r. r.1.event ≡ event) }
     {
         let Turn {
             change,
             asked,
             outs,
-        } = self.turn(plant, event, openings, wheel)?;
-        let event = event.copied()?;
+        } = self.turn(plant, &event, openings, wheel)?;
         let entry = Entry {
             stamp,
             event,
@@ -330,6 +329,16 @@ impl ConnLane {
     pub fn step(&mut self, plant: &Plant, stamp: Stamp, event: &Event) -> Result<(), Memory>
         requires few { length self.old.journal < 2 ^ 32 }
         ensures ok { OnOk result (ConnLaneTakes plant.now stamp event.now self.old self.new) }
+        ensures err { OnErr result (self.new ≡ self.old) }
+    {
+        let event = event.copied()?;
+        self.step_owned(plant, stamp, event)
+    }
+
+    /// The same with an event that becomes the journal's own, so that none is copied.
+    pub fn step_owned(&mut self, plant: &Plant, stamp: Stamp, event: Event) -> Result<(), Memory>
+        requires few { length self.old.journal < 2 ^ 32 }
+        ensures ok { OnOk result (ConnLaneTakes plant.now stamp event self.old self.new) }
         ensures err { OnErr result (self.new ≡ self.old) }
     {
         let context = Context {

@@ -34,7 +34,7 @@ pub fn due(alloc: Global, wheel: &Wheel) -> Result<Vec<usize>, Memory>
     ensures { IfOk result (λ numbers. AreConnections (due_now wheel.now.armed) numbers.items) }
 {
     let mut list = DueList::new(alloc);
-    list.reserve(wheel.running())?;
+    list.reserve(wheel.due_count())?;
     wheel.due(&mut list);
     connections_of(alloc, list.as_slice())
 }

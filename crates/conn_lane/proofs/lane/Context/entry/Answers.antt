@@ -8,10 +8,8 @@ returns-clause-grows c =
     λ keeps at.
     let o = c.args.openings.now in
     let turn = c.in_ok-change.field-0 in
-    subst (λ outs. Comes c.args.plant.now c.args.self.now.head c.args.self.now.number c.in_ok-event.event keeps o (changed turn.change o) turn.asked outs)
-    (sym c.fitted.ensures)
-    (subst (λ e. Comes c.args.plant.now c.args.self.now.head c.args.self.now.number e keeps o (changed turn.change o) turn.asked turn.outs)
-    (sym c.in_ok-event.ensures) (c.in_ok-change.ensures.turns.comes keeps at).1)
+    subst (λ outs. Comes c.args.plant.now c.args.self.now.head c.args.self.now.number c.args.event keeps o (changed turn.change o) turn.asked outs)
+    (sym c.fitted.ensures) (c.in_ok-change.ensures.turns.comes keeps at).1
 
 pub returns-clause-fits : goal.returns-clause-fits
 returns-clause-fits c = λ keeps at. (c.in_ok-change.ensures.turns.comes keeps at).0

@@ -4,7 +4,7 @@ use Rattle.conn_lane.specs.Inner.Changes.{changed}
 use Rattle.conn_lane.proofs.LaneGrows.{lane_stands, lane_written, few_taken, on_ok, on_err}
 use Rattle.conn_lane.proofs.Quiet.{kept_quiet}
 use Rattle.conn_lane.proofs.Wakings.{timed_written}
-use Rattle.conn_lane.proofs.lane.ConnLane.step.Goals as goal
+use Rattle.conn_lane.proofs.lane.ConnLane.step_owned.Goals as goal
 
 pub entry-requires-clause-quiet : goal.entry-requires-clause-quiet
 entry-requires-clause-quiet c = kept_quiet c.self.inside.head c.self.inside.number c.self.inside.journal c.self.inside.openings c.self.invariant.0
@@ -37,7 +37,7 @@ pub returns-clause-ok : goal.returns-clause-ok
 returns-clause-ok c =
     on_ok c.write.result
     (λ same.
-    subst (λ v. ConnLaneTakes c.args.plant.now c.args.stamp c.args.event.now v (record { head = c.self.inside.head; number = c.self.inside.number; journal = c.write.new.journal })) c.self.view_is
+    subst (λ v. ConnLaneTakes c.args.plant.now c.args.stamp c.args.event v (record { head = c.self.inside.head; number = c.self.inside.number; journal = c.write.new.journal })) c.self.view_is
     (record {
       entry = c.in_ok-change.entry;
       journal = same;
