@@ -71,9 +71,6 @@ Carries-fails {U = U} a b c f g h text xs more now waits e r p q is = subst (Car
   kept = λ s. q.kept (λ x. s (search rules)) ∙ p.kept;
 })
 
-spread : (p q r s t u v : List ℕ) → (p ++ (q ++ (r ++ (s ++ t)))) ++ (u ++ v) ≡ p ++ q ++ r ++ s ++ t ++ u ++ v
-spread p q r s t u v = simp append_assoc refl
-
 -- the entries that are left, by the first of them
 pub entries-left : {X : Type 0} (print : X → List ℕ) (entries : List X) (n : ℕ) (entry : X) (text : List ℕ) → n < length entries → entry ≡ get_or entries n entry
     → text ++ flat_map print (drop n entries) ≡ (text ++ print entry) ++ flat_map print (drop (n + 1) entries)
@@ -84,16 +81,15 @@ entries-left {X} print entries n entry text within is =
 
 -- the lanes that are left, by the first of them, whose line joined the text
 pub lanes-left : (name : List ℕ) (lanes : List (List Entry)) (n : ℕ) (lane entries : List Entry) (text now : List ℕ) → n < length lanes → lane ≡ get_or lanes n lane → entries ≡ lane
-    → now ≡ text ++ (codes "= " ++ (name ++ (codes " " ++ (decimal n ++ codes "\n"))))
+    → now ≡ text ++ (codes "= " ++ name ++ codes " " ++ decimal n ++ codes "\n")
     → text ++ lanes_text name n (drop n lanes) ≡ (now ++ entries_text entries) ++ lanes_text name (n + 1) (drop (n + 1) lanes)
 lanes-left name lanes n lane entries text now within is same joined =
     let more = lanes_text name (n + 1) (drop (n + 1) lanes) in
-    let head = codes "= " ++ (name ++ (codes " " ++ (decimal n ++ codes "\n"))) in
+    let head = codes "= " ++ name ++ codes " " ++ decimal n ++ codes "\n" in
     let first = at_drop_more (lanes_text name n) lanes n lane within ∙ ap (λ (l : List Entry). lanes_text name n (l ∷ drop (n + 1) lanes)) (sym (same ∙ is)) in
-    let step = sym (spread (codes "= ") name (codes " ") (decimal n) (codes "\n") (entries_text entries) more) in
-    ap (λ l. text ++ l) (first ∙ step)
-    ∙ sym (append_assoc text head (entries_text entries ++ more))
-    ∙ sym (append_assoc (text ++ head) (entries_text entries) more)
+    ap (λ l. text ++ l) first
+    ∙ sym (append_assoc text (head ++ entries_text entries) more)
+    ∙ ap (λ l. l ++ more) (sym (append_assoc text head (entries_text entries)))
     ∙ ap (λ l. (l ++ entries_text entries) ++ more) (sym joined)
 
 -- the first texts were carried, and two more are to come

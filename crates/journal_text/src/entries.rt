@@ -1,23 +1,24 @@
 //! The print of the entries of a journal.
-ghost use Rattle.std.specs.Prelude.{◌≡◌};
-ghost use Rattle.journal_text.specs.Inner.Texts.{Gives, Puts};
-ghost use Rattle.journal_text.specs.Print.{cause_text, answer_text, asked_text, published_text, outs_text};
+ghost use Rattle.std.specs.Prelude.{◌≡◌, ◌++◌, codes};
+ghost use Rattle.journal_text.specs.Inner.Texts.{Puts};
+ghost use Rattle.journal_text.specs.Print.{cause_text, answer_text, asked_text, published_text, stamp_text, outs_text};
 
-use crate::tell::{number_text, push_output, words_text};
+use crate::tell::{put_number, put_output, put_words};
+use crate::text::Text;
 use plant_core::{Answer, Asked, ControlEntry, Entry, RouteCause};
 use relay_base::{Output, Stamp};
-use std::alloc::{AllocError, Global};
+use std::alloc::AllocError;
 
 /// An entry of a journal, which has a print.
 pub(crate) trait Printed {
-    ghost use Rattle.std.specs.Prelude.{◌≡◌, ℕ, List, ◌++◌, OnOk, string_bytes};
+    ghost use Rattle.std.specs.Prelude.{◌≡◌, ℕ, List, ◌++◌, OnOk};
 
     /// The print of an entry.
     ghost print: { Self → List ℕ };
 
     /// Appends the print.
-    fn push(&self, alloc: Global, text: &mut String) -> Result<(), AllocError>
-        ensures { OnOk result (string_bytes text.new ≡ string_bytes text.old ++ print self.now) };
+    fn put(&self, text: &mut Text) -> Result<(), AllocError>
+        ensures { OnOk result (text.new ≡ text.old ++ print self.now) };
 }
 
 fn cause_text(cause: RouteCause) -> &'static str
@@ -33,41 +34,52 @@ fn cause_text(cause: RouteCause) -> &'static str
     }
 }
 
-fn answer_text(alloc: Global, answer: Answer) -> Result<String, AllocError>
-    ensures { Gives result (answer_text answer) }
+fn put_answer(text: &mut Text, answer: Answer) -> Result<(), AllocError>
+    ensures { Puts result text.old text.new (codes " " ++ answer_text answer) }
 {
     match answer {
-        Answer::Local(ssn) => number_text(alloc, "local", ssn.number()),
-        Answer::Forward { dpc, .. } => number_text(alloc, "to", dpc.number()),
-        Answer::Refused { cause, .. } => words_text(alloc, "no", cause_text(cause)),
+        Answer::Local(ssn) => put_number(text, "local", ssn.number()),
+        Answer::Forward { dpc, .. } => put_number(text, "to", dpc.number()),
+        Answer::Refused { cause, .. } => put_words(text, "no", cause_text(cause)),
     }
 }
 
-fn asked_text(alloc: Global, asked: &Option<Asked>) -> Result<String, AllocError>
-    ensures { Gives result (asked_text asked.now) }
+fn put_asked(text: &mut Text, asked: &Option<Asked>) -> Result<(), AllocError>
+    ensures { Puts result text.old text.new (asked_text asked.now) }
 {
     let Some(asked) = asked else {
-        return Ok(String::new(alloc));
+        return Ok(());
     };
-    let edition = asked.edition;
-    let answer = answer_text(alloc, asked.answer)?;
-    format!(in alloc; " e{edition} {answer}")
+    text.word("e")?;
+    text.digits(asked.edition)?;
+    put_answer(text, asked.answer)
 }
 
-fn published_text(alloc: Global, published: Option<u64>) -> Result<String, AllocError>
-    ensures { Gives result (published_text published) }
+fn put_published(text: &mut Text, published: Option<u64>) -> Result<(), AllocError>
+    ensures { Puts result text.old text.new (published_text published) }
 {
-    match published {
-        Some(edition) => format!(in alloc; " new e{edition}"),
-        None => Ok(String::new(alloc)),
-    }
+    let Some(edition) = published else {
+        return Ok(());
+    };
+    text.word("new e")?;
+    text.digits(edition)
 }
 
-fn push_outs(alloc: Global, text: &mut String, outs: &[Output]) -> Result<(), AllocError>
+fn put_stamp(text: &mut Text, stamp: Stamp) -> Result<(), AllocError>
+    ensures { Puts result text.old text.new (stamp_text stamp) }
+{
+    text.digits(stamp.phase)?;
+    text.put(".")?;
+    text.digits(stamp.link)?;
+    text.put(".")?;
+    text.digits(stamp.line)
+}
+
+fn put_outs(text: &mut Text, outs: &[Output]) -> Result<(), AllocError>
     ensures { Puts result text.old text.new (outs_text outs.now) }
 {
     for output in outs {
-        push_output(alloc, text, output)?;
+        put_output(text, output)?;
     }
     Ok(())
 }
@@ -77,11 +89,11 @@ impl Printed for Entry {
 
     ghost print = { entry_text };
 
-    fn push(&self, alloc: Global, text: &mut String) -> Result<(), AllocError> {
-        let Stamp { phase, link, line } = self.stamp;
-        let asked = asked_text(alloc, &self.asked)?;
-        writeln!(text, "{phase}.{link}.{line}{asked}")?;
-        push_outs(alloc, text, self.outs.as_slice())
+    fn put(&self, text: &mut Text) -> Result<(), AllocError> {
+        put_stamp(text, self.stamp)?;
+        put_asked(text, &self.asked)?;
+        text.end_line()?;
+        put_outs(text, self.outs.as_slice())
     }
 }
 
@@ -90,10 +102,10 @@ impl Printed for ControlEntry {
 
     ghost print = { control_text };
 
-    fn push(&self, alloc: Global, text: &mut String) -> Result<(), AllocError> {
-        let Stamp { phase, link, line } = self.stamp;
-        let published = published_text(alloc, self.published)?;
-        writeln!(text, "{phase}.{link}.{line}{published}")?;
-        push_outs(alloc, text, self.outs.as_slice())
+    fn put(&self, text: &mut Text) -> Result<(), AllocError> {
+        put_stamp(text, self.stamp)?;
+        put_published(text, self.published)?;
+        text.end_line()?;
+        put_outs(text, self.outs.as_slice())
     }
 }

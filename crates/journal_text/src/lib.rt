@@ -4,6 +4,7 @@
 mod book;
 mod entries;
 mod tell;
+mod text;
 mod writing;
 
 pub use book::{Book, print_book};

@@ -1,31 +1,12 @@
-//! The text of what a user is told, of what is lost, and of outputs.
-ghost use Rattle.std.specs.Prelude.{◌≡◌, [], ◌∷◌};
+//! The text of what a user is told, of what is lost, and of outputs. Each word follows a space.
+ghost use Rattle.std.specs.Prelude.{◌≡◌, ◌++◌, [], ◌∷◌, codes};
 ghost use Rattle.std.specs.Fmt.{decimal};
-ghost use Rattle.journal_text.specs.Inner.Texts.{Gives, Puts};
-ghost use Rattle.journal_text.specs.Print.{spaced, octets_text, optional_text, up_text, reason_text, unit_text, data_text, tell_text, read_fault_text, lost_text, output_line};
+ghost use Rattle.journal_text.specs.Inner.Texts.{Puts};
+ghost use Rattle.journal_text.specs.Print.{spaced, up_text, reason_text, unit_text, data_text, tell_text, read_fault_text, lost_text, output_line};
 
+use crate::text::Text;
 use relay_base::{BoxedOctets, Lost, Octets, Output, Pc, ReadFault, Reason, Ref24, Sls, Ssn, Tell};
-use std::alloc::{AllocError, Global};
-
-/// Octets in hex, or a dash for none.
-fn octets_text(alloc: Global, octets: &[u8]) -> Result<String, AllocError>
-    ensures { Gives result (octets_text octets.now) }
-{
-    if octets.is_empty() {
-        String::from_str(alloc, "-")
-    } else {
-        hex::encode(alloc, octets)
-    }
-}
-
-fn optional_text(alloc: Global, octets: &Option<BoxedOctets>) -> Result<String, AllocError>
-    ensures { Gives result (optional_text octets.now) }
-{
-    match octets {
-        Some(octets) => octets_text(alloc, octets.as_slice()),
-        None => String::from_str(alloc, "-"),
-    }
-}
+use std::alloc::AllocError;
 
 fn up_text(up: bool) -> &'static str
     ensures { result.now ≡ up_text up }
@@ -48,120 +29,130 @@ fn reason_text(reason: Reason) -> &'static str
 }
 
 /// A word, a number, two addresses and data.
-fn unit_text(
-    alloc: Global,
+fn put_unit(
+    text: &mut Text,
     word: &str,
     number: u8,
     called: &BoxedOctets,
     calling: &BoxedOctets,
     body: &BoxedOctets,
-) -> Result<String, AllocError>
-    ensures { Gives result (unit_text word.now number called.now calling.now body.now) }
+) -> Result<(), AllocError>
+    ensures { let part = unit_text word.now number called.now calling.now body.now in
+        Puts result text.old text.new (codes " " ++ part) }
 {
-    let called = octets_text(alloc, called.as_slice())?;
-    let calling = octets_text(alloc, calling.as_slice())?;
-    let body = octets_text(alloc, body.as_slice())?;
-    format!(in alloc; "{word} {number} {called} {calling} {body}")
+    text.word(word)?;
+    text.number(number)?;
+    text.octets(called.as_slice())?;
+    text.octets(calling.as_slice())?;
+    text.octets(body.as_slice())
 }
 
-fn conn_text(
-    alloc: Global,
+fn put_conn(
+    text: &mut Text,
     mine: Ref24,
     class: u8,
     credit: u8,
     called: &BoxedOctets,
     calling: &Option<BoxedOctets>,
     body: &Option<BoxedOctets>,
-) -> Result<String, AllocError>
+) -> Result<(), AllocError>
     ensures { let told = Tell.Conn mine class credit called.now calling.now body.now in
-        Gives result (tell_text told) }
+        Puts result text.old text.new (codes " " ++ tell_text told) }
 {
-    let mine = mine.number();
-    let called = octets_text(alloc, called.as_slice())?;
-    let calling = optional_text(alloc, calling)?;
-    let body = optional_text(alloc, body)?;
-    format!(in alloc; "conn {mine} {class} {credit} {called} {calling} {body}")
+    text.word("conn")?;
+    text.number(mine.number())?;
+    text.number(class)?;
+    text.number(credit)?;
+    text.octets(called.as_slice())?;
+    text.optional(calling)?;
+    text.optional(body)
 }
 
-fn confirm_text(
-    alloc: Global,
+fn put_confirm(
+    text: &mut Text,
     mine: Ref24,
     class: u8,
     credit: u8,
     called: &Option<BoxedOctets>,
     body: &Option<BoxedOctets>,
-) -> Result<String, AllocError>
-    ensures { Gives result (tell_text (Tell.Confirm mine class credit called.now body.now)) }
+) -> Result<(), AllocError>
+    ensures { let told = Tell.Confirm mine class credit called.now body.now in
+        Puts result text.old text.new (codes " " ++ tell_text told) }
 {
-    let mine = mine.number();
-    let called = optional_text(alloc, called)?;
-    let body = optional_text(alloc, body)?;
-    format!(in alloc; "confirm {mine} {class} {credit} {called} {body}")
+    text.word("confirm")?;
+    text.number(mine.number())?;
+    text.number(class)?;
+    text.number(credit)?;
+    text.optional(called)?;
+    text.optional(body)
 }
 
 /// A word, the reference of a connection, and data that it carries.
-fn data_text(alloc: Global, word: &str, mine: Ref24, body: &Octets) -> Result<String, AllocError>
-    ensures { Gives result (data_text word.now mine body.now) }
+fn put_data(text: &mut Text, word: &str, mine: Ref24, body: &Octets) -> Result<(), AllocError>
+    ensures { Puts result text.old text.new (codes " " ++ data_text word.now mine body.now) }
 {
-    let mine = mine.number();
-    let body = octets_text(alloc, body.as_slice())?;
-    format!(in alloc; "{word} {mine} {body}")
+    put_number(text, word, mine.number())?;
+    text.octets(body.as_slice())
 }
 
-fn disc_text(
-    alloc: Global,
+fn put_disc(
+    text: &mut Text,
     mine: Ref24,
     cause: u8,
     body: &Option<BoxedOctets>,
-) -> Result<String, AllocError>
-    ensures { Gives result (tell_text (Tell.Disc mine cause body.now)) }
+) -> Result<(), AllocError>
+    ensures { let told = Tell.Disc mine cause body.now in
+        Puts result text.old text.new (codes " " ++ tell_text told) }
 {
-    let mine = mine.number();
-    let body = optional_text(alloc, body)?;
-    format!(in alloc; "disc {mine} {cause} {body}")
+    put_pair(text, "disc", mine.number(), u32::from(cause))?;
+    text.optional(body)
 }
 
-fn state_text(alloc: Global, ssn: Ssn, point: Pc, up: bool) -> Result<String, AllocError>
-    ensures { Gives result (tell_text (Tell.State ssn point up)) }
+fn put_state(text: &mut Text, ssn: Ssn, point: Pc, up: bool) -> Result<(), AllocError>
+    ensures { Puts result text.old text.new (codes " " ++ tell_text (Tell.State ssn point up)) }
 {
-    let ssn = ssn.number();
-    let point = point.number();
-    let up = up_text(up);
-    format!(in alloc; "state {ssn} {point} {up}")
+    put_pair(text, "state", ssn.number(), point.number())?;
+    text.word(up_text(up))
 }
 
-fn point_text(alloc: Global, point: Pc, up: bool) -> Result<String, AllocError>
-    ensures { Gives result (tell_text (Tell.Point point up)) }
+fn put_point(text: &mut Text, point: Pc, up: bool) -> Result<(), AllocError>
+    ensures { Puts result text.old text.new (codes " " ++ tell_text (Tell.Point point up)) }
 {
-    let point = point.number();
-    let up = up_text(up);
-    format!(in alloc; "point {point} {up}")
+    put_number(text, "point", point.number())?;
+    text.word(up_text(up))
 }
 
 /// A word and a number.
-pub fn number_text(alloc: Global, word: &str, number: u32) -> Result<String, AllocError>
-    ensures { Gives result (spaced (word.now ∷ decimal number ∷ [])) }
+pub fn put_number(text: &mut Text, word: &str, number: u32) -> Result<(), AllocError>
+    ensures { let part = spaced (word.now ∷ decimal number ∷ []) in
+        Puts result text.old text.new (codes " " ++ part) }
 {
-    format!(in alloc; "{word} {number}")
+    text.word(word)?;
+    text.number(number)
 }
 
 /// A word and two numbers.
-fn pair_text(alloc: Global, word: &str, first: u32, second: u32) -> Result<String, AllocError>
-    ensures { Gives result (spaced (word.now ∷ decimal first ∷ decimal second ∷ [])) }
+fn put_pair(text: &mut Text, word: &str, first: u32, second: u32) -> Result<(), AllocError>
+    ensures { let part = spaced (word.now ∷ decimal first ∷ decimal second ∷ []) in
+        Puts result text.old text.new (codes " " ++ part) }
 {
-    format!(in alloc; "{word} {first} {second}")
+    text.word(word)?;
+    text.number(first)?;
+    text.number(second)
 }
 
 /// Two words.
-pub fn words_text(alloc: Global, first: &str, second: &str) -> Result<String, AllocError>
-    ensures { Gives result (spaced (first.now ∷ second.now ∷ [])) }
+pub fn put_words(text: &mut Text, first: &str, second: &str) -> Result<(), AllocError>
+    ensures { let part = spaced (first.now ∷ second.now ∷ []) in
+        Puts result text.old text.new (codes " " ++ part) }
 {
-    format!(in alloc; "{first} {second}")
+    text.word(first)?;
+    text.word(second)
 }
 
-/// The text of what a user is told.
-pub fn tell_text(alloc: Global, tell: &Tell) -> Result<String, AllocError>
-    ensures { Gives result (tell_text tell.now) }
+/// Appends the text of what a user is told.
+fn put_tell(text: &mut Text, tell: &Tell) -> Result<(), AllocError>
+    ensures { Puts result text.old text.new (codes " " ++ tell_text tell.now) }
 {
     match tell {
         Tell::Unit {
@@ -169,13 +160,13 @@ pub fn tell_text(alloc: Global, tell: &Tell) -> Result<String, AllocError>
             called,
             calling,
             body,
-        } => unit_text(alloc, "unit", *class, called, calling, body),
+        } => put_unit(text, "unit", *class, called, calling, body),
         Tell::Notice {
             cause,
             called,
             calling,
             body,
-        } => unit_text(alloc, "notice", *cause, called, calling, body),
+        } => put_unit(text, "notice", *cause, called, calling, body),
         Tell::Conn {
             mine,
             class,
@@ -183,10 +174,10 @@ pub fn tell_text(alloc: Global, tell: &Tell) -> Result<String, AllocError>
             called,
             calling,
             body,
-        } => conn_text(alloc, *mine, *class, *credit, called, calling, body),
-        Tell::Named { tag, mine } => pair_text(alloc, "ref", u32::from(*tag), mine.number()),
+        } => put_conn(text, *mine, *class, *credit, called, calling, body),
+        Tell::Named { tag, mine } => put_pair(text, "ref", u32::from(*tag), mine.number()),
         Tell::NotMade { tag, cause } => {
-            pair_text(alloc, "not-made", u32::from(*tag), u32::from(*cause))
+            put_pair(text, "not-made", u32::from(*tag), u32::from(*cause))
         }
         Tell::Confirm {
             mine,
@@ -194,93 +185,87 @@ pub fn tell_text(alloc: Global, tell: &Tell) -> Result<String, AllocError>
             credit,
             called,
             body,
-        } => confirm_text(alloc, *mine, *class, *credit, called, body),
-        Tell::Text { mine, body } => data_text(alloc, "text", *mine, body),
-        Tell::Expedited { mine, body } => data_text(alloc, "ed", *mine, body),
+        } => put_confirm(text, *mine, *class, *credit, called, body),
+        Tell::Text { mine, body } => put_data(text, "text", *mine, body),
+        Tell::Expedited { mine, body } => put_data(text, "ed", *mine, body),
         Tell::Renewed { mine, cause } => {
-            pair_text(alloc, "reset", mine.number(), u32::from(*cause))
+            put_pair(text, "reset", mine.number(), u32::from(*cause))
         }
-        Tell::ResetDone { mine } => number_text(alloc, "reset-done", mine.number()),
-        Tell::Disc { mine, cause, body } => disc_text(alloc, *mine, *cause, body),
-        Tell::State { ssn, point, up } => state_text(alloc, *ssn, *point, *up),
-        Tell::Point { point, up } => point_text(alloc, *point, *up),
-        Tell::Coord { point } => number_text(alloc, "coord", point.number()),
-        Tell::Granted { point } => number_text(alloc, "granted", point.number()),
-        Tell::Denied { point } => number_text(alloc, "denied", point.number()),
-        Tell::No(reason) => words_text(alloc, "no", reason_text(*reason)),
+        Tell::ResetDone { mine } => put_number(text, "reset-done", mine.number()),
+        Tell::Disc { mine, cause, body } => put_disc(text, *mine, *cause, body),
+        Tell::State { ssn, point, up } => put_state(text, *ssn, *point, *up),
+        Tell::Point { point, up } => put_point(text, *point, *up),
+        Tell::Coord { point } => put_number(text, "coord", point.number()),
+        Tell::Granted { point } => put_number(text, "granted", point.number()),
+        Tell::Denied { point } => put_number(text, "denied", point.number()),
+        Tell::No(reason) => put_words(text, "no", reason_text(*reason)),
     }
 }
 
-fn read_fault_text(alloc: Global, fault: ReadFault) -> Result<String, AllocError>
-    ensures { Gives result (read_fault_text fault) }
+fn put_read_fault(text: &mut Text, fault: ReadFault) -> Result<(), AllocError>
+    ensures { Puts result text.old text.new (codes " " ++ read_fault_text fault) }
 {
     match fault {
-        ReadFault::Empty => String::from_str(alloc, "read 1"),
-        ReadFault::UnknownType(octet) => format!(in alloc; "read 2 {octet}"),
-        ReadFault::Short => String::from_str(alloc, "read 3"),
-        ReadFault::PointerOut(place) => format!(in alloc; "read 4 {place}"),
-        ReadFault::ValueLength(name) => format!(in alloc; "read 5 {name}"),
+        ReadFault::Empty => text.word("read 1"),
+        ReadFault::UnknownType(octet) => put_number(text, "read 2", u32::from(octet)),
+        ReadFault::Short => text.word("read 3"),
+        ReadFault::PointerOut(place) => put_number(text, "read 4", u32::from(place)),
+        ReadFault::ValueLength(name) => put_number(text, "read 5", u32::from(name)),
     }
 }
 
-fn lost_text(alloc: Global, lost: Lost) -> Result<String, AllocError>
-    ensures { Gives result (lost_text lost) }
+fn put_lost(text: &mut Text, lost: Lost) -> Result<(), AllocError>
+    ensures { Puts result text.old text.new (codes " " ++ lost_text lost) }
 {
     match lost {
-        Lost::Read(fault) => read_fault_text(alloc, fault),
-        Lost::Long => String::from_str(alloc, "long"),
-        Lost::Address => String::from_str(alloc, "address"),
-        Lost::Class => String::from_str(alloc, "class"),
-        Lost::Point => String::from_str(alloc, "point"),
-        Lost::State => String::from_str(alloc, "state"),
-        Lost::Stray => String::from_str(alloc, "stray"),
-        Lost::Segment => String::from_str(alloc, "segment"),
-        Lost::Manage => String::from_str(alloc, "manage"),
-        Lost::Cause(cause) => format!(in alloc; "cause {cause}"),
-        Lost::Same => String::from_str(alloc, "same"),
-        Lost::Duplicate => String::from_str(alloc, "duplicate"),
-        Lost::RowsFull => String::from_str(alloc, "rows-full"),
-        Lost::NoRow => String::from_str(alloc, "no-row"),
+        Lost::Read(fault) => put_read_fault(text, fault),
+        Lost::Long => text.word("long"),
+        Lost::Address => text.word("address"),
+        Lost::Class => text.word("class"),
+        Lost::Point => text.word("point"),
+        Lost::State => text.word("state"),
+        Lost::Stray => text.word("stray"),
+        Lost::Segment => text.word("segment"),
+        Lost::Manage => text.word("manage"),
+        Lost::Cause(cause) => put_number(text, "cause", u32::from(cause)),
+        Lost::Same => text.word("same"),
+        Lost::Duplicate => text.word("duplicate"),
+        Lost::RowsFull => text.word("rows-full"),
+        Lost::NoRow => text.word("no-row"),
     }
 }
 
-fn push_sent(
-    alloc: Global,
-    text: &mut String,
-    point: Pc,
-    sls: Sls,
-    bytes: &Octets,
-) -> Result<(), AllocError>
+fn put_sent(text: &mut Text, point: Pc, sls: Sls, bytes: &Octets) -> Result<(), AllocError>
     ensures { Puts result text.old text.new (output_line (Output.Sent point sls bytes.now)) }
 {
-    let point = point.number();
-    let sls = sls.number();
-    let bytes = octets_text(alloc, bytes.as_slice())?;
-    writeln!(text, " > {point} {sls} {bytes}")
+    put_pair(text, ">", point.number(), sls.number())?;
+    text.octets(bytes.as_slice())?;
+    text.end_line()
 }
 
-fn push_told(alloc: Global, text: &mut String, ssn: Ssn, tell: &Tell) -> Result<(), AllocError>
+fn put_told(text: &mut Text, ssn: Ssn, tell: &Tell) -> Result<(), AllocError>
     ensures { Puts result text.old text.new (output_line (Output.Told ssn tell.now)) }
 {
-    let ssn = ssn.number();
-    let tell = tell_text(alloc, tell)?;
-    writeln!(text, " < {ssn} {tell}")
+    put_number(text, "<", ssn.number())?;
+    put_tell(text, tell)?;
+    text.end_line()
 }
 
-fn push_lost(alloc: Global, text: &mut String, lost: Lost) -> Result<(), AllocError>
+fn put_lost_line(text: &mut Text, lost: Lost) -> Result<(), AllocError>
     ensures { Puts result text.old text.new (output_line (Output.Lost lost)) }
 {
-    let lost = lost_text(alloc, lost)?;
-    writeln!(text, " . {lost}")
+    text.word(".")?;
+    put_lost(text, lost)?;
+    text.end_line()
 }
 
 /// Appends the line of an output.
-pub fn push_output(alloc: Global, text: &mut String, output: &Output) -> Result<(), AllocError>
+pub fn put_output(text: &mut Text, output: &Output) -> Result<(), AllocError>
     ensures { Puts result text.old text.new (output_line output.now) }
 {
     match output {
-        Output::Sent { point, sls, bytes } => push_sent(alloc, text, *point, *sls, bytes),
-        Output::Told { ssn, tell } => push_told(alloc, text, *ssn, tell),
-        Output::Lost(lost) => push_lost(alloc, text, *lost),
+        Output::Sent { point, sls, bytes } => put_sent(text, *point, *sls, bytes),
+        Output::Told { ssn, tell } => put_told(text, *ssn, tell),
+        Output::Lost(lost) => put_lost_line(text, *lost),
     }
 }

@@ -1,14 +1,17 @@
 //! The print of a book, written to a sink, a long one in parts.
-ghost use Rattle.std.specs.Prelude.{◌≡◌, ◌≢◌, ◌++◌, Err, codes, string_bytes, OnOk, OnErr};
+ghost use Rattle.std.specs.Prelude.{◌≡◌, ◌≢◌, ◌++◌, Err, codes, OnOk, OnErr};
+ghost use Rattle.std.specs.Fmt.{decimal};
 ghost use Rattle.std.specs.List.{flat_map};
 ghost use Rattle.std.specs.Io.KnownBytes.{Appends};
 ghost use Rattle.relay_base.specs.Causes.{Rose};
 ghost use Rattle.relay_base.specs.Streams.{AppendedPart};
 ghost use Rattle.journal_text.specs.Print.{lanes_text, book_text};
+ghost use Rattle.journal_text.specs.Inner.Texts.{Puts};
 ghost use Rattle.journal_text.specs.Inner.Writing.{Writes, Carries, with_lanes};
 
 use crate::book::Book;
 use crate::entries::Printed;
+use crate::text::Text;
 use plant_core::EntryList;
 use relay_base::{Failed, Memory, Sink, write_all};
 use std::alloc::{AllocError, Global};
@@ -53,21 +56,21 @@ impl From<AllocError> for WriteFault {
     }
 }
 
-fn write_text<K: Sink>(out: &mut K, text: &str) -> Result<(), WriteFault>
+fn write_text<K: Sink>(out: &mut K, text: &Text) -> Result<(), WriteFault>
     ensures { Writes (K.held out.old) (K.held out.new) (K.faults out.old) (K.faults out.new)
         text.now result }
 {
-    write_all(out, text.as_bytes())?;
+    write_all(out, text.as_slice())?;
     Ok(())
 }
 
 /// Writes a text that waits, where it is long.
-fn write_if_long<K: Sink>(out: &mut K, text: &mut String) -> Result<(), WriteFault>
+fn write_if_long<K: Sink>(out: &mut K, text: &mut Text) -> Result<(), WriteFault>
     ensures { Carries (K.held out.old) (K.held out.new) (K.faults out.old) (K.faults out.new)
-        (string_bytes text.old) (string_bytes text.new) result }
+        text.old text.new result }
 {
     if text.len() >= LONG {
-        write_text(out, text.as_str())?;
+        write_text(out, text)?;
         text.clear();
     }
     Ok(())
@@ -75,65 +78,68 @@ fn write_if_long<K: Sink>(out: &mut K, text: &mut String) -> Result<(), WriteFau
 
 /// The print of an entry joins the text that waits.
 fn carry_entry<K: Sink, P: Printed>(
-    alloc: Global,
     out: &mut K,
-    text: &mut String,
+    text: &mut Text,
     entry: &P,
 ) -> Result<(), WriteFault>
     ensures { Carries (K.held out.old) (K.held out.new) (K.faults out.old) (K.faults out.new)
-        (string_bytes text.old ++ P.print entry.now) (string_bytes text.new) result }
+        (text.old ++ P.print entry.now) text.new result }
 {
-    entry.push(alloc, text)?;
+    entry.put(text)?;
     write_if_long(out, text)
 }
 
 /// The print of entries joins the text that waits.
 fn carry_entries<K: Sink, P: Printed>(
-    alloc: Global,
     out: &mut K,
-    text: &mut String,
+    text: &mut Text,
     entries: &[P],
 ) -> Result<(), WriteFault>
     ensures { Carries (K.held out.old) (K.held out.new) (K.faults out.old) (K.faults out.new)
-        (string_bytes text.old ++ flat_map P.print entries.now) (string_bytes text.new) result }
+        (text.old ++ flat_map P.print entries.now) text.new result }
 {
     for entry in entries {
-        carry_entry(alloc, out, text, entry)?;
+        carry_entry(out, text, entry)?;
     }
     Ok(())
 }
 
+/// Appends the line above a lane.
+fn put_lane(text: &mut Text, name: &str, number: usize) -> Result<(), AllocError>
+    ensures { let line = codes "= " ++ name.now ++ codes " " ++ decimal number ++ codes "\n" in
+        Puts result text.old text.new line }
+{
+    text.put("=")?;
+    text.word(name)?;
+    text.number(number)?;
+    text.end_line()
+}
+
 /// The print of lanes joins the text that waits.
 fn carry_lanes<K: Sink>(
-    alloc: Global,
     out: &mut K,
-    text: &mut String,
+    text: &mut Text,
     name: &str,
     lanes: &[EntryList],
 ) -> Result<(), WriteFault>
     ensures { Carries (K.held out.old) (K.held out.new) (K.faults out.old) (K.faults out.new)
-        (string_bytes text.old ++ lanes_text name.now 0 lanes.now) (string_bytes text.new) result }
+        (text.old ++ lanes_text name.now 0 lanes.now) text.new result }
 {
     for (number, lane) in lanes.iter().enumerate() {
-        writeln!(text, "= {name} {number}")?;
-        carry_entries(alloc, out, text, lane.as_slice())?;
+        put_lane(text, name, number)?;
+        carry_entries(out, text, lane.as_slice())?;
     }
     Ok(())
 }
 
 /// The print of all lanes joins the text that waits.
-fn carry_book<K: Sink>(
-    alloc: Global,
-    out: &mut K,
-    text: &mut String,
-    book: &Book,
-) -> Result<(), WriteFault>
+fn carry_book<K: Sink>(out: &mut K, text: &mut Text, book: &Book) -> Result<(), WriteFault>
     ensures { Carries (K.held out.old) (K.held out.new) (K.faults out.old) (K.faults out.new)
-        (with_lanes (string_bytes text.old) book.now) (string_bytes text.new) result }
+        (with_lanes text.old book.now) text.new result }
 {
-    carry_entries(alloc, out, text, book.control.as_slice())?;
-    carry_lanes(alloc, out, text, "conn", book.conns.as_slice())?;
-    carry_lanes(alloc, out, text, "data", book.units.as_slice())
+    carry_entries(out, text, book.control.as_slice())?;
+    carry_lanes(out, text, "conn", book.conns.as_slice())?;
+    carry_lanes(out, text, "data", book.units.as_slice())
 }
 
 /// Writes the print of a book to a sink. A long one is written in parts, each as soon as 65,536 octets wait, so that it does not stand
@@ -145,7 +151,8 @@ pub fn write_book<K: Sink>(alloc: Global, book: &Book, out: &mut K) -> Result<()
     ensures fault { result ≡ Err WriteFault.Sink → Rose (K.faults out.old) (K.faults out.new) }
     ensures kept { result ≢ Err WriteFault.Sink → K.faults out.new ≡ K.faults out.old }
 {
-    let mut text = String::from_str(alloc, "= control\n")?;
-    carry_book(alloc, out, &mut text, book)?;
-    write_text(out, text.as_str())
+    let mut text = Text::new(alloc);
+    text.put("= control\n")?;
+    carry_book(out, &mut text, book)?;
+    write_text(out, &text)
 }

@@ -1,4 +1,4 @@
-use Rattle.std.proofs.Common.{◌++◌, drop, string_bytes}
+use Rattle.std.proofs.Common.{◌++◌, drop}
 use Rattle.std.specs.List.{flat_map}
 use Rattle.journal_text.specs.Inner.Writing.{Carried}
 use Rattle.journal_text.proofs.writing.carry_entries.Given as goal
@@ -8,5 +8,5 @@ abbrev pub invariant-loop-entry : goal.invariant-loop-entry
 invariant-loop-entry g l =
     let print = flat_map g.P.Printed.print in
     Carried (g.K.Sink.held l.initial.out) (g.K.Sink.held l.out) (g.K.Sink.faults l.initial.out) (g.K.Sink.faults l.out)
-    (string_bytes l.initial.text ++ print l.entries)
-    (string_bytes l.text ++ print (drop l.entry-index l.entries))
+    (l.initial.text ++ print l.entries)
+    (l.text ++ print (drop l.entry-index l.entries))

@@ -1,0 +1,120 @@
+//! The text that waits to be written, and how each kind of word joins it.
+ghost use Rattle.std.specs.Prelude.{◌≡◌, ◌++◌, [], codes, length};
+ghost use Rattle.hex.specs.Hex.{encode_lower};
+ghost use Rattle.journal_text.specs.Inner.Texts.{Puts};
+ghost use Rattle.journal_text.specs.Print.{octets_text, optional_text};
+
+use itoa::{Buffer, Integer};
+use relay_base::BoxedOctets;
+use std::alloc::{AllocError, Global};
+use std::marker::Model;
+
+/// The octets of a text that waits to be written. After an error a front of what was to join it stands at its end.
+#[derive(Drop)]
+pub(crate) struct Text {
+    waiting: Vec<u8>,
+}
+
+impl Model for Text {
+    ghost use Rattle.std.specs.Prelude.{List, ℕ};
+
+    ghost Value = { List ℕ };
+
+    ghost view = { λ t. t.waiting.items };
+}
+
+impl Text {
+    pub fn new(alloc: Global) -> Text
+        ensures { result ≡ [] }
+    {
+        Text {
+            waiting: Vec::new(alloc),
+        }
+    }
+
+    pub fn len(&self) -> usize
+        ensures { result ≡ length self.now }
+    {
+        self.waiting.len()
+    }
+
+    pub fn as_slice(&self) -> &[u8]
+        ensures { result.now ≡ self.now }
+    {
+        self.waiting.as_slice()
+    }
+
+    pub fn clear(&mut self)
+        ensures { self.new ≡ [] }
+    {
+        self.waiting.clear();
+    }
+
+    /// Appends a text.
+    pub fn put(&mut self, text: &str) -> Result<(), AllocError>
+        ensures { Puts result self.old self.new text.now }
+    {
+        self.waiting.extend_from_slice(text.as_bytes())
+    }
+
+    /// Appends the digits of a number.
+    pub fn digits<I: Integer>(&mut self, number: I) -> Result<(), AllocError>
+        ensures { Puts result self.old self.new (I.text number) }
+    {
+        self.put(Buffer::new().format(number))
+    }
+
+    /// Appends octets in hex.
+    fn hex(&mut self, octets: &[u8]) -> Result<(), AllocError>
+        ensures { Puts result self.old self.new (encode_lower octets.now) }
+    {
+        let start = self.waiting.len();
+        let end = start.checked_add(2 * octets.len()).ok_or(AllocError)?;
+        self.waiting.resize(end, 0)?;
+        hex::encode_to_slice(octets, self.waiting.slice_mut(start..)).map_err(|_| AllocError)
+    }
+
+    /// Appends a space and a word.
+    pub fn word(&mut self, word: &str) -> Result<(), AllocError>
+        ensures { Puts result self.old self.new (codes " " ++ word.now) }
+    {
+        self.put(" ")?;
+        self.put(word)
+    }
+
+    /// Appends a space and a number.
+    pub fn number<I: Integer>(&mut self, number: I) -> Result<(), AllocError>
+        ensures { Puts result self.old self.new (codes " " ++ I.text number) }
+    {
+        self.put(" ")?;
+        self.digits(number)
+    }
+
+    /// Appends a space and octets in hex, or a dash for none.
+    pub fn octets(&mut self, octets: &[u8]) -> Result<(), AllocError>
+        ensures { Puts result self.old self.new (codes " " ++ octets_text octets.now) }
+    {
+        if octets.is_empty() {
+            return self.word("-");
+        }
+        self.put(" ")?;
+        self.hex(octets)
+    }
+
+    /// The same of octets that may be absent, which is a dash.
+    pub fn optional(&mut self, octets: &Option<BoxedOctets>) -> Result<(), AllocError>
+        ensures { Puts result self.old self.new (codes " " ++ optional_text octets.now) }
+    {
+        match octets {
+            Some(octets) => self.octets(octets.as_slice()),
+            None => self.word("-"),
+        }
+    }
+
+    /// Appends the end of a line.
+    pub fn end_line(&mut self) -> Result<(), AllocError>
+        ensures { Puts result self.old self.new (codes "\n") }
+    {
+        self.put("\n")
+    }
+}
