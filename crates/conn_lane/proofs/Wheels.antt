@@ -1,5 +1,5 @@
 -- The timers of a wheel once one is started or stopped, or a tick is taken.
-use Rattle.std.proofs.Common.{◌≡◌, ℕ, zero, suc, ◌+◌, ◌-◌, ◌==◌, ◌<◌, ◌≤◌, ◌||◌, not, Bool, true, false, List, [], ◌∷◌, ◌++◌, length, map, filter, get_or, take, drop, All, cond, option_to_list, Option, Some, None, inl, inr, refl, sym, subst, ap, ap₂, ◌∙◌, arith, append-nil, length-append}
+use Rattle.std.proofs.Common.{◌≡◌, ℕ, ◌+◌, ◌-◌, ◌==◌, ◌<◌, ◌≤◌, ◌||◌, not, Bool, true, false, List, [], ◌∷◌, ◌++◌, length, map, filter, get_or, take, drop, All, cond, option_to_list, Option, Some, None, inl, inr, refl, sym, subst, ap, ap₂, ◌∙◌, arith, append-nil, length-append}
 use Rattle.std.specs.List.{list_any}
 use Rattle.std.proofs.Math.Bool.{or-false}
 use Rattle.std.proofs.lemmas.Bool.{both_ways, false_from_ne_true, true_from_ne_false, not_from_true, not_from_false, cases_eq, or_left, or_right, or_parts}
@@ -10,7 +10,7 @@ use Rattle.timer_wheel.specs.declared.due.Due.{Due}
 use Rattle.timer_wheel.specs.Order.{is_before}
 use Rattle.timer_wheel.specs.Timers.{Armed, timer_of, is_timer, others, with_timer, before, behind, due_now, lowered, after_tick, IsRising}
 use Rattle.timer_wheel.proofs.Order.{before-asym, neither-same, head_of, tail_of}
-use Rattle.conn_lane.specs.Inner.Wheels.{ticks_of, with_ticks, with_first, is_due, is_in, AreOrdered, AreRising, AreConnections}
+use Rattle.conn_lane.specs.Inner.Wheels.{ticks_of, with_ticks, is_due, is_in, SetsOne, SetsFirst, AreOrdered, AreRising, AreConnections}
 use Rattle.conn_lane.proofs.Ticked.{take_next, drop_next, take_whole}
 
 -- Lists.
@@ -108,37 +108,6 @@ set_other : (due other : Due) (left : Option ℕ) (armed : List Armed) → (othe
 set_other due other None armed apart = stopped_other due other armed apart
 set_other due other (Some ticks) armed apart = started_other due other ticks armed apart
 
--- The timers of a connection.
-
-pub first_next : (left : ℕ → Option ℕ) (number timer : ℕ) (armed : List Armed) → with_first left number (timer + 1) armed ≡ with_ticks (timer_of number timer) (left timer) (with_first left number timer armed)
-unfolding with_first
-first_next left number timer armed = let e : timer + 1 ≡ suc timer = omega arith in rw e refl
-
-pub first_none : (left : ℕ → Option ℕ) (number : ℕ) (armed : List Armed) → with_first left number 0 armed ≡ armed
-unfolding with_first
-first_none left number armed = refl
-
-pub first_own : (left : ℕ → Option ℕ) (number count timer : ℕ) (armed : List Armed) → timer < count → ticks_of (timer_of number timer) (with_first left number count armed) ≡ option_to_list (left timer)
-unfolding with_first
-first_own left number zero timer armed within = absurd (omega (arith, within))
-first_own left number (suc count) timer armed within =
-    elim (cases_eq timer count) [
-      | inl same ↦
-          ap (λ t. ticks_of (timer_of number t) (with_first left number (suc count) armed)) same
-          ∙ (set_own (timer_of number count) (left count) (with_first left number count armed) ∙ ap (λ t. option_to_list (left t)) (sym same))
-      | inr apart ↦
-          set_other (timer_of number count) (timer_of number timer) (left count) (with_first left number count armed) (λ e. apart (ap (λ (d : Due). d.timer) e))
-          ∙ first_own left number count timer armed (omega (arith, within, apart))
-    ]
-
-pub first_other : (left : ℕ → Option ℕ) (number count : ℕ) (other : Due) (armed : List Armed) → ((timer : ℕ) → timer < count → other ≡ timer_of number timer → ⊥)
-    → ticks_of other (with_first left number count armed) ≡ ticks_of other armed
-unfolding with_first
-first_other left number zero other armed apart = refl
-first_other left number (suc count) other armed apart =
-    set_other (timer_of number count) other (left count) (with_first left number count armed) (apart count (omega arith))
-    ∙ first_other left number count other armed (λ timer within. apart timer (omega (arith, within)))
-
 -- Room.
 
 parted_length : (due : Due) (xs : List Armed) → length (before due xs) + length (behind due xs) ≤ length xs
@@ -159,15 +128,36 @@ set_length due None armed = omega (arith, others_length due armed)
 set_length due (Some ticks) armed =
     omega (arith, length-append (before due armed) (record { due = due; ticks = ticks } ∷ behind due armed), parted_length due armed)
 
-pub first_length : (left : ℕ → Option ℕ) (number count : ℕ) (armed : List Armed) → length (with_first left number count armed) ≤ length armed + count
-unfolding with_first
-first_length left number zero armed = omega arith
-first_length left number (suc count) armed =
-    omega (arith, set_length (timer_of number count) (left count) (with_first left number count armed), first_length left number count armed)
-
 pub tick_length : (armed : List Armed) → length (after_tick armed) ≤ length armed
 tick_length armed =
     omega (arith, length-map (filter (λ (a : Armed). not (a.ticks == 1)) armed) lowered, kept_length (λ (a : Armed). not (a.ticks == 1)) armed)
+
+-- The timers of a connection.
+
+pub one_set : (due : Due) (left : Option ℕ) (armed : List Armed) → SetsOne due left armed (with_ticks due left armed)
+one_set due left armed =
+    record { own = set_own due left armed; others = λ other apart. set_other due other left armed apart; few = set_length due left armed }
+
+pub none_set : (left : ℕ → Option ℕ) (number : ℕ) (armed : List Armed) → SetsFirst number 0 left armed armed
+none_set left number armed =
+    record { own = λ timer within. absurd (omega (arith, within)); others = λ other apart. refl; few = omega arith }
+
+pub next_set : (left : ℕ → Option ℕ) (number count : ℕ) (old armed later : List Armed) → SetsFirst number count left old armed → SetsOne (timer_of number count) (left count) armed later
+    → SetsFirst number (count + 1) left old later
+next_set left number count old armed later so next =
+    record {
+      own = λ timer within. elim (cases_eq timer count) [
+        | inl same ↦ ap (λ t. ticks_of (timer_of number t) later) same ∙ (next.own ∙ ap (λ t. option_to_list (left t)) (sym same))
+        | inr apart ↦ next.others (timer_of number timer) (λ e. apart (ap (λ (d : Due). d.timer) e)) ∙ so.own timer (omega (arith, within, apart))
+      ];
+      others = λ other apart. next.others other (apart count (omega arith)) ∙ so.others other (λ timer within. apart timer (omega (arith, within)));
+      few = omega (arith, next.few, so.few);
+    }
+
+-- a timer that isn't set yet
+pub not_yet_set : (left : ℕ → Option ℕ) (number count : ℕ) (old armed : List Armed) → SetsFirst number count left old armed
+    → ticks_of (timer_of number count) armed ≡ ticks_of (timer_of number count) old
+not_yet_set left number count old armed so = so.others (timer_of number count) (λ t below e. omega (arith, below, ap (λ (d : Due). d.timer) e))
 
 -- A tick.
 

@@ -21,8 +21,8 @@ use Rattle.section_coupling.proofs.LaterTimers.{ticked_pair}
 use Rattle.conn_lane.specs.declared.change.Next.{Next}
 use Rattle.conn_lane.specs.Inner.Views.{IsIdle}
 use Rattle.conn_lane.specs.Inner.Wheels.{ticks_of, is_due}
-use Rattle.conn_lane.specs.Inner.Waking.{ticks_in_wheel, timer_left, with_timers, IsTimed, is_next, IsWoken, AllWoken}
-use Rattle.conn_lane.proofs.Wheels.{first_own, first_other, ticks_after, ticked as wheel_ticked, none_due}
+use Rattle.conn_lane.specs.Inner.Waking.{ticks_in_wheel, timer_left, SetsTimers, IsLeft, AreLeft, IsTimed, is_next, IsWoken, AllWoken}
+use Rattle.conn_lane.proofs.Wheels.{ticks_after, ticked as wheel_ticked, none_due}
 
 -- One connection as it is next.
 
@@ -30,27 +30,37 @@ use Rattle.conn_lane.proofs.Wheels.{first_own, first_other, ticks_after, ticked 
 pub record AreTimed (P : ℕ → Type 0) (taken : ℕ) (kept : List (Option DuoState)) (armed : List Armed) : Type 0 where
   pub running : (n timer : ℕ) → P n → timer < TIMERS → ticks_of (timer_of n timer) armed ≡ option_to_list (timer_left taken timer (get_or kept n None))
   pub others : (n timer : ℕ) → TIMERS ≤ timer → ticks_of (timer_of n timer) armed ≡ []
+  pub left : (n : ℕ) → AreLeft taken n (get_or kept n None) armed
 
-pub one_timed : (P Q : ℕ → Type 0) (taken number : ℕ) (kept : List (Option DuoState)) (one : Option DuoState) (armed : List Armed) → number < length kept
-    → ((n : ℕ) → (n ≡ number → ⊥) → Q n → P n) → AreTimed P taken kept armed → AreTimed Q taken (set kept number one) (with_timers taken number one armed)
-one_timed P Q taken number kept one armed within less are =
+pub left_there : (left : Option ℕ) (ticks : List ℕ) → ticks ≡ option_to_list left → IsLeft left ticks
+left_there None ticks is = is
+left_there (Some n) ticks is = λ more. is
+
+pub one_timed : (P Q : ℕ → Type 0) (taken number : ℕ) (kept : List (Option DuoState)) (one : Option DuoState) (armed later : List Armed) → number < length kept
+    → ((n : ℕ) → (n ≡ number → ⊥) → Q n → P n) → SetsTimers taken number one armed later → AreTimed P taken kept armed → AreTimed Q taken (set kept number one) later
+one_timed P Q taken number kept one armed later within less sets are =
     record {
       running = λ n timer q bound. elim (cases_eq n number) [
         | inl same ↦ subst (λ m. IsRight m timer (get_or (set kept number one) m None)) (sym same)
-            (subst (IsRight number timer) (sym (get_or-set_same kept number one None within)) (first_own left number TIMERS timer armed bound))
+            (subst (IsRight number timer) (sym (get_or-set_same kept number one None within)) (sets.own timer bound))
         | inr apart ↦ subst (IsRight n timer) (sym (get_or-set_other kept number n one None apart))
-            (first_other left number TIMERS (timer_of n timer) armed (λ t below e. apart (ap (λ (d : Due). d.conn) e)) ∙ are.running n timer (less n apart q) bound)
+            (sets.others (timer_of n timer) (λ t below e. apart (ap (λ (d : Due). d.conn) e)) ∙ are.running n timer (less n apart q) bound)
       ];
       others = λ n timer above.
-          first_other left number TIMERS (timer_of n timer) armed (λ t below e. omega (arith, above, below, ap (λ (d : Due). d.timer) e))
-          ∙ are.others n timer above;
+          sets.others (timer_of n timer) (λ t below e. omega (arith, above, below, ap (λ (d : Due). d.timer) e)) ∙ are.others n timer above;
+      left = λ n timer bound. elim (cases_eq n number) [
+        | inl same ↦ subst (λ m. Stays m timer (get_or (set kept number one) m None)) (sym same)
+            (subst (Stays number timer) (sym (get_or-set_same kept number one None within)) (left_there (timer_left taken timer one) _ (sets.own timer bound)))
+        | inr apart ↦ subst (Stays n timer) (sym (get_or-set_other kept number n one None apart))
+            (subst (IsLeft (timer_left taken timer (get_or kept n None))) (sym (sets.others (timer_of n timer) (λ t below e. apart (ap (λ (d : Due). d.conn) e)))) (are.left n timer bound))
+      ];
     }
   where
-    left : ℕ → Option ℕ
-    left timer = timer_left taken timer one
-
     IsRight : ℕ → ℕ → Option DuoState → Type 0
-    IsRight n timer x = ticks_of (timer_of n timer) (with_timers taken number one armed) ≡ option_to_list (timer_left taken timer x)
+    IsRight n timer x = ticks_of (timer_of n timer) later ≡ option_to_list (timer_left taken timer x)
+
+    Stays : ℕ → ℕ → Option DuoState → Type 0
+    Stays n timer x = IsLeft (timer_left taken timer x) (ticks_of (timer_of n timer) later)
 
 -- A tick.
 
@@ -88,6 +98,17 @@ ticks_less taken (Some left) none =
     let late : (ticks_in_wheel taken left == 1) ≡ false = (or_parts (ticks_in_wheel taken left == 1) false none).0 in
     rw late (ap (λ n. n ∷ []) (in_less taken left late))
 
+-- after the tick a timer stands there with one tick less, unless it was due
+left_less_one : (taken : ℕ) (left : Option ℕ) (ticks : List ℕ) → ticks ≡ ticks_after (option_to_list (option_map (ticks_in_wheel taken) left))
+    → IsLeft (option_map (ticks_in_wheel (taken + 1)) (option_map (λ n. n - 1) left)) ticks
+left_less_one taken None ticks is = is
+left_less_one taken (Some left) ticks is = λ more.
+    let late : (ticks_in_wheel taken left == 1) ≡ false = not_one left more in
+    is ∙ rw late (ap (λ n. n ∷ []) (in_less taken left late))
+  where
+    not_one : (n : ℕ) → 2 ≤ ticks_in_wheel (taken + 1) (n - 1) → (ticks_in_wheel taken n == 1) ≡ false
+    not_one n more = grind (arith, more)
+
 -- those that the tick doesn't change have their timers yet
 pub tick_timed : (taken : ℕ) (kept : List (Option DuoState)) (nexts : List Next) (armed : List Armed) → AllWoken (λ n. is_due n (due_now armed)) kept nexts → IsTimed taken kept armed
     → AreTimed (λ n. is_next n nexts ≡ false) (taken + 1) kept (after_tick armed)
@@ -95,6 +116,7 @@ tick_timed taken kept nexts armed woken timed =
     record {
       running = λ n timer free bound. by_one n timer free bound (get_or kept n None) refl;
       others = λ n timer above. wheel_ticked (timer_of n timer) armed ∙ ap ticks_after (timed.others n timer above);
+      left = λ n timer bound. by_left n timer bound (get_or kept n None) refl;
     }
   where
     before : (n timer : ℕ) → timer < TIMERS → (one : Option DuoState) → get_or kept n None ≡ one → ticks_of (timer_of n timer) armed ≡ option_to_list (timer_left taken timer one)
@@ -111,6 +133,13 @@ tick_timed taken kept nexts armed woken timed =
         ∙ (ap ticks_after was
         ∙ (ticks_less taken (ticks_left timer (duo_at taken d)) (ap (list_any (λ n. n == 1)) (sym was) ∙ none_due n timer armed idle)
         ∙ ap (λ x. option_to_list (option_map (ticks_in_wheel (taken + 1)) x)) (sym (later_left timer taken d))))
+
+    by_left : (n timer : ℕ) → timer < TIMERS → (one : Option DuoState) → get_or kept n None ≡ one → IsLeft (timer_left (taken + 1) timer one) (ticks_of (timer_of n timer) (after_tick armed))
+    by_left n timer bound None here = wheel_ticked (timer_of n timer) armed ∙ ap ticks_after (before n timer bound None here)
+    by_left n timer bound (Some d) here =
+        subst (λ x. IsLeft (option_map (ticks_in_wheel (taken + 1)) x) (ticks_of (timer_of n timer) (after_tick armed))) (sym (later_left timer taken d))
+        (left_less_one taken (ticks_left timer (duo_at taken d)) (ticks_of (timer_of n timer) (after_tick armed))
+        (wheel_ticked (timer_of n timer) armed ∙ ap ticks_after (before n timer bound (Some d) here)))
 
 -- A connection of which no timer is due.
 

@@ -1,5 +1,5 @@
 //! What a lane keeps: its connections that aren't over, and its local references.
-ghost use Rattle.std.specs.Prelude.{◌≡◌, ◌≤◌, ◌<◌, ◌+◌, ◌++◌, ◌∷◌, [], ℕ, Bool, List, Some, None, map, length, replicate, slice_get, false, IfOk, IfSome, OnOk, OnErr};
+ghost use Rattle.std.specs.Prelude.{◌≡◌, ◌≤◌, ◌<◌, ◌+◌, ◌*◌, ◌++◌, ◌∷◌, [], ℕ, Bool, List, Some, None, map, length, get_or, replicate, slice_get, false, IfOk, IfSome, OnOk, OnErr};
 ghost use Rattle.relay_base.specs.declared.words.Event.TheVariants.{Tick};
 ghost use Rattle.relay_base.specs.declared.limits.TheConstants.{MOST_LANES, SLOTS};
 ghost use Rattle.std.specs.Option.{option_map};
@@ -13,8 +13,10 @@ ghost use Rattle.conn_lane.specs.Inner.Views.{IsAlive, OpeningsState};
 ghost use Rattle.conn_lane.specs.Inner.Finding.{IsPlaceIn};
 ghost use Rattle.conn_lane.specs.Inner.Stands.{Stands, IsStanding};
 ghost use Rattle.conn_lane.specs.Inner.Ticking.{AreTicked, WokenAt};
-ghost use Rattle.conn_lane.specs.Inner.Wheels.{is_in};
-ghost use Rattle.conn_lane.specs.Inner.Waking.{alarms_after, WakesAll, AllWoken, WakesDue};
+ghost use Rattle.timer_wheel.specs.Timers.{due_now};
+ghost use Rattle.section_coupling.specs.declared.duo.TheConstants.{TIMERS};
+ghost use Rattle.conn_lane.specs.Inner.Wheels.{is_in, is_due};
+ghost use Rattle.conn_lane.specs.Inner.Waking.{timers_of, AreLeft, SetsTimers, IsTimed, WakesAll, AllWoken, WakesDue};
 ghost use Rattle.conn_lane.specs.Inner.Changes.{giving_up, taking, put, put_all, ticked, changed, listed, CanGiveUp, CanBePut, CanAllBePut, Fits, Makes, Opens};
 ghost use Rattle.conn_lane.specs.Inner.Lowest.{lowest_of};
 
@@ -245,11 +247,12 @@ impl Openings {
         requires taken { self.old.taken ≤ 4_294_967_295 }
         requires count { length self.old.kept ≤ 4_294_967_295 }
         requires fits { Fits change self.old }
+        requires timed { IsTimed self.old.taken self.old.kept wheel.old.armed }
+        requires woken { let due = due_now wheel.old.armed in
+            WakesDue (λ n. is_due n due) self.old.kept change }
         ensures journal { OnOk result (journal.new ≡ journal.old ++ entry ∷ []) }
         ensures openings { OnOk result (self.new ≡ changed change self.old) }
-        ensures wheel { let number = length self.old.kept in
-            let later = alarms_after change number self.old.taken wheel.old.armed in
-            OnOk result (wheel.new.armed ≡ later) }
+        ensures timed { OnOk result (IsTimed self.new.taken self.new.kept wheel.new.armed) }
         ensures err { OnErr result ((journal.new ≡ journal.old) × (self.new ≡ self.old)
             × (wheel.new.armed ≡ wheel.old.armed)) }
     {
@@ -257,17 +260,17 @@ impl Openings {
         reserve(wheel, &change)?;
         self.kept.reserve()?;
         journal.push(entry)?;
-        follow(wheel, &change, self.kept.opened(), self.taken);
         match change {
             Change::Nothing => {}
-            Change::Heard(next) => self.put(next),
+            Change::Heard(next) => self.put(wheel, next),
             Change::Opened(NewConnection { one, this, that }) => {
                 let number = self.kept.opened();
+                follow(wheel, number, None, Some(&one), self.taken);
                 self.kept.open(one);
                 self.take(this, number);
                 self.take(that, number);
             }
-            Change::Ticked(nexts) => self.advance(nexts),
+            Change::Ticked(nexts) => self.advance(wheel, nexts),
         }
         Ok(())
     }
@@ -283,10 +286,17 @@ impl Openings {
         self.index.note(mine, None);
     }
 
-    /// A connection as it is next.
-    fn put(&mut self, next: Next)
-        requires { CanBePut next self.old }
-        ensures { self.new ≡ put next self.old }
+    /// A connection as it is next, with its timers.
+    fn put(&mut self, wheel: &mut Wheel, next: Next)
+        requires count { length self.old.kept ≤ 4_294_967_295 }
+        requires fits { CanBePut next self.old }
+        requires left { let one = get_or self.old.kept next.number None in
+            AreLeft self.old.taken next.number one wheel.old.armed }
+        requires room { length wheel.old.armed + TIMERS ≤ wheel.old.room }
+        ensures value { self.new ≡ put next self.old }
+        ensures set { SetsTimers self.old.taken next.number next.one wheel.old.armed
+            wheel.new.armed }
+        ensures room { wheel.new.room ≡ wheel.old.room }
     {
         let Next {
             number,
@@ -294,21 +304,31 @@ impl Openings {
             this,
             that,
         } = next;
+        let before = self.kept.get(number);
+        follow(wheel, number, before, one.as_ref(), self.taken);
         self.kept.put(number, one);
         self.give_up(this);
         self.give_up(that);
     }
 
     /// A tick more, with the connections that it wakes.
-    fn advance(&mut self, nexts: Vec<Next>)
+    fn advance(&mut self, wheel: &mut Wheel, nexts: Vec<Next>)
         requires taken { self.old.taken ≤ 4_294_967_295 }
+        requires count { length self.old.kept ≤ 4_294_967_295 }
         requires fits { CanAllBePut nexts.items (ticked self.old) }
-        ensures { self.new ≡ put_all nexts.items (ticked self.old) }
+        requires timed { IsTimed self.old.taken self.old.kept wheel.old.armed }
+        requires woken { let due = due_now wheel.old.armed in
+            AllWoken (λ n. is_due n due) self.old.kept nexts.items }
+        requires room { let timers = TIMERS * length nexts.items in
+            length wheel.old.armed + timers ≤ wheel.old.room }
+        ensures value { self.new ≡ put_all nexts.items (ticked self.old) }
+        ensures timed { IsTimed self.new.taken self.new.kept wheel.new.armed }
     {
         self.taken += 1;
         self.slots.tick();
+        wheel.advance();
         for next in nexts {
-            self.put(next);
+            self.put(wheel, next);
         }
     }
 

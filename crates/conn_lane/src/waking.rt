@@ -1,11 +1,11 @@
 //! When connections wake: the wheel of a lane has the running timers of each that isn't over, under its number in the journal.
-ghost use Rattle.std.specs.Prelude.{◌≡◌, ◌≤◌, ◌<◌, ◌+◌, ◌-◌, ◌*◌, length, max, option_map, IfOk, IfSome, OnOk, OnErr};
+ghost use Rattle.std.specs.Prelude.{◌≡◌, ◌≤◌, ◌<◌, ◌+◌, ◌-◌, length, max, option_map, IfOk, IfSome, OnOk, OnErr};
 ghost use Rattle.section_coupling.specs.declared.duo.TheConstants.{TIMERS};
 ghost use Rattle.timer_wheel.specs.Timers.{timer_of, due_now};
-ghost use Rattle.conn_lane.specs.Inner.Wheels.{with_ticks, AreOrdered, AreConnections};
-ghost use Rattle.conn_lane.specs.Inner.Waking.{ticks_in_wheel, timer_left, with_timers, all_with_timers, alarms_after, timers_of, count_of, AreBelow, AllBelow};
+ghost use Rattle.conn_lane.specs.Inner.Wheels.{ticks_of, with_ticks, AreOrdered, AreConnections, SetsOne};
+ghost use Rattle.conn_lane.specs.Inner.Waking.{ticks_in_wheel, timer_left, stands, timers_of, IsLeft, AreLeft, SetsTimers};
 
-use crate::change::{Change, Next};
+use crate::change::Change;
 use crate::kept::Kept;
 use relay_base::Memory;
 use section_coupling::TIMERS;
@@ -73,28 +73,51 @@ fn set_timer(wheel: &mut Wheel, number: usize, timer: u8, left: Option<u32>)
     }
 }
 
-/// Lets the timers of a connection run that run as it is next, and stops the others; all of them once it is over.
-fn set_timers(wheel: &mut Wheel, number: usize, one: Option<&Kept>, taken: u64)
-    requires number { number ≤ 4_294_967_295 }
-    requires room { length wheel.old.armed + TIMERS ≤ wheel.old.room }
-    ensures { let next = option_map (λ k. k.now) one.entry in
-        let later = with_timers taken number next wheel.old.armed in
-        wheel.new ≡ record wheel.old { armed = later } }
+/// Whether a timer of which so many ticks were left stands in the wheel as it is to be. Where one is left, a tick may have dropped it.
+fn stands(before: Option<u32>, left: Option<u32>) -> bool
+    ensures { result ≡ stands before left }
 {
-    for timer in 0..TIMERS {
-        set_timer(wheel, number, timer, ticks_left(one, timer, taken));
+    match (before, left) {
+        (None, None) => true,
+        (Some(before), Some(left)) => before == left && left >= 2,
+        _ => false,
     }
 }
 
-/// The same for connections, one after another.
-fn set_all(wheel: &mut Wheel, nexts: &[Next], taken: u64)
-    requires numbers { AllBelow 4_294_967_296 nexts.now }
-    requires room { length wheel.old.armed + TIMERS * length nexts.now ≤ wheel.old.room }
-    ensures { let later = all_with_timers taken nexts.now wheel.old.armed in
-        wheel.new ≡ record wheel.old { armed = later } }
+/// Lets a timer of a connection run for so many ticks, or stops it, unless it stands so in the wheel.
+fn follow_timer(wheel: &mut Wheel, number: usize, timer: u8, before: Option<u32>, left: Option<u32>)
+    requires number { number ≤ 4_294_967_295 }
+    requires left { IfSome left (λ ticks. 1 ≤ ticks) }
+    requires before { IsLeft before (ticks_of (timer_of number timer) wheel.old.armed) }
+    requires room { length wheel.old.armed < wheel.old.room }
+    ensures set { SetsOne (timer_of number timer) left wheel.old.armed wheel.new.armed }
+    ensures room { wheel.new.room ≡ wheel.old.room }
 {
-    for next in nexts {
-        set_timers(wheel, next.number, next.one.as_ref(), taken);
+    if !stands(before, left) {
+        set_timer(wheel, number, timer, left);
+    }
+}
+
+/// Lets the timers of a connection run that run as it is next, and stops the others; all of them once it is over. Those that it leaves as they
+/// were stay in the wheel as they are.
+pub fn follow(
+    wheel: &mut Wheel,
+    number: usize,
+    before: Option<&Kept>,
+    next: Option<&Kept>,
+    taken: u64,
+)
+    requires number { number ≤ 4_294_967_295 }
+    requires before { let one = option_map (λ k. k.now) before in
+        AreLeft taken number one wheel.old.armed }
+    requires room { length wheel.old.armed + TIMERS ≤ wheel.old.room }
+    ensures set { let one = option_map (λ k. k.now) next.entry in
+        SetsTimers taken number one wheel.old.armed wheel.new.armed }
+    ensures room { wheel.new.room ≡ wheel.old.room }
+{
+    for timer in 0..TIMERS {
+        let was = ticks_left(before, timer, taken);
+        follow_timer(wheel, number, timer, was, ticks_left(next, timer, taken));
     }
 }
 
@@ -109,24 +132,4 @@ pub fn reserve(wheel: &mut Wheel, change: &Change) -> Result<(), Memory>
         .checked_mul(usize::from(TIMERS))
         .ok_or(Memory)?;
     wheel.reserve_more(timers)
-}
-
-/// Sets the timers of the connections that an event changes, the lane having taken so many ticks before. `number` is that of the next connection.
-pub fn follow(wheel: &mut Wheel, change: &Change, number: usize, taken: u64)
-    requires number { number ≤ 4_294_967_295 }
-    requires taken { taken ≤ 4_294_967_295 }
-    requires below { AreBelow number change.now }
-    requires room { length wheel.old.armed + timers_of change.now ≤ wheel.old.room }
-    ensures { let later = alarms_after change.now number taken wheel.old.armed in
-        wheel.new ≡ record wheel.old { armed = later } }
-{
-    match change {
-        Change::Nothing => {}
-        Change::Heard(next) => set_timers(wheel, next.number, next.one.as_ref(), taken),
-        Change::Opened(new) => set_timers(wheel, number, Some(&new.one), taken),
-        Change::Ticked(nexts) => {
-            wheel.advance();
-            set_all(wheel, nexts, taken + 1);
-        }
-    }
 }

@@ -1,8 +1,8 @@
 -- When the connections of a lane wake: its wheel has the running timers of each that isn't over, under the connection's number in the lane's
 -- journal. The number of a timer is 7 times that of its end, and its place in the order in which timers fire.
-use Rattle.std.specs.Prelude.{◌≡◌, ◌==◌, ℕ, ◌+◌, ◌-◌, ◌*◌, ◌<◌, ◌≤◌, min, max, true, false, Bool, List, [], ◌∷◌, length, get_or, All, Option, Some, None, option_map, option_to_list, IfSome}
+use Rattle.std.specs.Prelude.{◌≡◌, ◌==◌, ◌&&◌, nat_le, ℕ, ◌-◌, ◌*◌, ◌<◌, ◌≤◌, min, max, true, false, Bool, List, [], ◌∷◌, length, get_or, Option, Some, None, option_map, option_to_list, IfSome}
 use Rattle.std.specs.List.{list_any}
-use Rattle.timer_wheel.specs.Timers.{Armed, timer_of, after_tick}
+use Rattle.timer_wheel.specs.Timers.{Armed, timer_of}
 use Rattle.connection_law.specs.TimerLaw.{IsQuiet}
 use Rattle.section_coupling.specs.declared.duo.TheConstants.{TIMERS}
 use Rattle.section_coupling.specs.Duos.{DuoState, duo_at, ticks_left}
@@ -10,7 +10,7 @@ use Rattle.conn_lane.specs.declared.change.Next.{Next}
 use Rattle.conn_lane.specs.declared.change.Change.{Change}
 use Rattle.conn_lane.specs.declared.change.Change.TheVariants.{Nothing, Heard, Opened, Ticked}
 use Rattle.conn_lane.specs.Inner.Ticking.{TickedAt}
-use Rattle.conn_lane.specs.Inner.Wheels.{ticks_of, with_first, is_in, AreRising}
+use Rattle.conn_lane.specs.Inner.Wheels.{ticks_of, is_in, AreRising, SetsFirst}
 
 -- what a wheel has for a timer of which so many ticks are left, where its lane took so many: these, but one at least, and none beyond the lane's
 -- tick 2^32 - 1
@@ -25,19 +25,23 @@ timer_left taken timer (Some d) = option_map (ticks_in_wheel taken) (ticks_left 
 -- The wheel.
 
 -- with the timers of a connection that is as it is now, after so many ticks of its lane
-abbrev pub with_timers : ℕ → ℕ → Option DuoState → List Armed → List Armed
-with_timers taken number one armed = with_first (λ timer. timer_left taken timer one) number TIMERS armed
+abbrev pub SetsTimers : ℕ → ℕ → Option DuoState → List Armed → List Armed → Type 0
+SetsTimers taken number one old new = SetsFirst number TIMERS (λ timer. timer_left taken timer one) old new
 
-abbrev pub all_with_timers : ℕ → List Next → List Armed → List Armed
-all_with_timers taken [] armed = armed
-all_with_timers taken (next ∷ more) armed = all_with_timers taken more (with_timers taken next.number next.one armed)
+-- A timer of which so many ticks are left stands in the wheel with these, but where one is left: then a tick dropped it, or it stands there yet.
+abbrev pub IsLeft : Option ℕ → List ℕ → Type 0
+IsLeft None ticks = ticks ≡ []
+IsLeft (Some left) ticks = 2 ≤ left → ticks ≡ left ∷ []
 
--- once a change is made, where so many openings were made and ticks taken before
-abbrev pub alarms_after : Change → ℕ → ℕ → List Armed → List Armed
-alarms_after Nothing number taken armed = armed
-alarms_after (Heard next) number taken armed = with_timers taken next.number next.one armed
-alarms_after (Opened new) number taken armed = with_timers taken number (Some new.one) armed
-alarms_after (Ticked nexts) number taken armed = all_with_timers (taken + 1) nexts.items (after_tick armed)
+-- the same of each timer of a connection
+abbrev pub AreLeft : ℕ → ℕ → Option DuoState → List Armed → Type 0
+AreLeft taken number one armed = (timer : ℕ) → timer < TIMERS → IsLeft (timer_left taken timer one) (ticks_of (timer_of number timer) armed)
+
+-- a timer of which so many ticks were left stands in the wheel as it is to be
+abbrev pub stands : Option ℕ → Option ℕ → Bool
+stands None None = true
+stands (Some before) (Some left) = before == left && nat_le 2 left
+stands _ _ = false
 
 -- What holds of it: it has each running timer of a connection that isn't over, once, with the ticks that are left of it, and it has no others.
 pub record IsTimed (taken : ℕ) (kept : List (Option DuoState)) (armed : List Armed) : Type 0 where
@@ -81,12 +85,3 @@ count_of (Ticked nexts) = length nexts.items
 -- how many timers the connections have that it changes
 abbrev pub timers_of : Change → ℕ
 timers_of change = TIMERS * count_of change
-
-abbrev pub AllBelow : ℕ → List Next → Type 0
-AllBelow count nexts = All (λ n. n.number < count) nexts
-
--- the connections that it changes are of so many
-abbrev pub AreBelow : ℕ → Change → Type 0
-AreBelow count (Heard next) = next.number < count
-AreBelow count (Ticked nexts) = AllBelow count nexts.items
-AreBelow count _ = Unit {0}

@@ -1,5 +1,5 @@
 -- The timers of a wheel, one by one, and the connections of those that are due.
-use Rattle.std.specs.Prelude.{◌≡◌, ◌==◌, ℕ, zero, suc, ◌+◌, ◌<◌, ◌≤◌, Bool, List, [], ◌∷◌, map, filter, Option, Some, None}
+use Rattle.std.specs.Prelude.{◌≡◌, ◌==◌, ℕ, ◌+◌, ◌<◌, ◌≤◌, Bool, List, [], ◌∷◌, length, map, filter, Option, Some, None, option_to_list}
 use Rattle.std.specs.List.{list_any}
 use Rattle.timer_wheel.specs.declared.due.Due.{Due}
 use Rattle.timer_wheel.specs.Timers.{Armed, timer_of, is_timer, others, with_timer}
@@ -13,10 +13,17 @@ abbrev pub with_ticks : Due → Option ℕ → List Armed → List Armed
 with_ticks due None armed = others due armed
 with_ticks due (Some ticks) armed = with_timer due ticks armed
 
--- with so many timers of a connection that run for these ticks
-unfoldable pub with_first : (ℕ → Option ℕ) → ℕ → ℕ → List Armed → List Armed
-with_first left number zero armed = armed
-with_first left number (suc timer) armed = with_ticks (timer_of number timer) (left timer) (with_first left number timer armed)
+-- a timer runs for so many ticks, or doesn't run, and all others stay
+pub record SetsOne (due : Due) (left : Option ℕ) (old new : List Armed) : Type 0 where
+  pub own : ticks_of due new ≡ option_to_list left
+  pub others : (other : Due) → (other ≡ due → ⊥) → ticks_of other new ≡ ticks_of other old
+  pub few : length new ≤ length old + 1
+
+-- the same for so many timers of a connection
+pub record SetsFirst (number count : ℕ) (left : ℕ → Option ℕ) (old new : List Armed) : Type 0 where
+  pub own : (timer : ℕ) → timer < count → ticks_of (timer_of number timer) new ≡ option_to_list (left timer)
+  pub others : (other : Due) → ((timer : ℕ) → timer < count → other ≡ timer_of number timer → ⊥) → ticks_of other new ≡ ticks_of other old
+  pub few : length new ≤ length old + count
 
 -- The connections of timers.
 

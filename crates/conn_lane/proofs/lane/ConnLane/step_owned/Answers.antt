@@ -28,9 +28,8 @@ invariant_of-self c = (
   lane_written (c.write.new.wheel.armed ≡ c.self.inside.wheel.armed) c.write.result c.args.plant.now c.self.inside.head c.self.inside.number c.self.inside.journal c.write.new.journal
       c.self.inside.openings c.write.new.self (changed c.in_ok-change.change c.self.inside.openings) c.in_ok-change.entry c.self.invariant.0 c.in_ok-change.ensures.grows c.write.ensures.journal
       c.write.ensures.openings c.write.ensures.err,
-  timed_written (c.write.new.journal ≡ c.self.inside.journal) c.write.result c.in_ok-change.change c.self.inside.openings c.write.new.self c.self.inside.wheel.armed c.write.new.wheel.armed
-      (c.in_ok-change.ensures.fits _ (lane_stands c.self.inside.head c.self.inside.number c.self.inside.journal c.self.inside.openings c.self.invariant.0)) c.in_ok-change.ensures.woken
-      c.write.ensures.openings c.write.ensures.wheel c.write.ensures.err c.self.invariant.1,
+  timed_written (c.write.new.journal ≡ c.self.inside.journal) c.write.result c.self.inside.openings c.write.new.self c.self.inside.wheel.armed c.write.new.wheel.armed
+      c.write.ensures.timed c.write.ensures.err c.self.invariant.1,
 )
 
 pub returns-clause-ok : goal.returns-clause-ok
