@@ -3,7 +3,7 @@ use Rattle.std.proofs.Common.{◌≡◌, ℕ, ◌+◌, ◌==◌, ◌<◌, Bool, 
 use Rattle.std.specs.List.{find, count_by}
 use Rattle.std.proofs.lemmas.Bool.{cases_Bool, leb-false}
 use Rattle.std.proofs.lemmas.List.Sums.{length-filter}
-use Rattle.reassembly.specs.declared.processes.TheConstants.{MOST}
+use Rattle.reassembly.specs.declared.processes.TheConstants.{MOST_REASSEMBLIES}
 use Rattle.reassembly.specs.Segments.{key_of, is_first, remaining}
 use Rattle.reassembly.specs.Reassembly.{is_of, live, others, has_no_room, reassembly_after, takes, process_begun, extended}
 use Rattle.reassembly.specs.declared.piece.Piece.{Piece}
@@ -13,10 +13,10 @@ use Rattle.reassembly.specs.declared.process.Process.{Process}
 abbrev pub in_place : Piece → Process → List Process → List Process
 in_place piece x xs = map (λ z. cond (is_of (key_of piece) z) x z) xs
 
-few_others : (xs : List Process) (piece : Piece) → has_no_room piece xs ≡ false → is_first piece ≡ true → (remaining piece == 0) ≡ false → length (others (key_of piece) xs) < MOST
+few_others : (xs : List Process) (piece : Piece) → has_no_room piece xs ≡ false → is_first piece ≡ true → (remaining piece == 0) ≡ false → length (others (key_of piece) xs) < MOST_REASSEMBLIES
 few_others xs piece room first several =
     let h = rw (first, several) at room in
-    let few = leb-false MOST (count_by (λ x. not (is_of (key_of piece) x)) xs) h in
+    let few = leb-false MOST_REASSEMBLIES (count_by (λ x. not (is_of (key_of piece) x)) xs) h in
     rw (length-filter (λ x. not (is_of (key_of piece) x)) xs) few
 
 find_passes : {X : Type 0} (p : X → Bool) (xs : List X) (x : X) → find p xs ≡ Some x → p x ≡ true
@@ -33,7 +33,7 @@ module _ (P : Option Process → List Process → Type 0) (xs : List Process) (p
   Gone = P None (others (key_of piece) xs)
 
   abbrev Begins : Type 0
-  Begins = (x : Process) → key_of piece ≡ key_of x.first → length (others (key_of piece) xs) < MOST → P (Some x) (others (key_of piece) xs ++ x ∷ [])
+  Begins = (x : Process) → key_of piece ≡ key_of x.first → length (others (key_of piece) xs) < MOST_REASSEMBLIES → P (Some x) (others (key_of piece) xs ++ x ∷ [])
 
   abbrev GoesOn : Type 0
   GoesOn = (x x0 : Process) → is_of (key_of piece) x ≡ true → live (key_of piece) xs ≡ Some x0 → P (Some x) (in_place piece x xs)

@@ -3,7 +3,7 @@ use Rattle.std.proofs.Common.{◌≡◌, ℕ, ◌<◌, ◌≤◌, Bool, true, fa
 use Rattle.std.proofs.lemmas.Bool.{cases_Bool}
 use Rattle.std.proofs.lemmas.List.{length-map}
 use Rattle.std.proofs.lemmas.List.Elements.{filter-append}
-use Rattle.reassembly.specs.declared.processes.TheConstants.{MOST}
+use Rattle.reassembly.specs.declared.processes.TheConstants.{MOST_REASSEMBLIES}
 use Rattle.reassembly.specs.Segments.{Key, key_of}
 use Rattle.reassembly.specs.Reassembly.{is_of, is_due, others, has_no_room, takes, after_tick}
 use Rattle.reassembly.specs.Laws.{IsWithinBounds, StaysWithinBounds}
@@ -24,7 +24,7 @@ push_one q ys y one none =
     (λ (t : q y ≡ false). rw t (omega arith))
     (cases_Bool (q y)))
 
-begins : (xs : List Process) (piece : Piece) → IsWithinBounds xs → (x : Process) → key_of piece ≡ key_of x.first → length (others (key_of piece) xs) < MOST → IsWithinBounds (others (key_of piece) xs ++ x ∷ [])
+begins : (xs : List Process) (piece : Piece) → IsWithinBounds xs → (x : Process) → key_of piece ≡ key_of x.first → length (others (key_of piece) xs) < MOST_REASSEMBLIES → IsWithinBounds (others (key_of piece) xs ++ x ∷ [])
 begins xs piece bounds x same few =
     let p = is_of (key_of piece) in
     let one : (key : Key) → length (filter (is_of key) (others (key_of piece) xs)) ≤ 1 =

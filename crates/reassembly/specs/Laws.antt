@@ -5,7 +5,7 @@ use Rattle.reassembly.specs.Reassembly.{IsOnePerKey, live, has_no_room, reassemb
 use Rattle.reassembly.specs.declared.piece.Piece.{Piece}
 use Rattle.reassembly.specs.declared.piece.Now.TheVariants.{NoRoom}
 use Rattle.reassembly.specs.declared.process.Process.{Process}
-use Rattle.reassembly.specs.declared.processes.TheConstants.{MOST}
+use Rattle.reassembly.specs.declared.processes.TheConstants.{MOST_REASSEMBLIES}
 
 -- The process of a key hears the segments of its key, unless there is no room, and the ticks; and nothing else.
 pub record HearsItsKeyAlone : Type 0 where
@@ -17,7 +17,7 @@ pub record HearsItsKeyAlone : Type 0 where
 -- There is at most one process a key, and there are no more than the most.
 pub record IsWithinBounds (processes : List Process) : Type 0 where
   pub one_per_key : IsOnePerKey processes
-  pub few : length processes ≤ MOST
+  pub few : length processes ≤ MOST_REASSEMBLIES
 
 -- So it stays.
 pub record StaysWithinBounds : Type 0 where

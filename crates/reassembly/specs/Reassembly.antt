@@ -6,7 +6,7 @@ use Rattle.reassembly.specs.declared.piece.Piece.{Piece}
 use Rattle.reassembly.specs.declared.piece.Now.TheVariants.{Waiting, Whole, NoRoom, Orphan, Broken}
 use Rattle.reassembly.specs.declared.piece.Taken.{Taken}
 use Rattle.reassembly.specs.declared.process.Process.{Process}
-use Rattle.reassembly.specs.declared.processes.TheConstants.{MOST}
+use Rattle.reassembly.specs.declared.processes.TheConstants.{MOST_REASSEMBLIES}
 
 -- a first segment begins a process, with all its ticks
 abbrev pub process_begun : ℕ → Piece → Process
@@ -79,7 +79,7 @@ replaced piece (Some x) processes =
 -- a first segment that isn't alone, while the most other keys have a process
 abbrev pub has_no_room : Piece → List Process → Bool
 has_no_room piece processes =
-    is_first piece && (not (remaining piece == 0) && nat_le MOST (count_by (λ x. not (is_of (key_of piece) x)) processes))
+    is_first piece && (not (remaining piece == 0) && nat_le MOST_REASSEMBLIES (count_by (λ x. not (is_of (key_of piece) x)) processes))
 
 abbrev pub goes_in : Piece → After → List Process → List Process × Taken
 goes_in piece after processes = (replaced piece after.process processes, after.taken)

@@ -10,3 +10,4 @@ mod processes;
 pub use bench::Bench;
 pub use laws::{hears_its_key_alone, stays_within_bounds};
 pub use piece::{Now, Piece, PieceList, Taken};
+pub use processes::MOST_REASSEMBLIES;

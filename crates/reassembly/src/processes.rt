@@ -10,7 +10,7 @@ use relay_base::Memory;
 use std::alloc::Global;
 
 /// The most that are under way at a time.
-const MOST: usize = 256;
+pub const MOST_REASSEMBLIES: usize = 256;
 
 /// The place of the one that this segment belongs to.
 pub fn place_of(processes: &[Process], piece: &Piece) -> Option<usize>
@@ -29,7 +29,7 @@ pub fn is_full_for(processes: &[Process], piece: &Piece) -> bool
             .iter()
             .filter(|process| !process.is_of(piece))
             .count()
-            >= MOST
+            >= MOST_REASSEMBLIES
 }
 
 /// Ends the one that this segment belongs to.
