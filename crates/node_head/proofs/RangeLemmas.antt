@@ -4,6 +4,7 @@ use Rattle.std.proofs.lemmas.Bool.Decides.{nat_tests}
 use Rattle.std.proofs.lemmas.Cmp.{nat_eq_equiv}
 use Rattle.std.proofs.lemmas.Map.Keys.{IsDistinct-push}
 use Rattle.std.specs.List.{AllByRecursion, IsDistinct, list_any}
+use Rattle.node_head.specs.declared.head.TheConstants.{GREATEST_USER, LEAST_USER, MOST_LINKS}
 use Rattle.node_head.specs.declared.numbers.TheConstants.{MOST_NUMBERS}
 use Rattle.plant_core.specs.declared.terms.TheConstants.{MOST_TICKS}
 use Rattle.relay_base.specs.declared.limits.TheConstants.{GREATEST_CREDIT, MOST_LANES, POINT_CODES, SUBSYSTEM_NUMBERS}
@@ -88,7 +89,7 @@ within-at place ms key b h = within-value (path place key) b (get_member key ms)
 record AreCounts (c : Counts) : Type 0 where
   conn_lanes : IsWithin 1 c.conn_lanes MOST_LANES
   data_lanes : IsWithin 1 c.data_lanes MOST_LANES
-  links : IsWithin 1 c.links 8
+  links : IsWithin 1 c.links MOST_LINKS
   credit : IsWithin 1 c.credit GREATEST_CREDIT
 
 counts-within : (ms : Members) → IfOk (counts_of ms) AreCounts
@@ -96,7 +97,7 @@ unfolding counts_of
 counts-within ms =
     bound (λ n. IsWithin 1 n MOST_LANES) AreCounts (number_at Top ms (codes "conn_lanes") (usual 1 1 MOST_LANES)) _ (within-at Top ms (codes "conn_lanes") (usual 1 1 MOST_LANES) (omega arith, omega arith)) (λ conn_lanes h.
     bound (λ n. IsWithin 1 n MOST_LANES) AreCounts (number_at Top ms (codes "data_lanes") (usual 1 1 MOST_LANES)) _ (within-at Top ms (codes "data_lanes") (usual 1 1 MOST_LANES) (omega arith, omega arith)) (λ data_lanes i.
-    bound (λ n. IsWithin 1 n 8) AreCounts (number_at Top ms (codes "links") (usual 1 1 8)) _ (within-at Top ms (codes "links") (usual 1 1 8) (omega arith, omega arith)) (λ links j.
+    bound (λ n. IsWithin 1 n MOST_LINKS) AreCounts (number_at Top ms (codes "links") (usual 1 1 MOST_LINKS)) _ (within-at Top ms (codes "links") (usual 1 1 MOST_LINKS) (omega arith, omega arith)) (λ links j.
     bound (λ n. IsWithin 1 n GREATEST_CREDIT) AreCounts (number_at Top ms (codes "credit") (usual 7 1 GREATEST_CREDIT)) _ (within-at Top ms (codes "credit") (usual 7 1 GREATEST_CREDIT) (omega arith, omega arith)) (λ credit k.
     record { conn_lanes = h; data_lanes = i; links = j; credit = k }))))
 
@@ -356,7 +357,7 @@ head-in : (ms : Members) → IfOk (values_of ms) IsHead
 unfolding values_of
 head-in ms =
     after_any IsHead (point_at Top ms) _ (λ point.
-    bound (λ ns. AreNumbers 2 ns 254) IsHead (users_value (get_member (codes "users") ms)) _ (numbers-are (codes "users") (required 2 254) (get_member (codes "users") ms)) (λ users u.
+    bound (λ ns. AreNumbers LEAST_USER ns GREATEST_USER) IsHead (users_value (get_member (codes "users") ms)) _ (numbers-are (codes "users") (required LEAST_USER GREATEST_USER) (get_member (codes "users") ms)) (λ users u.
     bound AreCounts IsHead (counts_of ms) _ (counts-within ms) (λ counts c.
     bound (AreConcerned point) IsHead (concerned_value point (get_member (codes "concerned") ms)) _ (concerned-are point (get_member (codes "concerned") ms)) (λ concerned o.
     bound AreTicks IsHead (timers_value (get_member (codes "timers") ms)) _ (timers-within (get_member (codes "timers") ms)) (λ timers t.

@@ -5,6 +5,7 @@ use Rattle.std.specs.declared.result.Result.{Result}
 use Rattle.relay_base.specs.declared.limits.TheConstants.{POINT_CODES}
 use Rattle.relay_base.specs.Giving.{◌>>=◌}
 use Rattle.toml.specs.Data.{Data, Items, no_items, item, as_integer, as_array}
+use Rattle.node_head.specs.declared.head.TheConstants.{GREATEST_USER, LEAST_USER}
 use Rattle.node_head.specs.declared.numbers.TheConstants.{MOST_NUMBERS}
 use Rattle.node_head.specs.declared.fault.HeadFault.{HeadFault}
 use Rattle.node_head.specs.declared.fault.HeadKind.TheVariants as kind
@@ -36,7 +37,7 @@ numbers_value key b (Some d) = do
 
 -- the local users
 abbrev pub users_value : Option Data → Result (List ℕ) HeadFault
-users_value d = numbers_value (codes "users") (required 2 254) d
+users_value d = numbers_value (codes "users") (required LEAST_USER GREATEST_USER) d
 
 -- points of which the own one is none
 abbrev pub other_points : ℕ → List ℕ → Result (List ℕ) HeadFault

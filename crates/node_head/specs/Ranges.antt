@@ -2,6 +2,7 @@
 use Rattle.std.specs.Prelude.{◌≡◌, ℕ, ◌-◌, ◌==◌, ◌≤◌, nat_eq, true, false, List, [], length, map, IsTrue}
 use Rattle.std.specs.List.{AllByRecursion, IsDistinct, list_any}
 use Rattle.relay_base.specs.declared.limits.TheConstants.{GREATEST_CREDIT, MOST_LANES, POINT_CODES}
+use Rattle.node_head.specs.declared.head.TheConstants.{GREATEST_USER, LEAST_USER, MOST_LINKS}
 use Rattle.node_head.specs.declared.numbers.TheConstants.{MOST_NUMBERS}
 use Rattle.plant_core.specs.Terms.{IsWithin, AreTicks}
 use Rattle.plant_core.specs.declared.terms.Replicate.{Replicate}
@@ -26,10 +27,10 @@ pub record AreReplicates (own : ℕ) (users : List ℕ) (replicates : List Repli
 
 -- what a head that was read states is in its ranges
 pub record IsHead (head : Head) : Type 0 where
-  pub users : AreNumbers 2 head.users 254
+  pub users : AreNumbers LEAST_USER head.users GREATEST_USER
   pub conn_lanes : IsWithin 1 head.conn_lanes MOST_LANES
   pub data_lanes : IsWithin 1 head.data_lanes MOST_LANES
-  pub links : IsWithin 1 head.links 8
+  pub links : IsWithin 1 head.links MOST_LINKS
   pub credit : IsWithin 1 head.credit GREATEST_CREDIT
   pub concerned : AreNumbers 0 head.concerned (POINT_CODES - 1)
   pub concerned_others : list_any (λ point. point == head.point) head.concerned ≡ false

@@ -3,6 +3,15 @@ use gtt_table::Row;
 use plant_core::{ReplicateList, Ticks};
 use relay_base::{Pc, PcList, PlainList, SsnList};
 
+/// The most links.
+pub const MOST_LINKS: u8 = 8;
+
+/// The least subsystem number of a local user: 0 names none, and 1 is SCCP management (Q.713, 3.4.2.2).
+pub const LEAST_USER: u8 = 2;
+
+/// The greatest subsystem number of a local user: 255 is reserved (Q.713, 3.4.2.2).
+pub const GREATEST_USER: u8 = 254;
+
 /// Rows of the translation.
 pub type RowList = PlainList<Row>;
 

@@ -7,6 +7,7 @@ ghost use Rattle.node_head.specs.Refusals.{Reads};
 ghost use Rattle.node_head.specs.Numbers.{integers_after, new_number, numbers_after, numbers_value, users_value, other_points, concerned_value};
 
 use crate::fault::{HeadKind, HeadRefused};
+use crate::head::{GREATEST_USER, LEAST_USER};
 use crate::section::{Bounds, refuse};
 use relay_base::limits::POINT_CODES;
 use relay_base::{Below, Memory, Pc, PcList, PlainList, SsnList};
@@ -110,7 +111,8 @@ fn numbers_of<const LIMIT: u32>(
 pub fn users_of(alloc: Global, value: Option<&Value>) -> Result<SsnList, HeadRefused>
     ensures { Reads result (users_value (data_in value.entry)) }
 {
-    numbers_of(alloc, "users", &Bounds::required(2, 254), value)
+    let bounds = Bounds::required(u32::from(LEAST_USER), u32::from(GREATEST_USER));
+    numbers_of(alloc, "users", &bounds, value)
 }
 
 /// Refuses points among which the own one is.
