@@ -3,6 +3,7 @@ use Rattle.std.proofs.Common.{◌≡◌, ℕ, ◌<◌, ◌==◌, ◌&&◌, Bool,
 use Rattle.std.proofs.lemmas.Bool.{cases_Bool, eqb-true, eqb-false}
 use Rattle.std.proofs.lemmas.List.{get_or-set_same, get_or-set_other}
 use Rattle.std.proofs.lemmas.List.Elements.{All-head, All-tail, All-from_get_or}
+use Rattle.relay_base.specs.declared.limits.TheConstants.{POINT_CODES, SUBSYSTEM_NUMBERS}
 use Rattle.timer_wheel.specs.declared.due.Due.{Due}
 use Rattle.scmg.specs.Inner.Tests.{interval_at, with_interval}
 
@@ -42,13 +43,13 @@ alike-at (suc n) x zero = refl
 alike-at (suc n) x (suc k) = alike-at n x k
 
 -- nor does a row of zeros in the place of an empty one
-pub opened-at : (rows : List (List ℕ)) (place : ℕ) (row : List ℕ) → place < length rows → get_or rows place [] ≡ [] → row ≡ replicate 256 0
+pub opened-at : (rows : List (List ℕ)) (place : ℕ) (row : List ℕ) → place < length rows → get_or rows place [] ≡ [] → row ≡ replicate SUBSYSTEM_NUMBERS 0
     → interval_at (set rows place row) ≡ interval_at rows
 opened-at rows place row reaches none zeros = λ i point ssn. at point ssn i
   where
     by : (point ssn : ℕ) (b : Bool) → (b ≡ true → point ≡ place) → get_or (if b then row else get_or rows point []) ssn 0 ≡ get_or (get_or rows point []) ssn 0
     by point ssn true e =
-        ap (λ r. get_or r ssn 0) zeros ∙ alike-at 256 0 ssn ∙ ap (λ r. get_or r ssn 0) (sym none) ∙ ap (λ q. get_or (get_or rows q []) ssn 0) (sym (e refl))
+        ap (λ r. get_or r ssn 0) zeros ∙ alike-at SUBSYSTEM_NUMBERS 0 ssn ∙ ap (λ r. get_or r ssn 0) (sym none) ∙ ap (λ q. get_or (get_or rows q []) ssn 0) (sym (e refl))
     by point ssn false e = refl
 
     at : (point ssn : ℕ) → interval_at (set rows place row) point ssn ≡ interval_at rows point ssn
@@ -56,7 +57,7 @@ opened-at rows place row reaches none zeros = λ i point ssn. at point ssn i
 
 -- a row that has all places, or none
 abbrev pub IsWhole : List ℕ → Type 0
-IsWhole row = (row ≡ []) ⊎ (length row ≡ 256)
+IsWhole row = (row ≡ []) ⊎ (length row ≡ SUBSYSTEM_NUMBERS)
 
 whole-at : (rows : List (List ℕ)) (x : ℕ) → All IsWhole rows → IsWhole (get_or rows x [])
 whole-at [] x h = inl refl
@@ -67,11 +68,11 @@ pub reached : (old new : List (List ℕ)) → ((x : ℕ) → get_or new x [] ≡
 reached old new same h = All-from_get_or IsWhole new [] (λ x lt. subst IsWhole (sym (same x)) (whole-at old x h))
 
 -- where there is room, the spare row has all places, with 0 in them
-pub spare-size : (n capacity : ℕ) → IsTrue (n == 256 && nat_le 16384 capacity) → n ≡ 256
+pub spare-size : (n capacity : ℕ) → IsTrue (n == SUBSYSTEM_NUMBERS && nat_le POINT_CODES capacity) → n ≡ SUBSYSTEM_NUMBERS
 spare-size n capacity h = grind (arith, h)
 
-pub spare-zeros : (spare : List ℕ) → length spare ≡ 256 → (spare ≡ []) ⊎ (spare ≡ replicate 256 0) → spare ≡ replicate 256 0
-spare-zeros spare size h = ⊎_elim (λ (e : spare ≡ []). absurd (omega (arith, ap length e, size))) (λ (e : spare ≡ replicate 256 0). e) h
+pub spare-zeros : (spare : List ℕ) → length spare ≡ SUBSYSTEM_NUMBERS → (spare ≡ []) ⊎ (spare ≡ replicate SUBSYSTEM_NUMBERS 0) → spare ≡ replicate SUBSYSTEM_NUMBERS 0
+spare-zeros spare size h = ⊎_elim (λ (e : spare ≡ []). absurd (omega (arith, ap length e, size))) (λ (e : spare ≡ replicate SUBSYSTEM_NUMBERS 0). e) h
 
 pub none-there : (row : List ℕ) → (length row == 0) ≡ true → row ≡ []
 none-there [] h = refl

@@ -1,5 +1,5 @@
 //! The ticks with which status tests were armed last, found by the numbers of their points and subsystems.
-ghost use Rattle.std.specs.Prelude.{◌≡◌, ◌==◌, ◌<◌, ◌≤◌, ℕ, [], get_or, length, replicate, set, vec_len, IsTrue, IfOk, OnOk};
+ghost use Rattle.std.specs.Prelude.{◌≡◌, ◌==◌, ◌<◌, ◌≤◌, ℕ, [], false, get_or, length, replicate, set, vec_len, IsTrue, IfOk, OnOk};
 ghost use Rattle.std.specs.Vec.{vec_capacity};
 ghost use Rattle.relay_base.specs.declared.limits.TheConstants.{POINT_CODES, SUBSYSTEM_NUMBERS};
 ghost use Rattle.scmg.specs.Inner.Tests.{interval_at, has_row, with_interval};
@@ -117,7 +117,9 @@ fn reach(alloc: Global, rows: &mut Vec<Row>, point: Pc)
 
 impl Intervals {
     /// No point has places.
-    pub fn new(alloc: Global) -> Intervals {
+    pub fn new(alloc: Global) -> Intervals
+        ensures { result ≡ record { rows = []; has_room = false } }
+    {
         Intervals {
             rows: Vec::new(alloc),
             spare: Row::empty(alloc),

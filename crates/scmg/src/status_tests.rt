@@ -1,6 +1,7 @@
 //! The status tests of all subsystems of other points that are out of service (Q.714, 5.3.4).
 ghost use Rattle.std.specs.Prelude.{◌≡◌, ◌≤◌, ◌<◌, ◌+◌, ◌*◌, [], map, max, min, filter, fold, length, not, IsTrue, IfOk, OnOk};
 ghost use Rattle.std.specs.List.{All};
+ghost use Rattle.relay_base.specs.declared.limits.TheConstants.{POINT_CODES};
 ghost use Rattle.timer_wheel.specs.Timers.{with_timer};
 ghost use Rattle.scmg.specs.Control.{is_due_test, is_test_of, test_begun, test_after_tick, with_test};
 ghost use Rattle.scmg.specs.Inner.Tests.{Running, armed_again, due_test, has_row, interval_at, with_interval};
@@ -25,6 +26,7 @@ pub struct StatusTests {
 impl Model for StatusTests {
     ghost use Rattle.std.specs.Prelude.{◌&&◌, ◌≤◌, ◌<◌, length, nat_lt, IsTrue};
     ghost use Rattle.std.specs.List.{All};
+    ghost use Rattle.relay_base.specs.declared.limits.TheConstants.{POINT_CODES};
     ghost use Rattle.scmg.specs.Inner.Tests.{TestsState, has_row, interval_at, tests_of};
 
     ghost Value = { TestsState };
@@ -38,14 +40,14 @@ impl Model for StatusTests {
 
     ghost invariant = { λ s.
         (length s.wheel.armed ≤ s.wheel.room) × (length s.wheel.armed ≤ s.due.room)
-        × All (λ a. a.due.conn < 16384) s.wheel.armed
+        × All (λ a. a.due.conn < POINT_CODES) s.wheel.armed
         × All (λ a. IsTrue (has_row s.intervals.rows a.due.conn)) s.wheel.armed };
 }
 
 /// The timer of a subsystem's test.
 fn timer_of(point: Pc, ssn: Ssn) -> Due
     ensures value { result ≡ record { conn = point; timer = ssn } }
-    ensures range { result.conn < 16384 }
+    ensures range { result.conn < POINT_CODES }
 {
     Due {
         conn: point.number(),
@@ -94,7 +96,7 @@ fn arm_again(wheel: &mut Wheel, intervals: &mut Intervals, due: &[Due], ticks: &
 
 /// The tests of timers that are due.
 fn tests_of(alloc: Global, intervals: &Intervals, due: &[Due]) -> Result<Vec<StatusTest>, Memory>
-    requires { All (λ d. d.conn < 16384) due.now }
+    requires { All (λ d. d.conn < POINT_CODES) due.now }
     ensures { let of = interval_at intervals.now.rows
         in IfOk result (λ tests. tests.items ≡ map (due_test of) due.now) }
 {

@@ -1,5 +1,6 @@
 use Rattle.std.proofs.Common.{◌≡◌, ◌∙◌, List, [], ◌∷◌, ◌++◌, true, false, ap, sym, arith}
 use Rattle.std.specs.List.{range_with_len}
+use Rattle.relay_base.specs.declared.limits.TheConstants.{SUBSYSTEM_NUMBERS}
 use Rattle.relay_base.specs.declared.words.Output.{Output}
 use Rattle.relay_base.specs.declared.words.Output.TheVariants.{Told}
 use Rattle.scmg.specs.Control.{subsystems, is_told, told_among}
@@ -29,5 +30,5 @@ loop-number-preserved c =
 pub returns : goal.returns
 unfolding subsystems
 returns c =
-    let all : c.loop-number.number ≡ 256 = omega (arith, c.loop-number-test.false, c.loop-number.auto.number-end) in
+    let all : c.loop-number.number ≡ SUBSYSTEM_NUMBERS = omega (arith, c.loop-number-test.false, c.loop-number.auto.number-end) in
     c.loop-number.invariant ∙ ap (λ n. told_among c.args.plant.now.routing c.args.subject c.args.tell.now (range_with_len 0 n)) all

@@ -2,6 +2,7 @@ use Rattle.std.proofs.Common.{rules, ◌≡◌, ◌<◌, [], get_or, length, IsT
 use Rattle.std.proofs.lemmas.List.{get_or_default}
 use Rattle.std.proofs.lemmas.List.Elements.{All-set}
 use Rattle.std.specs.Vec.{vec_capacity}
+use Rattle.relay_base.specs.declared.limits.TheConstants.{SUBSYSTEM_NUMBERS}
 use Rattle.scmg.specs.Inner.Tests.{IntervalsState, interval_at}
 use Rattle.scmg.proofs.IntervalLemmas.{IsWhole, reached, spare-size, spare-zeros, none-there, opened-at}
 use Rattle.scmg.proofs.intervals.Intervals.open.Goals as goal
@@ -10,7 +11,7 @@ pub invariant_of-self : goal.invariant_of-self
 invariant_of-self c =
     let rows = c.reach.new.rows.items in
     let place = c.number-place.result in
-    let size : length c.self.inside.spare ≡ 256 =
+    let size : length c.self.inside.spare ≡ SUBSYSTEM_NUMBERS =
     spare-size (length c.self.inside.spare) (vec_capacity c.self.inside.rows) (subst (λ (s : IntervalsState). IsTrue s.has_room) (sym c.self.view_is) c.requires.room) in
     let whole : IsWhole c.replace.result = inr (ap length c.replace.ensures.value ∙ size) in (
       search rules,
@@ -30,7 +31,7 @@ returns-then-is_empty-clause-intervals c =
     let rows = c.reach.new.rows.items in
     let place = c.number-place.result in
     let row = c.index.result.now in
-    let size : length c.self.inside.spare ≡ 256 =
+    let size : length c.self.inside.spare ≡ SUBSYSTEM_NUMBERS =
     spare-size (length c.self.inside.spare) (vec_capacity c.self.inside.rows) (subst (λ (s : IntervalsState). IsTrue s.has_room) (sym c.self.view_is) c.requires.room) in
     let reaches : place < length rows = omega (arith, c.reach.ensures.reaches, c.number-place.ensures.value) in
     let none : get_or rows place [] ≡ [] =

@@ -1,5 +1,6 @@
 use Rattle.std.proofs.Common.{ℕ, ◌<◌, Bool, List, IsTrue, length, max, ap, ap₂, sym, subst, ◌∙◌, arith}
 use Rattle.std.proofs.lemmas.List.Elements.{All-weaker}
+use Rattle.relay_base.specs.declared.limits.TheConstants.{POINT_CODES}
 use Rattle.timer_wheel.specs.declared.due.Due.{Due}
 use Rattle.timer_wheel.specs.Timers.{Armed}
 use Rattle.scmg.specs.Control.{test_begun, with_test}
@@ -33,6 +34,6 @@ invariant_of-self c =
     All-weaker (λ (a : Armed). IsTrue (has_row c.self.inside.intervals.rows a.due.conn)) (λ a. has a.due.conn) (λ a k. c.open.ensures.rows a.due.conn k) armed c.self.invariant.3 in (
       omega (arith, size, with-length due n armed, c.arm.ensures.room, room.0),
       omega (arith, size, with-length due n armed, room.1),
-      all (λ point. point < 16384) c.timer_of.ensures.range c.self.invariant.2,
+      all (λ point. point < POINT_CODES) c.timer_of.ensures.range c.self.invariant.2,
       subst (λ (rows : ℕ → Bool). AllAt (λ point. IsTrue (rows point)) c.arm.new.wheel.armed) (sym c.arm.ensures.rows) (all has here before),
     )

@@ -1,4 +1,5 @@
 use Rattle.std.proofs.Common.{◌≡◌, ◌<◌, List, All, IfOk, map, filter, ap, sym, subst, ◌∙◌}
+use Rattle.relay_base.specs.declared.limits.TheConstants.{POINT_CODES}
 use Rattle.timer_wheel.specs.declared.due.Due.{Due}
 use Rattle.timer_wheel.specs.Timers.{Dues, due_now}
 use Rattle.scmg.specs.declared.timed.StatusTest.{StatusTest}
@@ -11,7 +12,7 @@ pub tests_of-requires : goal.tests_of-requires
 tests_of-requires c =
     let armed = c.self.inside.wheel.armed in
     let is : c.as_slice.result.now ≡ due_now armed = c.as_slice.ensures ∙ ap (λ (d : Dues). d.timers) c.due-2.ensures.value in
-    subst (All (λ (d : Due). d.conn < 16384)) (sym is) (dues-all (λ point. point < 16384) armed c.self.invariant.2)
+    subst (All (λ (d : Due). d.conn < POINT_CODES)) (sym is) (dues-all (λ point. point < POINT_CODES) armed c.self.invariant.2)
 
 pub returns : goal.returns
 returns c =

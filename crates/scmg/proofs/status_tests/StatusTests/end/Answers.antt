@@ -1,5 +1,6 @@
 use Rattle.std.proofs.Common.{◌≡◌, ℕ, ◌<◌, not, IsTrue, filter, length, ap, sym, subst, ◌∙◌, arith}
 use Rattle.std.proofs.lemmas.List.Elements.{All-filter}
+use Rattle.relay_base.specs.declared.limits.TheConstants.{POINT_CODES}
 use Rattle.timer_wheel.specs.declared.due.Due.{Due}
 use Rattle.timer_wheel.specs.Timers.{Timers, timer_of, is_timer, others}
 use Rattle.scmg.specs.Control.{is_test_of}
@@ -17,7 +18,7 @@ invariant_of-self c =
     let all = λ (P : ℕ → Type 0) (h : AllAt P armed). subst (AllAt P) (sym is) (All-filter (λ a. not (is_timer due a)) (λ a. P a.due.conn) armed h) in (
       omega (arith, size, room, others-length due armed, c.self.invariant.0),
       omega (arith, size, room, others-length due armed, c.self.invariant.1),
-      all (λ point. point < 16384) c.self.invariant.2,
+      all (λ point. point < POINT_CODES) c.self.invariant.2,
       all (λ point. IsTrue (has_row c.self.inside.intervals.rows point)) c.self.invariant.3,
     )
 

@@ -1,4 +1,5 @@
 use Rattle.std.proofs.Common.{◌≡◌, ℕ, ◌<◌, Bool, List, All, IsTrue, map, fold, length, ap, ap₂, sym, subst, ◌∙◌, arith}
+use Rattle.relay_base.specs.declared.limits.TheConstants.{POINT_CODES}
 use Rattle.timer_wheel.specs.declared.due.Due.{Due}
 use Rattle.timer_wheel.specs.Timers.{Armed, Timers, Dues, due_now, after_tick}
 use Rattle.scmg.specs.Control.{test_after_tick}
@@ -47,7 +48,7 @@ invariant_of-self c =
     let due_room = ap (λ (d : Dues). d.room) c.due.ensures.value in (
       omega (arith, size, most, slice, left, room, c.arm_again.ensures.room, tick-length armed, c.self.invariant.0),
       omega (arith, size, most, slice, left, due_room, tick-length armed, c.self.invariant.1),
-      all (λ point. point < 16384) c.self.invariant.2,
+      all (λ point. point < POINT_CODES) c.self.invariant.2,
       subst (λ (rows : ℕ → Bool). AllAt (λ point. IsTrue (rows point)) c.arm_again.new.wheel.armed) (sym c.arm_again.ensures.rows) (all has c.self.invariant.3),
     )
 
