@@ -21,7 +21,7 @@ use Rattle.capture_form.specs.declared.reading.Reading.{Reading}
 use Rattle.capture_form.specs.declared.capture.Capture.{Capture}
 use Rattle.capture_form.specs.Capture.{Reads, is_skipped, begins, Line, lines_from, barriers, with_above, fault_at, event_at, phases_of, unless_faulty, at_head, capture_after, capture_from, capture_within}
 use Rattle.capture_form.specs.Inner.Reader.{at_line, phase_ended, event_added, barrier_taken, tick_counted, line_counted, event_put, event_taken, words_taken, line_taken, lines_taken, reading_from, phases_read, capture_read}
-use Rattle.capture_form.specs.declared.steps.TheConstants.{MOST_LINES, MOST_TICKS, MOST_BARRIERS}
+use Rattle.capture_form.specs.declared.steps.TheConstants.{MOST_LINES, MOST_TICK_LINES, MOST_BARRIERS}
 use Rattle.capture_form.specs.Events.{Stamped, phase_lists, phase_events, all_events, AreOfPhases, IsStamped}
 use Rattle.capture_form.proofs.PhaseLemmas.{phases-stamped}
 use Rattle.capture_form.proofs.ReaderLemmas.{reader-agrees}
@@ -87,7 +87,7 @@ is-less n h = grind (arith, nat_tests)
 
 tick-counted : (r : Reading) → Counted r → IfOk (tick_counted r) Counted
 tick-counted r h =
-    either Counted (nat_le MOST_TICKS r.ticks) (Err (refused.TooLong limit.Ticks)) (Ok (record r { ticks = r.ticks + 1 })) tt
+    either Counted (nat_le MOST_TICK_LINES r.ticks) (Err (refused.TooLong limit.Ticks)) (Ok (record r { ticks = r.ticks + 1 })) tt
     (record { fine = fine-same r (record r { ticks = r.ticks + 1 }) refl refl h.fine; less = h.less })
 
 line-counted : (r : Reading) (ws : List (List ℕ)) → Fine r → IfOk (line_counted r ws) Counted

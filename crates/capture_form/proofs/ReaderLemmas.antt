@@ -19,7 +19,7 @@ use Rattle.capture_form.specs.declared.fault.Limit.TheVariants.{Lines, Ticks, Ba
 use Rattle.capture_form.specs.declared.fault.CaptureFault.{CaptureFault}
 use Rattle.capture_form.specs.declared.fault.CaptureFault.TheVariants as refused
 use Rattle.capture_form.specs.declared.capture.Capture.{Capture}
-use Rattle.capture_form.specs.declared.steps.TheConstants.{MOST_LINES, MOST_TICKS, MOST_BARRIERS}
+use Rattle.capture_form.specs.declared.steps.TheConstants.{MOST_LINES, MOST_TICK_LINES, MOST_BARRIERS}
 use Rattle.capture_form.specs.declared.reading.Reading.{Reading}
 use Rattle.capture_form.specs.Capture.{Line, is_skipped, lines_from, is_barrier, is_tick, barriers, ticks, event_lines, form_fault, barrier_fault, event_fault, fault_at, event_at, phases_of, unless_faulty, capture_after}
 use Rattle.capture_form.specs.Inner.Reader.{at_line, phase_ended, event_added, barrier_taken, event_put, event_taken, words_taken, line_taken, lines_taken, reading_from, phases_read, capture_read}
@@ -208,9 +208,9 @@ words-agree head more ih above events b n t number ws c true k =
     ∙ barrier-agrees head more ih above events b n t number ws c k (nat_le MOST_BARRIERS b) (length ws == 1)
     ∙ (λ i. given_with head above events (number, ws) (lines_from (number + 1) more) (barrier_fault_of number (nat_le MOST_BARRIERS (sym c.barriers i)) (length ws == 1)) None)
 words-agree head more ih above events b n t number ws c false k =
-    counted-agrees head more ih above events b n t number ws c k (nat_le MOST_LINES n) (is_tick (number, ws)) (nat_le MOST_TICKS t) refl
+    counted-agrees head more ih above events b n t number ws c k (nat_le MOST_LINES n) (is_tick (number, ws)) (nat_le MOST_TICK_LINES t) refl
     ∙ (λ i. given_with head above events (number, ws) (lines_from (number + 1) more)
-    (event_fault_of (nat_le MOST_LINES (sym c.lines i)) (is_tick (number, ws)) (nat_le MOST_TICKS (sym c.ticks i)) number (event_of head ws))
+    (event_fault_of (nat_le MOST_LINES (sym c.lines i)) (is_tick (number, ws)) (nat_le MOST_TICK_LINES (sym c.ticks i)) number (event_of head ws))
     (option_map (stamped (sym c.barriers i) number) (result_ok (event_of head ws))))
 
 line-agrees : (head : Head) (line : List ℕ) (more : List (List ℕ)) → Agrees head more → (above : List Line) (events : Stamped) (b n t number : ℕ) → Counts above events b n t → (skipped : Bool)

@@ -20,4 +20,4 @@ pub use journal_text::{Book, WriteFault, print_book, write_book};
 pub use lane_place::{LanePlace, place};
 pub use note::fault_note;
 pub use reading::{Phase, PhaseList, StampedControlList};
-pub use steps::MOST_LINES;
+pub use steps::{MOST_BARRIERS, MOST_LINES, MOST_TICK_LINES};

@@ -21,10 +21,10 @@ use std::mem;
 pub const MOST_LINES: u32 = 200_000;
 
 /// The most tick lines.
-const MOST_TICKS: u32 = 20_000;
+pub const MOST_TICK_LINES: u32 = 20_000;
 
 /// The most barriers.
-const MOST_BARRIERS: u32 = 1_000;
+pub const MOST_BARRIERS: u32 = 1_000;
 
 /// The empty lists of a phase.
 pub fn empty_phase(alloc: Global, links: u8) -> Result<Phase, Memory>
@@ -151,7 +151,7 @@ fn count_tick(read: &mut Reading) -> Result<(), CaptureFault>
     ensures kept { IsStill read.old read.new }
     ensures events { read.new.events ≡ read.old.events }
 {
-    if read.ticks >= MOST_TICKS {
+    if read.ticks >= MOST_TICK_LINES {
         return Err(CaptureFault::TooLong(Limit::Ticks));
     }
     read.ticks += 1;

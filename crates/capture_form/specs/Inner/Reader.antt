@@ -9,7 +9,7 @@ use Rattle.capture_form.specs.Text.{words}
 use Rattle.capture_form.specs.Line.{Linked, event_of}
 use Rattle.capture_form.specs.Events.{Stamped}
 use Rattle.capture_form.specs.Capture.{fault_in, is_skipped, begins}
-use Rattle.capture_form.specs.declared.steps.TheConstants.{MOST_LINES, MOST_TICKS, MOST_BARRIERS}
+use Rattle.capture_form.specs.declared.steps.TheConstants.{MOST_LINES, MOST_TICK_LINES, MOST_BARRIERS}
 use Rattle.capture_form.specs.declared.fault.LineKind.{LineKind}
 use Rattle.capture_form.specs.declared.fault.LineKind.TheVariants.{Words}
 use Rattle.capture_form.specs.declared.fault.Limit.TheVariants.{Lines, Ticks, Barriers}
@@ -67,7 +67,7 @@ barrier_taken head r ws =
 
 -- a tick line is counted; there are at most 20,000
 abbrev pub tick_counted : Reading → Result Reading CaptureFault
-tick_counted r = if nat_le MOST_TICKS r.ticks then Err (refused.TooLong Ticks) else Ok (record r { ticks = r.ticks + 1 })
+tick_counted r = if nat_le MOST_TICK_LINES r.ticks then Err (refused.TooLong Ticks) else Ok (record r { ticks = r.ticks + 1 })
 
 -- an event line, of which there are at most 200,000, is counted
 abbrev pub line_counted : Reading → List (List ℕ) → Result Reading CaptureFault
