@@ -114,6 +114,32 @@ fn ticked(
     Ok((nexts, outs))
 }
 
+/// Takes memory for one more connection, and for the timers of the connections that an event changes.
+fn make_room(kept: &mut Connections, wheel: &mut Wheel, change: &Change) -> Result<(), Memory>
+    ensures kept { kept.new.kept ≡ kept.old.kept }
+    ensures armed { wheel.new.armed ≡ wheel.old.armed }
+    ensures room { OnOk result (1 ≤ kept.new.room) }
+    ensures timers { let timers = length wheel.new.armed + timers_of change.now in
+        OnOk result (timers ≤ wheel.new.room) }
+{
+    reserve(wheel, change)?;
+    kept.reserve()
+}
+
+/// Keeps a connection that was just opened, and starts its timers.
+fn keep(kept: &mut Connections, wheel: &mut Wheel, taken: u64, one: Kept)
+    requires room { 1 ≤ kept.old.room }
+    requires count { length kept.old.kept ≤ 4_294_967_295 }
+    requires timers { length wheel.old.armed + TIMERS ≤ wheel.old.room }
+    requires timed { IsTimed taken kept.old.kept wheel.old.armed }
+    ensures kept { kept.new.kept ≡ kept.old.kept ++ Some one ∷ [] }
+    ensures timed { IsTimed taken kept.new.kept wheel.new.armed }
+{
+    let number = kept.opened();
+    follow(wheel, number, None, Some(&one), taken);
+    kept.open(one);
+}
+
 impl Openings {
     /// Before the first event of the lane of this number, whose references freeze for so many ticks.
     pub fn new(alloc: Global, number: u8, freeze: u32) -> Result<Openings, Memory>
@@ -257,22 +283,32 @@ impl Openings {
             × (wheel.new.armed ≡ wheel.old.armed)) }
     {
         // Room for a connection and for timers is taken here, so that the journal grows last of what may lack memory.
-        reserve(wheel, &change)?;
-        self.kept.reserve()?;
+        make_room(&mut self.kept, wheel, &change)?;
         journal.push(entry)?;
         match change {
             Change::Nothing => {}
-            Change::Heard(next) => self.put(wheel, next),
+            Change::Heard(next) => self.put_heard(wheel, next),
             Change::Opened(NewConnection { one, this, that }) => {
                 let number = self.kept.opened();
-                follow(wheel, number, None, Some(&one), self.taken);
-                self.kept.open(one);
+                keep(&mut self.kept, wheel, self.taken, one);
                 self.take(this, number);
                 self.take(that, number);
             }
             Change::Ticked(nexts) => self.advance(wheel, nexts),
         }
         Ok(())
+    }
+
+    /// The connection that heard an event as it is next, with its timers.
+    fn put_heard(&mut self, wheel: &mut Wheel, next: Next)
+        requires count { length self.old.kept ≤ 4_294_967_295 }
+        requires fits { CanBePut next self.old }
+        requires timed { IsTimed self.old.taken self.old.kept wheel.old.armed }
+        requires room { length wheel.old.armed + TIMERS ≤ wheel.old.room }
+        ensures value { self.new ≡ put next self.old }
+        ensures timed { IsTimed self.new.taken self.new.kept wheel.new.armed }
+    {
+        self.put(wheel, next);
     }
 
     /// An end gives its reference up, if it is one.
