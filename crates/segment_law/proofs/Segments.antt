@@ -19,7 +19,7 @@ use Rattle.plant_core.specs.declared.answer.Rewrite.{Rewrite}
 use Rattle.plant_core.specs.declared.answer.Rewrite.TheVariants.{Keep, Set}
 use Rattle.plant_core.proofs.AddressLengths.{length-called_kept}
 use Rattle.connectionless.specs.Given.{Given, given_of, given_in, is_unit_request, is_address, is_optional_address, outgoing}
-use Rattle.segment_law.specs.SegmentLaw.{IsWithinFifteen}
+use Rattle.segment_law.specs.SegmentLaw.{IsWithinFifteen, least_size, most_segments}
 use Rattle.segment_law.proofs.Translated.{translated-few}
 
 -- what is known of a unit that a user may give
@@ -72,14 +72,14 @@ pub units-few : (routing : RoutingData) (ssn : ℕ) (request : Request) (g : Giv
 units-few routing ssn request g a point reference rewrite hop given reads goes =
     let few = given-few ssn request g given in
     let called : length (called_onward rewrite g.called) ≤ LONGEST_GIVEN_ADDRESS = called-few routing g.called a point rewrite hop reads goes few.called in
-    let size : 171 ≤ SEGMENT_ROOM - length (called_onward rewrite g.called) - length g.calling = omega (arith, few.calling) in
+    let size : least_size ≤ SEGMENT_ROOM - length (called_onward rewrite g.called) - length g.calling = omega (arith, few.calling) in
     record {
       addresses = omega (arith, few.calling);
       size = size;
       count = counted (length g.body) (SEGMENT_ROOM - length (called_onward rewrite g.called) - length g.calling) few.body size;
     }
   where
-    counted : (n s : ℕ) → n ≤ LONGEST_GIVEN_UNIT → 171 ≤ s → (n + s - 1) / s ≤ 15
+    counted : (n s : ℕ) → n ≤ LONGEST_GIVEN_UNIT → least_size ≤ s → (n + s - 1) / s ≤ most_segments
     counted n s few large =
-        let below : (n + s - 1) / s < 16 = (div-lt_iff_lt-mul {k = s} {x = n + s - 1} {y = 16} (omega arith)).1 (omega arith) in
+        let below : (n + s - 1) / s < most_segments + 1 = (div-lt_iff_lt-mul {k = s} {x = n + s - 1} {y = most_segments + 1} (omega arith)).1 (omega arith) in
         omega arith

@@ -24,6 +24,7 @@ use Rattle.plant_core.specs.declared.answer.Origin.TheVariants.{Network, User as
 use Rattle.plant_core.specs.declared.answer.RouteCause.TheVariants.{PointBarred, SubsystemBarred, Unequipped}
 use Rattle.plant_core.specs.declared.answer.Rewrite.TheVariants.{Keep, Set}
 use Rattle.relay_base.proofs.GivingLemmas.{bound}
+use Rattle.segment_law.specs.SegmentLaw.{longest_translated}
 
 -- a title has at most 24 digits
 abbrev pub IsFew : TitleForm → Type 0
@@ -146,12 +147,12 @@ rewrites-digits p a hop origin = by_test a.on_ssn
     by_test false r = title-digits p a.title hop r
 
 -- a translated address: the indicator, a subsystem number, and its title
-after-few : (a : Form) (ssn : Option ℕ) (on_ssn : Bool) → HasDigits a.title → IsFew a.title → length (address_spelling (address_after a (Set ssn on_ssn))) ≤ 17
+after-few : (a : Form) (ssn : Option ℕ) (on_ssn : Bool) → HasDigits a.title → IsFew a.title → length (address_spelling (address_after a (Set ssn on_ssn))) ≤ longest_translated
 unfolding address_spelling title_octets
 after-few a ssn on_ssn = by_title a.title
   where
     by_title : (title : TitleForm) → HasDigits title → IsFew title
-        → length (address_spelling (record { point = None; ssn = taken_ssn ssn a.ssn; title = title; on_ssn = on_ssn })) ≤ 17
+        → length (address_spelling (record { point = None; ssn = taken_ssn ssn a.ssn; title = title; on_ssn = on_ssn })) ≤ longest_translated
     by_title no_title digits few = absurd digits
     by_title (other gti octets) digits few = absurd digits
     by_title (bcd s d) digits few =
@@ -159,7 +160,7 @@ after-few a ssn on_ssn = by_title a.title
 
 pub translated-few : (routing : RoutingData) (octets : List ℕ) (a : Form) (hop onward_hop : Option ℕ) (origin : Origin) (point : ℕ) (ssn : Option ℕ) (on_ssn : Bool)
     → address_of octets ≡ Ok a → route_of routing a hop origin ≡ Forward point (Set ssn on_ssn) onward_hop
-    → length (called_onward (Set ssn on_ssn) octets) ≤ 17
+    → length (called_onward (Set ssn on_ssn) octets) ≤ longest_translated
 unfolding called_onward
 translated-few routing octets a hop onward_hop origin point ssn on_ssn reads goes =
     let digits : HasDigits a.title = rewrites-digits routing a hop origin (subst Rewrites (sym goes) tt) in
