@@ -2,6 +2,7 @@
 use Rattle.std.proofs.Common.{◌≡◌, ℕ, ◌+◌, ◌<◌, ◌≤◌, ◌==◌, Bool, true, false, List, [], ◌∷◌, ◌++◌, length, drop, slice_get, map, filter, refl, sym, ap, ◌∙◌, ⊎_elim, arith, append_assoc, Result, Ok, Err, IfOk, OnErr, Some, None, Option, zero, suc, add-one, append-nil}
 use Rattle.std.proofs.lemmas.Bool.{cases_Bool}
 use Rattle.std.proofs.lemmas.List.{length-map}
+use Rattle.reassembly.specs.declared.processes.TheConstants.{MOST_REASSEMBLIES}
 use Rattle.relay_base.specs.declared.errors.Memory.{Memory}
 use Rattle.relay_base.specs.declared.words.Output.{Output}
 use Rattle.reassembly.specs.Segments.{key_of, is_first, remaining}
@@ -91,7 +92,7 @@ length-filter p (x ∷ xs) =
     (λ (t : p x ≡ false). rw t (omega arith))
     (cases_Bool (p x))
 
-pub few-ended : (xs : List Process) → IsWithinBounds xs → length (ended_by_tick xs) ≤ 256
+pub few-ended : (xs : List Process) → IsWithinBounds xs → length (ended_by_tick xs) ≤ MOST_REASSEMBLIES
 few-ended xs bounds = let h = length-filter is_due xs in let few = bounds.few in rw length-map (omega arith)
 
 -- one more return, and the last one
