@@ -1,6 +1,6 @@
 -- The capture of the generator: a fixed head, and events that a sequence of numbers picks.
 use Rattle.std.specs.Prelude.{ℕ, zero, suc, ◌+◌, ◌*◌, ◌/◌, ◌%◌, ◌==◌, List, [], ◌∷◌, ◌++◌, if◌then◌else◌}
-use Rattle.relay_base.specs.declared.limits.TheConstants.{LINK_SELECTIONS}
+use Rattle.relay_base.specs.declared.limits.TheConstants.{LINK_SELECTIONS, OCTET_VALUES}
 use Rattle.relay_base.specs.References.{reference_of_slot}
 use Rattle.relay_base.specs.declared.words.Event.{Event}
 use Rattle.relay_base.specs.declared.words.Event.TheVariants.{Message as Arrived, Asked, Tick}
@@ -13,6 +13,7 @@ use Rattle.q713_codec.specs.Messages.{octets3}
 use Rattle.node_head.specs.declared.head.Head.{Head}
 use Rattle.capture_form.specs.Events.{Stamped}
 use Rattle.capture_form.specs.declared.capture.Capture.{Capture}
+use Rattle.capture_generator.specs.declared.events.TheConstants.{BLOCK}
 
 -- ---- the head: five lines with its mark, so that the events begin at line 6
 
@@ -68,7 +69,7 @@ event_of_kind kind i =
     if kind == 0 then message_at i unit_octets
     else if kind == 1 then message_at i (request_octets (i + 1))
     else if kind == 2 then Asked 8 (Accept (reference_at i) 2 0 [])
-    else message_at i (data_octets (reference_at i) (i % 256))
+    else message_at i (data_octets (reference_at i) (i % OCTET_VALUES))
 
 -- the event that the number x picks
 abbrev pub event_at : ℕ → ℕ → Event
@@ -77,7 +78,7 @@ event_at x i = event_of_kind (x / 65536 % 4) i
 -- ---- where it stands: after each 400th line come a barrier, a tick and a barrier
 
 abbrev pub stamp_at : ℕ → Stamp
-stamp_at i = record { phase = 1 + 2 * (i / 400); link = 1; line = 6 + i + 3 * (i / 400) }
+stamp_at i = record { phase = 1 + 2 * (i / BLOCK); link = 1; line = 6 + i + 3 * (i / BLOCK) }
 
 abbrev pub stamped_at : ℕ → ℕ → Stamp × ControlEvent
 stamped_at x i = (stamp_at i, Plain (event_at x i))
@@ -98,26 +99,26 @@ lines_phase x first count = [] ∷ events_after x first count ∷ []
 
 -- the phase of so many lines after b whole blocks of 400
 abbrev pub block_phase : ℕ → ℕ → ℕ → List Stamped
-block_phase x b count = lines_phase (number_after x (400 * b)) (400 * b) count
+block_phase x b count = lines_phase (number_after x (BLOCK * b)) (BLOCK * b) count
 
 -- the tick after block b, from 0
 abbrev pub tick_phase : ℕ → List Stamped
-tick_phase b = ((record { phase = 2 + 2 * b; link = 0; line = 407 + 403 * b }, Plain Tick) ∷ []) ∷ [] ∷ []
+tick_phase b = ((record { phase = 2 + 2 * b; link = 0; line = 7 + BLOCK + (BLOCK + 3) * b }, Plain Tick) ∷ []) ∷ [] ∷ []
 
 -- block b, of which x is the number before the first line, and its tick
 abbrev pub block_phases : ℕ → ℕ → Phases
-block_phases x b = lines_phase x (400 * b) 400 ∷ tick_phase b ∷ []
+block_phases x b = lines_phase x (BLOCK * b) BLOCK ∷ tick_phase b ∷ []
 
 -- the first b blocks of 400 lines, each with its tick
 unfoldable pub whole_blocks : ℕ → ℕ → Phases
 whole_blocks x zero = []
-whole_blocks x (suc b) = whole_blocks x b ++ block_phases (number_after x (400 * b)) b
+whole_blocks x (suc b) = whole_blocks x b ++ block_phases (number_after x (BLOCK * b)) b
 
 -- all whole blocks, and the lines that are left; without lines there is no phase
 abbrev pub phases_after : ℕ → ℕ → Phases
 phases_after x lines =
     if lines == 0 then []
-    else whole_blocks x (lines / 400) ++ block_phase x (lines / 400) (lines % 400) ∷ []
+    else whole_blocks x (lines / BLOCK) ++ block_phase x (lines / BLOCK) (lines % BLOCK) ∷ []
 
 -- the phases of the generator's number and count of lines
 abbrev pub generated_phases : ℕ → ℕ → Phases

@@ -1,6 +1,7 @@
 //! The phases of generated lines.
 ghost use Rattle.std.specs.Prelude.{◌≡◌, ◌<◌, ◌≤◌, ◌+◌, ◌*◌, ◌++◌, [], ◌∷◌, IfOk, OnOk};
 ghost use Rattle.capture_form.specs.declared.steps.TheConstants.{MOST_LINES};
+ghost use Rattle.capture_generator.specs.declared.events.TheConstants.{BLOCK};
 ghost use Rattle.capture_generator.specs.Generator.{number_after, events_after, lines_phase, block_phases, tick_phase, whole_blocks, phases_after};
 
 use crate::events::{BLOCK, next_number, stamped_at};
@@ -55,13 +56,13 @@ fn block_phase(alloc: Global, x: &mut u32, first: u32, count: u32) -> Result<Pha
 
 /// The tick after a block.
 fn tick_phase(alloc: Global, block: u32) -> Result<Phase, Memory>
-    requires { block < 1000 }
+    requires { BLOCK * block < MOST_LINES }
     ensures { IfOk result (λ phase. phase ≡ tick_phase block) }
 {
     let stamp = Stamp {
         phase: 2 + 2 * block,
         link: 0,
-        line: 407 + 403 * block,
+        line: 7 + BLOCK + (BLOCK + 3) * block,
     };
     let mut control = StampedControlList::new(alloc);
     control.push((stamp, ControlEvent::Plain(Event::Tick)))?;
@@ -70,9 +71,9 @@ fn tick_phase(alloc: Global, block: u32) -> Result<Phase, Memory>
 
 /// Puts the phases of a block of 400 lines, of which `x` is the number before the first, and of its tick at the end.
 fn push_block(alloc: Global, x: &mut u32, block: u32, phases: &mut PhaseList) -> Result<(), Memory>
-    requires { block < 499 }
+    requires { BLOCK * (block + 1) ≤ MOST_LINES }
     ensures phases { OnOk result (phases.new ≡ phases.old ++ block_phases x.old block) }
-    ensures number { OnOk result (x.new ≡ number_after x.old 400) }
+    ensures number { OnOk result (x.new ≡ number_after x.old BLOCK) }
 {
     phases.push(block_phase(alloc, x, BLOCK * block, BLOCK)?)?;
     phases.push(tick_phase(alloc, block)?)?;
@@ -82,9 +83,9 @@ fn push_block(alloc: Global, x: &mut u32, block: u32, phases: &mut PhaseList) ->
 /// So many blocks of 400 lines, each with its tick, of which `x` is the number before the first.
 #[tactic(auto, using(crate::proofs::StepLemmas::blocks_none, crate::proofs::StepLemmas::number_none))]
 fn whole_blocks(alloc: Global, x: &mut u32, count: u32) -> Result<PhaseList, Memory>
-    requires { count < 500 }
+    requires { BLOCK * count ≤ MOST_LINES }
     ensures phases { IfOk result (λ phases. phases ≡ whole_blocks x.old count) }
-    ensures number { OnOk result (x.new ≡ number_after x.old (400 * count)) }
+    ensures number { OnOk result (x.new ≡ number_after x.old (BLOCK * count)) }
 {
     let mut phases = PhaseList::new(alloc);
     for block in 0..count {

@@ -5,7 +5,7 @@ ghost use Rattle.capture_generator.specs.Generator.{next_number, reference_at, u
 
 use plant_core::ControlEvent;
 use q713_codec::octets3;
-use relay_base::limits::{LINK_SELECTIONS, MOST_LANES};
+use relay_base::limits::{LINK_SELECTIONS, MOST_LANES, OCTET_VALUES};
 use relay_base::{Event, Memory, Octets, Pc, Ref24, Request, Sls, Ssn, Stamp};
 use std::alloc::Global;
 
@@ -87,7 +87,7 @@ fn event_of_kind(alloc: Global, kind: u32, line: u32) -> Result<Event, Memory>
         0 => unit_octets(alloc)?,
         1 => request_octets(alloc, Ref24::new(line + 1).unwrap())?,
         2 => return Ok(acceptance_at(alloc, line)),
-        _ => data_octets(alloc, reference_at(line), (line % 256) as u8)?,
+        _ => data_octets(alloc, reference_at(line), (line % OCTET_VALUES) as u8)?,
     };
     Ok(message_at(line, octets))
 }

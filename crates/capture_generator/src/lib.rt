@@ -7,5 +7,6 @@ mod events;
 mod tally;
 mod whole;
 
+pub use events::BLOCK;
 pub use tally::counts_line;
 pub use whole::generated;
