@@ -92,7 +92,7 @@ impl Printed for Entry {
     fn put(&self, text: &mut Text) -> Result<(), AllocError> {
         put_stamp(text, self.stamp)?;
         put_asked(text, &self.asked)?;
-        text.end_line()?;
+        text.put("\n")?;
         put_outs(text, self.outs.as_slice())
     }
 }
@@ -105,7 +105,7 @@ impl Printed for ControlEntry {
     fn put(&self, text: &mut Text) -> Result<(), AllocError> {
         put_stamp(text, self.stamp)?;
         put_published(text, self.published)?;
-        text.end_line()?;
+        text.put("\n")?;
         put_outs(text, self.outs.as_slice())
     }
 }

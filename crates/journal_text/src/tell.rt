@@ -240,7 +240,7 @@ fn put_sent(text: &mut Text, point: Pc, sls: Sls, bytes: &Octets) -> Result<(), 
 {
     put_pair(text, ">", point.number(), sls.number())?;
     text.octets(bytes.as_slice())?;
-    text.end_line()
+    text.put("\n")
 }
 
 fn put_told(text: &mut Text, ssn: Ssn, tell: &Tell) -> Result<(), AllocError>
@@ -248,7 +248,7 @@ fn put_told(text: &mut Text, ssn: Ssn, tell: &Tell) -> Result<(), AllocError>
 {
     put_number(text, "<", ssn.number())?;
     put_tell(text, tell)?;
-    text.end_line()
+    text.put("\n")
 }
 
 fn put_lost_line(text: &mut Text, lost: Lost) -> Result<(), AllocError>
@@ -256,7 +256,7 @@ fn put_lost_line(text: &mut Text, lost: Lost) -> Result<(), AllocError>
 {
     text.word(".")?;
     put_lost(text, lost)?;
-    text.end_line()
+    text.put("\n")
 }
 
 /// Appends the line of an output.

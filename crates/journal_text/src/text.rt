@@ -1,5 +1,5 @@
 //! The text that waits to be written, and how each kind of word joins it.
-ghost use Rattle.std.specs.Prelude.{◌≡◌, ◌++◌, [], codes, length};
+ghost use Rattle.std.specs.Prelude.{◌≡◌, ◌++◌, [], codes, length, IfOk};
 ghost use Rattle.hex.specs.Hex.{encode_lower};
 ghost use Rattle.journal_text.specs.Inner.Texts.{Puts};
 ghost use Rattle.journal_text.specs.Print.{octets_text, optional_text};
@@ -24,12 +24,12 @@ impl Model for Text {
 }
 
 impl Text {
-    pub fn new(alloc: Global) -> Text
-        ensures { result ≡ [] }
+    /// A text that begins with this one.
+    pub fn of(alloc: Global, text: &str) -> Result<Text, AllocError>
+        ensures { IfOk result (λ t. t ≡ text.now) }
     {
-        Text {
-            waiting: Vec::new(alloc),
-        }
+        let waiting = Vec::from_slice(alloc, text.as_bytes())?;
+        Ok(Text { waiting })
     }
 
     pub fn len(&self) -> usize
@@ -71,7 +71,8 @@ impl Text {
         let start = self.waiting.len();
         let end = start.checked_add(2 * octets.len()).ok_or(AllocError)?;
         self.waiting.resize(end, 0)?;
-        hex::encode_to_slice(octets, self.waiting.slice_mut(start..)).map_err(|_| AllocError)
+        hex::encode_to_slice(octets, self.waiting.slice_mut(start..)).unwrap();
+        Ok(())
     }
 
     /// Appends a space and a word.
@@ -109,12 +110,5 @@ impl Text {
             Some(octets) => self.octets(octets.as_slice()),
             None => self.word("-"),
         }
-    }
-
-    /// Appends the end of a line.
-    pub fn end_line(&mut self) -> Result<(), AllocError>
-        ensures { Puts result self.old self.new (codes "\n") }
-    {
-        self.put("\n")
     }
 }

@@ -112,7 +112,7 @@ fn put_lane(text: &mut Text, name: &str, number: usize) -> Result<(), AllocError
     text.put("=")?;
     text.word(name)?;
     text.number(number)?;
-    text.end_line()
+    text.put("\n")
 }
 
 /// The print of lanes joins the text that waits.
@@ -151,8 +151,7 @@ pub fn write_book<K: Sink>(alloc: Global, book: &Book, out: &mut K) -> Result<()
     ensures fault { result ≡ Err WriteFault.Sink → Rose (K.faults out.old) (K.faults out.new) }
     ensures kept { result ≢ Err WriteFault.Sink → K.faults out.new ≡ K.faults out.old }
 {
-    let mut text = Text::new(alloc);
-    text.put("= control\n")?;
+    let mut text = Text::of(alloc, "= control\n")?;
     carry_book(out, &mut text, book)?;
     write_text(out, &text)
 }
