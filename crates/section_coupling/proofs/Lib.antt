@@ -10,5 +10,3 @@ pub mod Fitting
 pub mod Opened
 pub mod Composed
 pub mod Keeping
-pub mod Resting
-pub mod Sleeping

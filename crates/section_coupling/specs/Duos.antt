@@ -1,5 +1,5 @@
 -- A connection with the ticks of its timers, as the code keeps it.
-use Rattle.std.specs.Prelude.{ℕ, ◌+◌, ◌/◌, ◌%◌, ◌==◌, min, fold, if◌then◌else◌, List, Option, Some, None, slice_index_or}
+use Rattle.std.specs.Prelude.{ℕ, ◌+◌, ◌/◌, ◌%◌, ◌==◌, if◌then◌else◌, Option, Some, None, slice_index_or}
 use Rattle.relay_base.specs.declared.words.Event.{Event}
 use Rattle.relay_base.specs.declared.words.Event.TheVariants.{Message as Arrives, Asked as Requested, Tick}
 use Rattle.plant_core.specs.declared.terms.Ticks.{Ticks}
@@ -8,7 +8,6 @@ use Rattle.section_model.specs.declared.cell.Timer.TheVariants.{Repeat}
 use Rattle.section_model.specs.Ends.{End, wire, owner, Connection}
 use Rattle.section_model.specs.Timing.{firing_order, timer_in}
 use Rattle.connection_law.specs.InStep.{IsInStep}
-use Rattle.connection_law.specs.Resting.{Rests}
 use Rattle.section_coupling.specs.declared.pair.EndName.{EndName}
 use Rattle.section_coupling.specs.declared.pair.EndName.TheVariants.{This, That}
 use Rattle.section_coupling.specs.declared.pair.Pair.{Pair}
@@ -19,10 +18,9 @@ pub record DuoState : Type 0 where
   pub ticks : Ticks
   pub pair : Pair
 
--- What holds of every connection: lengths and credits, what its two ends keep of windows, and that nothing is left that would leave; these
--- two hang on no timer.
+-- What holds of every connection: lengths and credits, and what its two ends keep of windows, which hangs on no timer.
 abbrev pub HoldsAt : Pair → Type 0
-HoldsAt p = SoundPair p × IsInStep (connection_at 0 p) × Rests (connection_at 0 p)
+HoldsAt p = SoundPair p × IsInStep (connection_at 0 p)
 
 -- the connection that it stands for after so many ticks
 abbrev pub duo_at : ℕ → DuoState → Connection
@@ -44,18 +42,6 @@ timer_placed place = slice_index_or firing_order place Repeat
 abbrev pub left_of_timer : Timer → End → Option ℕ
 left_of_timer timer (wire x) = timer_in timer x.timers
 left_of_timer timer (owner u) = None
-
--- the fewer ticks, where a timer has any
-abbrev pub fewer : ℕ → Option ℕ → ℕ
-fewer fewest None = fewest
-fewer fewest (Some left) = min fewest left
-
--- the fewest ticks that are left of one of these timers of an end, 2^64 - 1 where none runs
-abbrev pub fewest_of : List Timer → End → ℕ
-fewest_of timers e = fold (λ fewest timer. fewer fewest (left_of_timer timer e)) 18446744073709551615 timers
-
-unfoldable pub fewest_left : End → ℕ
-fewest_left e = fewest_of firing_order e
 
 -- A timer's number is 7 times that of its end, and its place in the order in which timers fire.
 abbrev pub ticks_left : ℕ → Connection → Option ℕ

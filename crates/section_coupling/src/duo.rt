@@ -1,6 +1,6 @@
 //! A connection: two coupled ends.
 ghost use Rattle.section_coupling.specs.declared.duo.TheConstants.{TIMERS};
-ghost use Rattle.std.specs.Prelude.{◌≡◌, ◌≤◌, ◌<◌, ◌+◌, ℕ, [], min, Some, IsTrue, IfOk, IfSome};
+ghost use Rattle.std.specs.Prelude.{◌≡◌, ◌≤◌, ◌<◌, ◌+◌, ℕ, [], Some, IsTrue, IfOk, IfSome};
 ghost use Rattle.section_model.specs.Step.{connection_step, event_step, hears, is_over, end_is_gone, destination_of, names, named, is_in_range};
 ghost use Rattle.std.specs.Option.{option_map};
 ghost use Rattle.section_model.specs.Lane.{reference_of};
@@ -13,8 +13,7 @@ ghost use Rattle.connection_law.specs.InStep.{IsInStep};
 ghost use Rattle.connection_law.specs.FlowLaw.{FlowKept};
 ghost use Rattle.connection_law.specs.DataSent.{SendsData};
 ghost use Rattle.connection_law.specs.ExpeditedSent.{SendsExpedited};
-ghost use Rattle.relay_base.specs.declared.words.Event.TheVariants.{Tick};
-ghost use Rattle.section_coupling.specs.Duos.{duo_at, taken_after, end_numbered, end_named, left_of_timer, ticks_left, fewest_left};
+ghost use Rattle.section_coupling.specs.Duos.{duo_at, taken_after, end_numbered, end_named, left_of_timer, ticks_left};
 
 use crate::asking::ask;
 use crate::clock::{Clock, taken_after};
@@ -245,19 +244,6 @@ impl Duo {
             EndName::This => self.pair.this.deadline(timer),
             EndName::That => self.pair.that.deadline(timer),
         }
-    }
-
-    /// The lane's tick, counted from 1, at which the first timer fires; 18,446,744,073,709,551,615 where none runs. The ticks before it
-    /// only bring the timers nearer, since nothing is left after an event that would leave: such a tick gives no output, and the same
-    /// connection.
-    pub fn wakes(&self) -> u64
-        ensures first { result ≡
-            min (fewest_left (duo_at 0 self.now).this) (fewest_left (duo_at 0 self.now).that) }
-        ensures sleeps { (now : ℕ) → now + 1 < result →
-            connection_step self.now.ticks (duo_at now self.now) Tick ≡
-            (duo_at (now + 1) self.now, []) }
-    {
-        self.pair.this.wakes().min(self.pair.that.wakes())
     }
 
     /// Whether both ends are gone.

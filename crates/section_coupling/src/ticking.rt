@@ -1,11 +1,11 @@
 //! A tick on a connection (Q.714, timers).
 ghost use Rattle.std.specs.Prelude.{◌≡◌, ◌≤◌, ◌+◌, ℕ, [], fold, IfOk};
-ghost use Rattle.section_model.specs.Timing.{firing, firing_order, rearmed};
+ghost use Rattle.section_model.specs.Timing.{firing, rearmed};
 ghost use Rattle.section_model.specs.Ends.{wire};
 ghost use Rattle.section_model.specs.Acting.{section_fires};
 ghost use Rattle.section_model.specs.Step.{is_due_at, fires, fires_next, fires_due, ticks_by};
 ghost use Rattle.section_coupling.specs.Views.{section_by, end_at, end_by, connection_at, connection_by, left_at, IsStep, IsAct};
-ghost use Rattle.section_coupling.specs.Duos.{timer_placed, left_of_timer, fewer, fewest_of, fewest_left};
+ghost use Rattle.section_coupling.specs.Duos.{timer_placed, left_of_timer};
 ghost use Rattle.section_coupling.specs.Sound.{SoundWire, SoundSide, SoundPair, SoundActed};
 ghost use Rattle.section_model.specs.Table.{section_cell};
 
@@ -79,16 +79,6 @@ impl Wire {
     }
 }
 
-/// The tick at which a timer fires, where it runs and fires before this one.
-fn sooner(first: u64, deadline: Option<u64>) -> u64
-    ensures { result ≡ fewer first (left_at 0 deadline) }
-{
-    match deadline {
-        Some(tick) => first.min(tick),
-        None => first,
-    }
-}
-
 impl Side {
     /// The number of the tick at which a timer of this end fires; None where it doesn't run.
     pub fn deadline(&self, timer: Timer) -> Option<u64>
@@ -98,25 +88,6 @@ impl Side {
             Side::Wire(wire) => wire.timers.deadline(timer),
             Side::User(_) => None,
         }
-    }
-
-    /// The number of the tick at which the first of these timers of this end fires; 2^64 - 1 where none runs.
-    fn first_deadline(&self, timers: &[Timer]) -> u64
-        ensures { result ≡ fewest_of timers.now (end_at 0 self.now) }
-    {
-        let mut first = u64::MAX;
-        for timer in timers {
-            first = sooner(first, self.deadline(*timer));
-        }
-        first
-    }
-
-    /// The number of the tick at which the first timer of this end fires; 2^64 - 1 where none runs.
-    #[tactic(auto, unfolding(crate::specs::Duos::fewest_left))]
-    pub fn wakes(&self) -> u64
-        ensures { result ≡ fewest_left (end_at 0 self.now) }
-    {
-        self.first_deadline(&FIRING_ORDER)
     }
 
     /// Whether a timer of this end fires at this tick; a user's end has none.
