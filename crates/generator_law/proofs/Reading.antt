@@ -4,7 +4,7 @@ use Rattle.std.specs.Prelude.{◌≢◌}
 use Rattle.std.proofs.lemmas.Bool.{cases_Bool, eqb-true, eqb-false}
 use Rattle.std.proofs.lemmas.Bool.Decides.{nat_tests}
 use Rattle.relay_base.specs.declared.limits.TheConstants.{MOST_GENERATED_LINES}
-use Rattle.capture_form.specs.declared.steps.TheConstants.{MOST_LINES}
+use Rattle.capture_form.specs.declared.steps.TheConstants.{MOST_BARRIERS, MOST_LINES, MOST_TICK_LINES}
 use Rattle.capture_generator.specs.declared.events.TheConstants.{BLOCK}
 use Rattle.relay_base.specs.Giving.{◌>>=◌}
 use Rattle.relay_base.specs.declared.words.Event.{Event}
@@ -57,13 +57,13 @@ event_line ws event r h few =
     rw (h.stated, words-spaced ws h.each, h.no_barrier, not_yet r.events MOST_LINES few, h.no_tick, h.reads) refl
 
 -- a barrier, and a tick
-barrier_line : (r : Reading) → r.phase ≤ 1000 → line_taken generator_head r (codes "w") ≡ Ok (phase_ended generator_head r)
+barrier_line : (r : Reading) → r.phase ≤ MOST_BARRIERS → line_taken generator_head r (codes "w") ≡ Ok (phase_ended generator_head r)
 unfolding line_taken words
-barrier_line r h = rw (not_above r.phase 1000 h) refl
+barrier_line r h = rw (not_above r.phase MOST_BARRIERS h) refl
 
-tick_line : (r : Reading) → r.events < MOST_LINES → r.ticks < 20000 → line_taken generator_head r (codes "t") ≡ Ok (event_added (record r { ticks = r.ticks + 1 }) (0, Plain Tick))
+tick_line : (r : Reading) → r.events < MOST_LINES → r.ticks < MOST_TICK_LINES → line_taken generator_head r (codes "t") ≡ Ok (event_added (record r { ticks = r.ticks + 1 }) (0, Plain Tick))
 unfolding line_taken words
-tick_line r few h = rw (not_yet r.events MOST_LINES few, not_yet r.ticks 20000 h) refl
+tick_line r few h = rw (not_yet r.events MOST_LINES few, not_yet r.ticks MOST_TICK_LINES h) refl
 
 -- ---- what was read
 
