@@ -266,7 +266,7 @@ makes_opened o keeps ticks d new refs within stands before first are same freeze
     record { this = new_of_lane o.slots.lane keeps g free_this; that = new_of_lane o.slots.lane keeps h free_that; ends = ends_of g h apart; freezes = freezes } in
     let seen : live_at o.taken new.one ≡ record { ticks = ticks; connection = c } = ap (live_at o.taken) one ∙ ap (λ t. record { ticks = t; connection = c }) same in
     record {
-      fits = record { rest = rest; free = free; this = new_below o.slots.lane keeps g free_this; that = new_below o.slots.lane keeps h free_that };
+      fits = record { rest = rest; free = free; on_this = new_below o.slots.lane keeps g free_this; on_that = new_below o.slots.lane keeps h free_that };
       taken = refl;
       lane = lane;
       freeze = freeze;

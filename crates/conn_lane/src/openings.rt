@@ -17,7 +17,7 @@ ghost use Rattle.timer_wheel.specs.Timers.{due_now};
 ghost use Rattle.section_coupling.specs.declared.duo.TheConstants.{TIMERS};
 ghost use Rattle.conn_lane.specs.Inner.Wheels.{is_in, is_due};
 ghost use Rattle.conn_lane.specs.Inner.Waking.{timers_of, AreLeft, SetsTimers, IsTimed, WakesAll, AllWoken, WakesDue};
-ghost use Rattle.conn_lane.specs.Inner.Changes.{giving_up, taking, put, put_all, ticked, changed, listed, CanGiveUp, CanBePut, CanAllBePut, Fits, Makes, Opens};
+ghost use Rattle.conn_lane.specs.Inner.Changes.{giving_up, taking, put, put_all, ticked, changed, listed, CanGiveUp, CanBePut, CanAllBePut, CanTake, Fits, Makes, Opens};
 ghost use Rattle.conn_lane.specs.Inner.Lowest.{lowest_of};
 
 use crate::change::{Change, NewConnection, Next};
@@ -126,18 +126,20 @@ fn make_room(kept: &mut Connections, wheel: &mut Wheel, change: &Change) -> Resu
     kept.reserve()
 }
 
-/// Keeps a connection that was just opened, and starts its timers.
-fn keep(kept: &mut Connections, wheel: &mut Wheel, taken: u64, one: Kept)
+/// Keeps a connection that was just opened, and starts its timers. Its number is given.
+fn keep(kept: &mut Connections, wheel: &mut Wheel, taken: u64, one: Kept) -> usize
     requires room { 1 ≤ kept.old.room }
     requires count { length kept.old.kept ≤ 4_294_967_295 }
     requires timers { length wheel.old.armed + TIMERS ≤ wheel.old.room }
     requires timed { IsTimed taken kept.old.kept wheel.old.armed }
     ensures kept { kept.new.kept ≡ kept.old.kept ++ Some one ∷ [] }
     ensures timed { IsTimed taken kept.new.kept wheel.new.armed }
+    ensures number { result ≡ length kept.old.kept }
 {
     let number = kept.opened();
     follow(wheel, number, None, Some(&one), taken);
     kept.open(one);
+    number
 }
 
 impl Openings {
@@ -289,10 +291,8 @@ impl Openings {
             Change::Nothing => {}
             Change::Heard(next) => self.put_heard(wheel, next),
             Change::Opened(NewConnection { one, this, that }) => {
-                let number = self.kept.opened();
-                keep(&mut self.kept, wheel, self.taken, one);
-                self.take(this, number);
-                self.take(that, number);
+                let number = keep(&mut self.kept, wheel, self.taken, one);
+                self.take_both(number, this, that);
             }
             Change::Ticked(nexts) => self.advance(wheel, nexts),
         }
@@ -366,6 +366,15 @@ impl Openings {
         for next in nexts {
             self.put(wheel, next);
         }
+    }
+
+    /// The ends of the connection of this number take the lowest free references, each if it takes one.
+    fn take_both(&mut self, number: usize, this: Option<Ref24>, that: Option<Ref24>)
+        requires { CanTake this that self.old }
+        ensures { self.new ≡ taking that number (taking this number self.old) }
+    {
+        self.take(this, number);
+        self.take(that, number);
     }
 
     /// An end of the connection of this number takes the lowest free reference, if it takes one.

@@ -92,18 +92,18 @@ abbrev pub listed : Option ℕ → List ℕ
 listed None = []
 listed (Some mine) = mine ∷ []
 
--- the new connection takes the lowest free references
-pub record CanOpen (new : NewConnection) (o : OpeningsState) : Type 0 where
+-- the ends of a new connection take the lowest free references
+pub record CanTake (this that : Option ℕ) (o : OpeningsState) : Type 0 where
   pub rest : List ℕ
-  pub free : free_references o.slots ≡ listed new.this ++ (listed new.that ++ rest)
-  pub this : IfSome new.this (λ m. slot_of m < SLOTS + 1)
-  pub that : IfSome new.that (λ m. slot_of m < SLOTS + 1)
+  pub free : free_references o.slots ≡ listed this ++ (listed that ++ rest)
+  pub on_this : IfSome this (λ m. slot_of m < SLOTS + 1)
+  pub on_that : IfSome that (λ m. slot_of m < SLOTS + 1)
 
 -- a change that can be made
 abbrev pub Fits : Change → OpeningsState → Type 0
 Fits Nothing o = Unit {0}
 Fits (Heard next) o = CanBePut next o
-Fits (Opened new) o = CanOpen new o
+Fits (Opened new) o = CanTake new.this new.that o
 Fits (Ticked nexts) o = CanAllBePut nexts.items (ticked o)
 
 -- a change that can be made, and what is kept then
