@@ -6,7 +6,7 @@ use Rattle.section_model.specs.declared.hand.Acted.{Acted}
 use Rattle.section_model.specs.Ends.{End, Connection}
 use Rattle.section_model.specs.Coupling.{exchange, other_takes, with_more}
 
-one-turn : (n : ℕ) (ticks : Ticks) (acting : End × Acted) (that : End) →
+pub one-turn : (n : ℕ) (ticks : Ticks) (acting : End × Acted) (that : End) →
     exchange (suc n) ticks acting that ≡ fold (other_takes (exchange n ticks) ticks) (with_more acting.1.outs (fold (other_takes (exchange n ticks) ticks) (record { this = acting.0; that = that }, []) acting.1.first)) acting.1.then
 unfolding exchange
 one-turn n ticks acting that = refl

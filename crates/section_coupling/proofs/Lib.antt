@@ -4,6 +4,7 @@ pub mod SoundUsers
 pub mod ByTable
 pub mod Arriving
 pub mod HandsCome
+pub mod Idle
 pub mod Exchanging
 pub mod LaterTimers
 pub mod Fitting

@@ -1,3 +1,4 @@
 pub mod Acts
+pub mod Idle
 pub mod Comings
 pub mod Sizes

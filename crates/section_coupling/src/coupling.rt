@@ -1,7 +1,8 @@
 //! What the ends of a connection hand to each other.
-ghost use Rattle.std.specs.Prelude.{IfOk, fold};
+ghost use Rattle.std.specs.Prelude.{◌≡◌, IfOk, fold};
 ghost use Rattle.section_model.specs.Coupling.{exchange, other_takes, settles};
 ghost use Rattle.section_coupling.specs.Views.{connection_by, end_by, IsStep};
+ghost use Rattle.section_coupling.specs.Inner.Idle.{hands_nothing};
 ghost use Rattle.section_coupling.specs.Sound.{SoundActed, SoundPair, SoundSide, SoundHands, AreOfWhatCame};
 ghost use Rattle.section_model.specs.Laws.{hands_of};
 
@@ -11,6 +12,13 @@ use crate::side::Side;
 use relay_base::{Memory, Outs};
 use section_grid::{Acted, HandList};
 use std::alloc::Global;
+
+/// Whether an act hands nothing over.
+fn hands_nothing(acted: &Acted) -> bool
+    ensures { result ≡ hands_nothing acted.now }
+{
+    acted.first.is_empty() && acted.then.is_empty()
+}
 
 /// The other end takes effects, one after another, and what it hands back goes on in turn. The outputs stand behind those that are
 /// there.
@@ -45,7 +53,7 @@ fn offer(
 /// This end has acted: the other end takes what is handed over first, then the outputs stand, then it takes the rest; and it may
 /// hand back in the same way, so many times.
 #[cycle(exchange)]
-#[tactic(auto, using(crate::proofs::Exchanging::exchanged), unfolding(section_model::specs::Coupling::exchange))]
+#[tactic(auto, using(crate::proofs::Exchanging::exchanged, crate::proofs::Idle::none_handed), unfolding(section_model::specs::Coupling::exchange))]
 fn exchange(
     alloc: Global,
     clock: &Clock,
@@ -63,11 +71,11 @@ fn exchange(
         (exchange turns clock.now.ticks (end_by clock.now this, acted) (end_by clock.now that))) }
     ensures sound { IfOk result (λ r. SoundPair r.0) }
 {
+    if turns == 0 || hands_nothing(&acted) {
+        return Ok((Pair { this, that }, acted.outs));
+    }
     let Acted { first, outs, then } = acted;
     let pair = Pair { this, that };
-    if turns == 0 {
-        return Ok((pair, outs));
-    }
     let none = Outs::new(alloc);
     let (pair, mut all) = offer(alloc, clock, turns - 1, pair, none, &first)?;
     all.append(outs)?;

@@ -1,13 +1,14 @@
 //! What follows each event in class 3 (Q.714, 3.5.2 and 3.6): what waits leaves, and what left is
 //! acknowledged.
-ghost use Rattle.std.specs.Prelude.{◌≡◌, ◌≤◌, ◌==◌, ◌&&◌, IfOk};
+ghost use Rattle.std.specs.Prelude.{◌≡◌, ◌≤◌, ◌==◌, ◌&&◌, ℕ, IfOk};
 ghost use Rattle.section_model.specs.Ends.{is_up, wire as end};
 ghost use Rattle.section_class3.specs.Windows.{windows_turn};
 ghost use Rattle.section_model.specs.Views.{section_of};
 ghost use Rattle.section_model.specs.Coupling.{and_then};
 ghost use Rattle.section_model.specs.Step.{on_windows, on_each, after_event};
 ghost use Rattle.connection_law.specs.InStep.{AreInStep, IsInStep};
-ghost use Rattle.section_coupling.specs.Views.{section_by, end_by, connection_by, IsStep};
+ghost use Rattle.section_coupling.specs.Views.{section_by, end_at, end_by, connection_by, IsStep};
+ghost use Rattle.section_coupling.specs.Inner.Idle.{is_in_class_3};
 ghost use Rattle.section_coupling.specs.Sound.{SoundWire, SoundSide, SoundPair};
 
 use crate::clock::Clock;
@@ -109,8 +110,18 @@ fn on_each(
     Ok((pair.turned(), outs))
 }
 
+/// Whether this end is a section of class 3 that is up.
+fn is_in_class_3(side: &Side) -> bool
+    ensures { (now : ℕ) → result ≡ is_in_class_3 (end_at now side.now) }
+{
+    match side {
+        Side::Wire(wire) => has_windows(&wire.head),
+        Side::User(_) => false,
+    }
+}
+
 /// What follows an event that gave these outputs: on each end what waits leaves, and then on each what left is acknowledged.
-#[tactic(auto, unfolding(section_model::specs::Step::after_event))]
+#[tactic(auto, unfolding(section_model::specs::Step::after_event), using(crate::proofs::Idle::none_follows))]
 pub fn follow(alloc: Global, clock: &Clock, pair: Pair, outs: Outs) -> Result<(Pair, Outs), Memory>
     requires pair { SoundPair pair }
     requires steps { IsInStep (connection_by clock.now pair) }
@@ -118,6 +129,9 @@ pub fn follow(alloc: Global, clock: &Clock, pair: Pair, outs: Outs) -> Result<(P
         (after_event clock.now.ticks (connection_by clock.now pair, outs))) }
     ensures sound { IfOk result (λ r. SoundPair r.0) }
 {
+    if !is_in_class_3(&pair.this) && !is_in_class_3(&pair.that) {
+        return Ok((pair, outs));
+    }
     let (pair, outs) = on_each(alloc, clock, Cell::Leave, pair, outs)?;
     on_each(alloc, clock, Cell::Acknowledge, pair, outs)
 }

@@ -8,6 +8,7 @@ ghost use Rattle.section_coupling.specs.Views.{section_by, end_at, end_by, conne
 ghost use Rattle.section_coupling.specs.Duos.{timer_placed, left_of_timer};
 ghost use Rattle.section_coupling.specs.Sound.{SoundWire, SoundSide, SoundPair, SoundActed};
 ghost use Rattle.section_model.specs.Table.{section_cell};
+ghost use Rattle.section_coupling.specs.Inner.Idle.{has_due};
 
 use crate::clock::Clock;
 use crate::coupling::settle;
@@ -90,6 +91,13 @@ impl Side {
         }
     }
 
+    /// Whether one of these timers of this end fires at this tick.
+    fn has_due(&self, now: Taken, timers: &[Timer]) -> bool
+        ensures { result ≡ has_due timers.now (end_at now self.now) }
+    {
+        timers.iter().any(|timer| self.is_due(now, *timer))
+    }
+
     /// Whether a timer of this end fires at this tick; a user's end has none.
     fn is_due(&self, now: Taken, timer: Timer) -> bool
         ensures { result ≡ is_due_at timer (end_at now self.now) }
@@ -127,6 +135,7 @@ fn fire_if_due(
 }
 
 /// Of these timers of this end those that are due fire, one after another.
+#[tactic(auto, using(crate::proofs::Idle::none_fires))]
 fn fire_each(
     alloc: Global,
     clock: &Clock,
@@ -138,8 +147,11 @@ fn fire_each(
         (fold (fires_next clock.now.ticks) (connection_by clock.now pair, []) timers.now)) }
     ensures sound { IfOk result (λ r. SoundPair r.0) }
 {
-    let mut pair = pair;
     let mut outs = Outs::new(alloc);
+    if !pair.this.has_due(clock.taken, timers) {
+        return Ok((pair, outs));
+    }
+    let mut pair = pair;
     for timer in timers {
         let (next, more) = fire_if_due(alloc, clock, *timer, pair)?;
         outs.append(more)?;
