@@ -9,9 +9,10 @@ ghost use Rattle.section_coupling.specs.Inner.Comings.{IsRequest, IsInRange};
 ghost use Rattle.section_coupling.specs.Views.{user_at, section_at, section_by, end_by, connection_by, IsStep};
 ghost use Rattle.section_coupling.specs.Sound.{SoundWire, SoundOwner, SoundSide, SoundPair, SoundActed};
 
+use crate::boxed::Boxed;
 use crate::clock::Clock;
 use crate::coming::Wanting;
-use crate::coupling::settle;
+use crate::coupling::settle_user;
 use crate::owner::Owner;
 use crate::pair::Pair;
 use crate::side::Side;
@@ -158,7 +159,7 @@ fn ask_owner(
     request: &Request,
     event: &Event,
     user: Owner,
-    wire: Wire,
+    wire: Boxed<Wire>,
 ) -> Result<(Pair, Outs), Memory>
     requires user { SoundOwner user }
     requires section { SoundWire wire }
@@ -169,15 +170,15 @@ fn ask_owner(
     ensures sound { IfOk result (λ r. SoundPair r.0) }
 {
     let ssn = user.ssn();
-    let against = reason_against(request, &user, &wire);
+    let against = reason_against(request, &user, wire.get());
     let that = Side::Wire(wire);
     if let Some(reason) = against {
         let outs = said_no(alloc, ssn, reason)?;
-        let this = Side::User(user);
+        let this = Side::of_user(alloc, user)?;
         return Ok((Pair { this, that }, outs));
     }
     let (user, acted) = user_asks(alloc, user, request, event)?;
-    settle(alloc, clock, Side::User(user), acted, that)
+    settle_user(alloc, clock, user, acted, that)
 }
 
 /// A request of a subsystem that isn't the user of the connection.
@@ -210,7 +211,8 @@ fn ask_this(
     let Pair { this, that } = pair;
     match this {
         Side::User(user) => match that {
-            Side::Wire(wire) if user.side.ssn == ssn => {
+            Side::Wire(wire) if user.get().side.ssn == ssn => {
+                let user = user.into_inner();
                 ask_owner(alloc, clock, wanting.request, wanting.event, user, wire)
             }
             that => not_owner(alloc, ssn, Side::User(user), that),

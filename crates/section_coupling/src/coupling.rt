@@ -1,14 +1,17 @@
 //! What the ends of a connection hand to each other.
 ghost use Rattle.std.specs.Prelude.{◌≡◌, IfOk, fold};
 ghost use Rattle.section_model.specs.Coupling.{exchange, other_takes, settles};
-ghost use Rattle.section_coupling.specs.Views.{connection_by, end_by, IsStep};
+ghost use Rattle.section_model.specs.Ends.{wire as end, owner};
+ghost use Rattle.section_coupling.specs.Views.{connection_by, end_by, section_by, user_at, IsStep};
 ghost use Rattle.section_coupling.specs.Inner.Idle.{hands_nothing};
-ghost use Rattle.section_coupling.specs.Sound.{SoundActed, SoundPair, SoundSide, SoundHands, AreOfWhatCame};
+ghost use Rattle.section_coupling.specs.Sound.{SoundActed, SoundOwner, SoundPair, SoundSide, SoundWire, SoundHands, AreOfWhatCame};
 ghost use Rattle.section_model.specs.Laws.{hands_of};
 
 use crate::clock::Clock;
+use crate::owner::Owner;
 use crate::pair::Pair;
 use crate::side::Side;
+use crate::wire::Wire;
 use relay_base::{Memory, Outs};
 use section_grid::{Acted, HandList};
 use std::alloc::Global;
@@ -84,7 +87,7 @@ fn exchange(
 }
 
 /// This end has acted: the ends hand to each other until nothing is left. On what is handed back nothing more is.
-pub fn settle(
+fn settle(
     alloc: Global,
     clock: &Clock,
     this: Side,
@@ -101,4 +104,45 @@ pub fn settle(
     ensures sound { IfOk result (λ r. SoundPair r.0) }
 {
     exchange(alloc, clock, 2, this, acted, that)
+}
+
+/// A section has acted.
+pub fn settle_wire(
+    alloc: Global,
+    clock: &Clock,
+    wire: Wire,
+    acted: Acted,
+    that: Side,
+) -> Result<(Pair, Outs), Memory>
+    requires this { SoundWire wire }
+    requires acted { SoundActed acted }
+    requires that { SoundSide that }
+    requires left { AreOfWhatCame (end (section_by clock.now wire)) (hands_of acted)
+        (end_by clock.now that) }
+    ensures settled { let this = end (section_by clock.now wire) in IfOk result (IsStep clock.now
+        (settles clock.now.ticks (this, acted) (end_by clock.now that))) }
+    ensures sound { IfOk result (λ r. SoundPair r.0) }
+{
+    let this = Side::of_wire(alloc, wire)?;
+    settle(alloc, clock, this, acted, that)
+}
+
+/// A user's end has acted.
+pub fn settle_user(
+    alloc: Global,
+    clock: &Clock,
+    user: Owner,
+    acted: Acted,
+    that: Side,
+) -> Result<(Pair, Outs), Memory>
+    requires this { SoundOwner user }
+    requires acted { SoundActed acted }
+    requires that { SoundSide that }
+    requires left { AreOfWhatCame (owner (user_at user)) (hands_of acted) (end_by clock.now that) }
+    ensures settled { let this = owner (user_at user) in IfOk result (IsStep clock.now
+        (settles clock.now.ticks (this, acted) (end_by clock.now that))) }
+    ensures sound { IfOk result (λ r. SoundPair r.0) }
+{
+    let this = Side::of_user(alloc, user)?;
+    settle(alloc, clock, this, acted, that)
 }

@@ -153,7 +153,7 @@ impl Duo {
         Ok(Duo {
             alloc: self.alloc,
             ticks: self.ticks,
-            pair: self.pair.copy()?,
+            pair: self.pair.copy(self.alloc)?,
         })
     }
 

@@ -12,7 +12,7 @@ ghost use Rattle.section_coupling.specs.Inner.Idle.{is_in_class_3};
 ghost use Rattle.section_coupling.specs.Sound.{SoundWire, SoundSide, SoundPair};
 
 use crate::clock::Clock;
-use crate::coupling::settle;
+use crate::coupling::settle_wire;
 use crate::pair::Pair;
 use crate::side::Side;
 use crate::wire::Wire;
@@ -44,11 +44,11 @@ fn on_section(
     ensures sound { IfOk result (λ r. SoundPair r.0) }
 {
     if !has_windows(&wire.head) {
-        let this = Side::Wire(wire);
+        let this = Side::of_wire(alloc, wire)?;
         return Ok((Pair { this, that }, Outs::new(alloc)));
     }
     let (wire, acted) = wire.take_turn(alloc, clock, cell)?;
-    settle(alloc, clock, Side::Wire(wire), acted, that)
+    settle_wire(alloc, clock, wire, acted, that)
 }
 
 /// A part of it on this end.
@@ -63,7 +63,7 @@ fn on_this(alloc: Global, clock: &Clock, cell: Cell, pair: Pair) -> Result<(Pair
 {
     let Pair { this, that } = pair;
     match this {
-        Side::Wire(wire) => on_section(alloc, clock, cell, wire, that),
+        Side::Wire(wire) => on_section(alloc, clock, cell, wire.into_inner(), that),
         Side::User(_) => Ok((Pair { this, that }, Outs::new(alloc))),
     }
 }
@@ -115,7 +115,7 @@ fn is_in_class_3(side: &Side) -> bool
     ensures { (now : ℕ) → result ≡ is_in_class_3 (end_at now side.now) }
 {
     match side {
-        Side::Wire(wire) => has_windows(&wire.head),
+        Side::Wire(wire) => has_windows(&wire.get().head),
         Side::User(_) => false,
     }
 }

@@ -14,7 +14,7 @@ ghost use Rattle.section_coupling.specs.Sound.{SoundWire, SoundSide, SoundPair, 
 
 use crate::clock::Clock;
 use crate::coming::Coming;
-use crate::coupling::settle;
+use crate::coupling::settle_wire;
 use crate::pair::Pair;
 use crate::side::Side;
 use crate::wire::{Wire, is_sent};
@@ -200,11 +200,11 @@ fn hear_on(
     ensures sound { IfOk result (λ r. SoundPair r.0) }
 {
     if is_from_elsewhere(coming.point, &wire.head) {
-        return lost_from_elsewhere(alloc, Side::Wire(wire), that);
+        return lost_from_elsewhere(alloc, Side::of_wire(alloc, wire)?, that);
     }
     wire.windows.keeps_windows();
     let (wire, acted) = wire.in_touch(clock).hear(alloc, clock, coming)?;
-    settle(alloc, clock, Side::Wire(wire), acted, that)
+    settle_wire(alloc, clock, wire, acted, that)
 }
 
 /// A message on this end; one for a user's end has no effect.
@@ -222,7 +222,7 @@ fn hear_at_this(
 {
     let Pair { this, that } = pair;
     match this {
-        Side::Wire(wire) => hear_on(alloc, clock, coming, wire, that),
+        Side::Wire(wire) => hear_on(alloc, clock, coming, wire.into_inner(), that),
         Side::User(_) => Ok((Pair { this, that }, Outs::new(alloc))),
     }
 }

@@ -3,6 +3,7 @@
 #![tactic(auto)]
 
 mod asking;
+mod boxed;
 mod clock;
 mod coming;
 mod coupling;

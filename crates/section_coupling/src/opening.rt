@@ -57,22 +57,24 @@ fn offered(terms: &Terms, wanted: &WantedView<'_>) -> u8
 }
 
 /// A new section, in which nothing is kept or counted.
-fn new_wire(alloc: Global, terms: &Terms, now: Taken, head: WireHead) -> Side
+fn new_wire(alloc: Global, terms: &Terms, now: Taken, head: WireHead) -> Result<Side, Memory>
     requires credit { IsCredit head.credit }
-    ensures value { end_at now result ≡ new_section terms.now.ticks (section_of head) }
-    ensures sound { SoundSide result }
+    ensures value { let section = new_section terms.now.ticks (section_of head) in
+        IfOk result (λ s. end_at now s ≡ section) }
+    ensures sound { IfOk result SoundSide }
 {
     let clock = Clock {
         ticks: terms.ticks,
         taken: now,
     };
     let state = head.state();
-    Side::Wire(Wire {
+    let wire = Wire {
         head,
         line: Line::new(KeptRelease::with_cause(0)),
         windows: Windows::new(alloc, head.credit),
         timers: Timers::none().entered(&clock, state),
-    })
+    };
+    Side::of_wire(alloc, wire)
 }
 
 /// The section that CR came on.
@@ -82,11 +84,11 @@ fn asked_side(
     now: Taken,
     mine: Ref24,
     incoming: &Incoming<'_>,
-) -> Side
+) -> Result<Side, Memory>
     requires credit { IsCredit terms.now.credit }
-    ensures value { end_at now result ≡
-        asked_section terms.now mine (seen_incoming terms.now incoming.now) }
-    ensures sound { SoundSide result }
+    ensures value { IfOk result (λ s. end_at now s ≡
+        asked_section terms.now mine (seen_incoming terms.now incoming.now)) }
+    ensures sound { IfOk result SoundSide }
 {
     let head = WireHead {
         point: incoming.point,
@@ -108,11 +110,11 @@ fn asking_side(
     point: Pc,
     mine: Ref24,
     wanted: &WantedView<'_>,
-) -> Side
+) -> Result<Side, Memory>
     requires credit { IsCredit terms.now.credit }
-    ensures value { (from slr : ℕ) → end_at now result ≡
-        asking_section terms.now point mine (seen_wanted terms.now from slr wanted.now) }
-    ensures sound { SoundSide result }
+    ensures value { IfOk result (λ s. (from slr : ℕ) → end_at now s ≡
+        asking_section terms.now point mine (seen_wanted terms.now from slr wanted.now)) }
+    ensures sound { IfOk result SoundSide }
 {
     let head = WireHead {
         point,
@@ -134,20 +136,21 @@ fn user_side(
     ssn: Ssn,
     mine: Ref24,
     wanted: &WantedView<'_>,
-) -> Side
+) -> Result<Side, Memory>
     requires credit { IsCredit terms.now.credit }
-    ensures value { (now from slr : ℕ) →
-        end_at now result ≡ new_user state ssn mine (seen_wanted terms.now from slr wanted.now) }
-    ensures sound { SoundSide result }
+    ensures value { IfOk result (λ s. (now from slr : ℕ) →
+        end_at now s ≡ new_user state ssn mine (seen_wanted terms.now from slr wanted.now)) }
+    ensures sound { IfOk result SoundSide }
 {
-    Side::User(Owner::new(UserSide {
+    let user = Owner::new(UserSide {
         ssn,
         mine,
         state,
         class: wanted.class,
         credit: offered(terms, wanted),
         text: Octets::new(alloc),
-    }))
+    });
+    Side::of_user(alloc, user)
 }
 
 /// The octets of a calling address.
@@ -320,8 +323,8 @@ fn open_locally(
 {
     let wanted = &incoming.wanted;
     let outs = offer_told(alloc, terms, ssn, mine, wanted)?;
-    let this = asked_side(alloc, terms, now, mine, incoming);
-    let that = user_side(alloc, terms, UserState::Offered, ssn, mine, wanted);
+    let this = asked_side(alloc, terms, now, mine, incoming)?;
+    let that = user_side(alloc, terms, UserState::Offered, ssn, mine, wanted)?;
     Ok(Opening {
         pair: Some(Pair { this, that }),
         outs,
@@ -348,8 +351,8 @@ fn open_onward(
 {
     let wanted = &incoming.wanted;
     let outs = single(alloc, sent_onward(alloc, terms, wanted, to, next)?)?;
-    let this = asked_side(alloc, terms, now, mine, incoming);
-    let that = asking_side(alloc, terms, now, to.point, next, wanted);
+    let this = asked_side(alloc, terms, now, mine, incoming)?;
+    let that = asking_side(alloc, terms, now, to.point, next, wanted)?;
     Ok(Opening {
         pair: Some(Pair { this, that }),
         outs,
@@ -497,8 +500,8 @@ fn open_out(
         hop: wanted.hop,
     };
     let outs = named_and_sent(alloc, terms, outgoing, &to, mine)?;
-    let this = user_side(alloc, terms, UserState::Calling, outgoing.ssn, mine, wanted);
-    let that = asking_side(alloc, terms, now, point, mine, wanted);
+    let this = user_side(alloc, terms, UserState::Calling, outgoing.ssn, mine, wanted)?;
+    let that = asking_side(alloc, terms, now, point, mine, wanted)?;
     Ok(Opening {
         pair: Some(Pair { this, that }),
         outs,

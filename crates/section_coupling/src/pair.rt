@@ -9,6 +9,7 @@ ghost use Rattle.section_coupling.specs.Sound.{SoundPair};
 
 use crate::side::Side;
 use relay_base::{Memory, Ref24};
+use std::alloc::Global;
 
 /// One of the two ends of a connection.
 #[derive(Clone, Copy)]
@@ -53,12 +54,12 @@ impl Pair {
     }
 
     /// An equal connection.
-    pub fn copy(&self) -> Result<Pair, Memory>
+    pub fn copy(&self, alloc: Global) -> Result<Pair, Memory>
         ensures { IfOk result (λ copy. copy ≡ self.now) }
     {
         Ok(Pair {
-            this: self.this.copy()?,
-            that: self.that.copy()?,
+            this: self.this.copy(alloc)?,
+            that: self.that.copy(alloc)?,
         })
     }
 

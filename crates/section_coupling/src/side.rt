@@ -9,7 +9,9 @@ ghost use Rattle.section_model.specs.Step.{end_is_gone, is_named};
 ghost use Rattle.section_coupling.specs.Views.{end_at, end_by, section_by, user_at, IsEndAct};
 ghost use Rattle.section_coupling.specs.Sound.{SoundSide, SoundWire, SoundOwner, IsGranted, SoundActed, HasComeAt};
 ghost use Rattle.section_model.specs.Lengths.{HandWithin};
+ghost use Rattle.section_coupling.specs.declared.side.Side.TheVariants as side;
 
+use crate::boxed::Boxed;
 use crate::clock::Clock;
 use crate::owner::Owner;
 use crate::wire::Wire;
@@ -23,8 +25,8 @@ use std::alloc::Global;
 /// An end of a connection: a section of the network, or a user of this node.
 #[derive(Drop)]
 pub enum Side {
-    Wire(Wire),
-    User(Owner),
+    Wire(Boxed<Wire>),
+    User(Boxed<Owner>),
 }
 
 /// What an effect of the other end is to a section.
@@ -78,7 +80,7 @@ fn wire_takes(
 {
     let cell = section_takes_by(wire.head.state(), hand);
     let (wire, acted) = wire.act(alloc, clock, cell, &Input::Hand(hand))?;
-    Ok((Side::Wire(wire), acted))
+    Ok((Side::of_wire(alloc, wire)?, acted))
 }
 
 /// A user's end takes an effect of the section.
@@ -94,10 +96,24 @@ fn user_takes(alloc: Global, user: Owner, hand: &Hand) -> Result<(Side, Acted), 
 {
     let cell = user_takes_by(user.side.state, hand);
     let (user, acted) = user.take(alloc, cell, hand)?;
-    Ok((Side::User(user), acted))
+    Ok((Side::of_user(alloc, user)?, acted))
 }
 
 impl Side {
+    /// A section.
+    pub fn of_wire(alloc: Global, wire: Wire) -> Result<Side, Memory>
+        ensures { IfOk result (λ s. s ≡ side.Wire wire) }
+    {
+        Ok(Side::Wire(Boxed::new(alloc, wire)?))
+    }
+
+    /// A user's end.
+    pub fn of_user(alloc: Global, user: Owner) -> Result<Side, Memory>
+        ensures { IfOk result (λ s. s ≡ side.User user) }
+    {
+        Ok(Side::User(Boxed::new(alloc, user)?))
+    }
+
     /// Takes an effect of the other end.
     pub fn take(self, alloc: Global, clock: &Clock, hand: &Hand) -> Result<(Side, Acted), Memory>
         requires end { SoundSide self }
@@ -109,18 +125,18 @@ impl Side {
         ensures sound { IfOk result (λ r. SoundSide r.0 × SoundActed r.1) }
     {
         match self {
-            Side::Wire(wire) => wire_takes(alloc, clock, wire, hand),
-            Side::User(user) => user_takes(alloc, user, hand),
+            Side::Wire(wire) => wire_takes(alloc, clock, wire.into_inner(), hand),
+            Side::User(user) => user_takes(alloc, user.into_inner(), hand),
         }
     }
 
     /// An equal end.
-    pub fn copy(&self) -> Result<Side, Memory>
+    pub fn copy(&self, alloc: Global) -> Result<Side, Memory>
         ensures { IfOk result (λ copy. copy ≡ self.now) }
     {
         match self {
-            Side::Wire(wire) => Ok(Side::Wire(wire.copy()?)),
-            Side::User(user) => Ok(Side::User(user.copy()?)),
+            Side::Wire(wire) => Side::of_wire(alloc, wire.get().copy()?),
+            Side::User(user) => Side::of_user(alloc, user.get().copy()?),
         }
     }
 
@@ -130,7 +146,8 @@ impl Side {
     {
         match self {
             Side::Wire(wire) => {
-                wire.head.mine == reference && wire.head.state() != SectionState::Gone
+                let head = &wire.get().head;
+                head.mine == reference && head.state() != SectionState::Gone
             }
             Side::User(_) => false,
         }
@@ -141,7 +158,7 @@ impl Side {
         ensures { (now : ℕ) → result ≡ reference_of (end_at now self.now) }
     {
         match self {
-            Side::Wire(wire) => Some(wire.head.mine),
+            Side::Wire(wire) => Some(wire.get().head.mine),
             Side::User(_) => None,
         }
     }
@@ -151,8 +168,8 @@ impl Side {
         ensures { (now : ℕ) → result ≡ end_is_gone (end_at now self.now) }
     {
         match self {
-            Side::Wire(wire) => wire.head.state() == SectionState::Gone,
-            Side::User(user) => user.side.state == UserState::Gone,
+            Side::Wire(wire) => wire.get().head.state() == SectionState::Gone,
+            Side::User(user) => user.get().side.state == UserState::Gone,
         }
     }
 }

@@ -11,7 +11,7 @@ ghost use Rattle.section_model.specs.Table.{section_cell};
 ghost use Rattle.section_coupling.specs.Inner.Idle.{has_due};
 
 use crate::clock::Clock;
-use crate::coupling::settle;
+use crate::coupling::settle_wire;
 use crate::pair::Pair;
 use crate::side::Side;
 use crate::taken::Taken;
@@ -86,7 +86,7 @@ impl Side {
         ensures { (now : ℕ) → left_at now result ≡ left_of_timer timer (end_at now self.now) }
     {
         match self {
-            Side::Wire(wire) => wire.timers.deadline(timer),
+            Side::Wire(wire) => wire.get().timers.deadline(timer),
             Side::User(_) => None,
         }
     }
@@ -103,7 +103,7 @@ impl Side {
         ensures { result ≡ is_due_at timer (end_at now self.now) }
     {
         match self {
-            Side::Wire(wire) => wire.timers.is_due(now, timer),
+            Side::Wire(wire) => wire.get().timers.is_due(now, timer),
             Side::User(_) => false,
         }
     }
@@ -127,8 +127,8 @@ fn fire_if_due(
     let Pair { this, that } = pair;
     match this {
         Side::Wire(wire) => {
-            let (wire, acted) = wire.fire(alloc, clock, timer)?;
-            settle(alloc, clock, Side::Wire(wire), acted, that)
+            let (wire, acted) = wire.into_inner().fire(alloc, clock, timer)?;
+            settle_wire(alloc, clock, wire, acted, that)
         }
         Side::User(_) => Ok((Pair { this, that }, Outs::new(alloc))),
     }

@@ -10,5 +10,5 @@ sent_onward-requires c = λ from slr.
 
 pub returns-clause-value : goal.returns-clause-value
 returns-clause-value c =
-    composed c.args.now _ _ _ _ _ _ c.asked_side-this.ensures.value (c.asking_side-that.ensures.value c.args.incoming.now.point c.args.incoming.now.slr)
+    composed c.args.now _ _ _ _ _ _ c.in_ok-this.ensures.value (c.in_ok-that.ensures.value c.args.incoming.now.point c.args.incoming.now.slr)
     (c.in_ok-outs.ensures ∙ ap (λ output. output ∷ []) (c.in_ok-sent_onward.ensures c.args.incoming.now.point c.args.incoming.now.slr))
