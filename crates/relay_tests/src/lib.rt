@@ -6,6 +6,8 @@ mod captures;
 #[cfg(test)]
 mod connections;
 #[cfg(test)]
+mod hostile;
+#[cfg(test)]
 mod paces;
 #[cfg(test)]
 mod rows;
