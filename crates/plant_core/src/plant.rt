@@ -30,6 +30,7 @@ pub struct Plant {
 
 impl Model for Plant {
     ghost use Rattle.std.specs.Prelude.{◌≡◌, ◌&&◌};
+    ghost use Rattle.relay_base.specs.declared.limits.TheConstants.{POINT_CODES, SUBSYSTEM_NUMBERS};
     ghost use Rattle.plant_core.specs.Plant.{PlantState};
 
     ghost Value = { PlantState };
@@ -51,7 +52,7 @@ impl Model for Plant {
     } };
 
     ghost invariant = { λ p.
-        (p.barred_points.size ≡ 16384) × (p.out_of_service.size ≡ 256) };
+        (p.barred_points.size ≡ POINT_CODES) × (p.out_of_service.size ≡ SUBSYSTEM_NUMBERS) };
 }
 
 impl Plant {

@@ -2,20 +2,22 @@
 ghost use Rattle.std.specs.List.{list_any};
 ghost use Rattle.std.specs.Prelude.{◌≡◌, ◌⊎◌, ◌<◌, ◌≤◌, [], All, false, filter, get_or, length, not, replicate, set, vec_len, IsTrue, IsOk, IfOk, OnOk, OnErr};
 ghost use Rattle.std.specs.Vec.{vec_capacity};
+ghost use Rattle.relay_base.specs.declared.limits.TheConstants.{POINT_CODES, SUBSYSTEM_NUMBERS};
 ghost use Rattle.plant_core.specs.Plant.{is_same_subsystem};
 ghost use Rattle.plant_core.specs.Changes.{with_subsystem};
 ghost use Rattle.plant_core.specs.Inner.Members.{IsWhole, subsystem, subsystems_from};
 
 use crate::marks::{Marks, fill};
+use relay_base::limits::{POINT_CODES, SUBSYSTEM_NUMBERS};
 use relay_base::{Memory, Pc, Ssn};
 use std::alloc::Global;
 use std::marker::Model;
 
 /// How many points there are.
-pub const POINTS: usize = 16_384;
+pub const POINTS: usize = POINT_CODES as usize;
 
 /// How many subsystems a point has.
-pub const SUBSYSTEMS: usize = 256;
+pub const SUBSYSTEMS: usize = SUBSYSTEM_NUMBERS as usize;
 
 /// A subsystem of another point.
 #[derive(Clone, Copy, Debug, PartialEq, Eq)]
@@ -37,28 +39,29 @@ pub struct BarredSubsystems {
 impl Model for BarredSubsystems {
     ghost use Rattle.std.specs.Prelude.{◌≡◌, ◌==◌, ◌&&◌, ◌≤◌, ◌⊎◌, [], All, false, length, nat_le, replicate};
     ghost use Rattle.std.specs.Vec.{vec_capacity};
+    ghost use Rattle.relay_base.specs.declared.limits.TheConstants.{POINT_CODES, SUBSYSTEM_NUMBERS};
     ghost use Rattle.plant_core.specs.Inner.Members.{SubsystemsState, IsWhole, subsystems_from};
 
     ghost Value = { SubsystemsState };
 
     ghost view = { λ s. record {
       members = subsystems_from 0 s.rows.items;
-      has_room = length s.spare == 256 && nat_le 16384 (vec_capacity s.rows);
+      has_room = length s.spare == SUBSYSTEM_NUMBERS && nat_le POINT_CODES (vec_capacity s.rows);
     } };
 
-    ghost invariant = { λ s. (length s.rows.items ≤ 16384) × All IsWhole s.rows.items
-        × ((s.spare ≡ []) ⊎ (s.spare ≡ replicate 256 false)) };
+    ghost invariant = { λ s. (length s.rows.items ≤ POINT_CODES) × All IsWhole s.rows.items
+        × ((s.spare ≡ []) ⊎ (s.spare ≡ replicate SUBSYSTEM_NUMBERS false)) };
 }
 
 /// Lets rows reach up to a point.
 fn reach(alloc: Global, rows: &mut Vec<Marks>, point: Pc)
-    requires room { 16384 ≤ vec_capacity rows.old }
-    requires few { vec_len rows.old ≤ 16384 }
+    requires room { POINT_CODES ≤ vec_capacity rows.old }
+    requires few { vec_len rows.old ≤ POINT_CODES }
     requires whole { All IsWhole rows.old.items }
     ensures members { subsystems_from 0 rows.new.items ≡ subsystems_from 0 rows.old.items }
     ensures whole { All IsWhole rows.new.items }
     ensures reaches { point < vec_len rows.new }
-    ensures few { vec_len rows.new ≤ 16384 }
+    ensures few { vec_len rows.new ≤ POINT_CODES }
 {
     for _ in rows.len()..point.number() as usize + 1 {
         rows.push_reserved(Marks::none(alloc));
@@ -69,12 +72,12 @@ fn reach(alloc: Global, rows: &mut Vec<Marks>, point: Pc)
 fn open(alloc: Global, rows: &mut Vec<Marks>, spare: &mut Marks, point: Pc)
     requires reaches { point < vec_len rows.old }
     requires whole { All IsWhole rows.old.items }
-    requires spare { spare.old ≡ replicate 256 false }
+    requires spare { spare.old ≡ replicate SUBSYSTEM_NUMBERS false }
     ensures members { subsystems_from 0 rows.new.items ≡ subsystems_from 0 rows.old.items }
     ensures whole { All IsWhole rows.new.items }
-    ensures row { length (get_or rows.new.items point []) ≡ 256 }
+    ensures row { length (get_or rows.new.items point []) ≡ SUBSYSTEM_NUMBERS }
     ensures len { vec_len rows.new ≡ vec_len rows.old }
-    ensures spare { (spare.new ≡ []) ⊎ (spare.new ≡ replicate 256 false) }
+    ensures spare { (spare.new ≡ []) ⊎ (spare.new ≡ replicate SUBSYSTEM_NUMBERS false) }
 {
     fill(alloc, &mut rows[point.number() as usize], spare, SUBSYSTEMS);
 }

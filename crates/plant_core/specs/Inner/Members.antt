@@ -1,5 +1,6 @@
 -- Sets of numbers as marks.
 use Rattle.std.specs.Prelude.{◌≡◌, ◌⊎◌, ℕ, suc, Bool, List, [], ◌∷◌, ◌++◌, length, map, cond}
+use Rattle.relay_base.specs.declared.limits.TheConstants.{SUBSYSTEM_NUMBERS}
 use Rattle.plant_core.specs.declared.statuses.RemoteSubsystem.{RemoteSubsystem}
 
 -- a set of numbers below a size, and whether one can be put in without memory
@@ -28,4 +29,4 @@ subsystems_from point (row ∷ rows) = map (subsystem point) (marked_from 0 row)
 
 -- marks for all subsystems of a point, or none
 abbrev pub IsWhole : List Bool → Type 0
-IsWhole row = (row ≡ []) ⊎ (length row ≡ 256)
+IsWhole row = (row ≡ []) ⊎ (length row ≡ SUBSYSTEM_NUMBERS)

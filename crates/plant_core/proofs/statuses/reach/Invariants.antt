@@ -1,5 +1,6 @@
 use Rattle.std.proofs.Common.{◌≡◌, ◌≤◌, All, vec_len}
 use Rattle.std.specs.Vec.{vec_capacity}
+use Rattle.relay_base.specs.declared.limits.TheConstants.{POINT_CODES}
 use Rattle.plant_core.specs.Inner.Members.{IsWhole, subsystems_from}
 use Rattle.plant_core.proofs.statuses.reach.Given as goal
 
@@ -9,6 +10,6 @@ invariant-loop l = record {
   members : subsystems_from 0 l.rows.items ≡ subsystems_from 0 l.initial.rows.items;
   whole : All IsWhole l.rows.items;
   len : vec_len l.rows ≡ l.counter;
-  few : vec_len l.rows ≤ 16384;
+  few : vec_len l.rows ≤ POINT_CODES;
   capacity : vec_capacity l.rows ≡ vec_capacity l.initial.rows;
 }
