@@ -9,6 +9,7 @@ use prog.Atomic.{either}
 use Rattle.atomic_table.specs.Table.{State, Me, step, Act, keeps, takes, gives, stepped, Valid, carried_after, Allows, Splits, Joins, Final, Seen, opening}
 use Rattle.atomic_table.proofs.Lists.{at_set, set_here, set_else, at_longer}
 use Rattle.lane_gate.proofs.CallerCounts.{here_after, snoc_at, only_one, none_in_nil, in_alone, in_fresh, first_values, first_values_at}
+use Rattle.lane_gate.specs.declared.gate.TheConstants.{MOST_CALLERS}
 use Rattle.lane_gate.specs.declared.table.View.{View}
 use Rattle.lane_gate.specs.declared.table.Opening.{Opening}
 use Rattle.lane_gate.specs.Plan.{Raises, Stays}
@@ -382,7 +383,7 @@ module _ {L P : Type 0} (plan : L → P) (taken : L → ℕ → ℕ) (key : Open
         at' = sym (set_else s.views id other (joined_view v w) differ) ∙ at''
 
   -- the first state: the lane is at home, and all callers belong to the first seat
-  pub opens : key.callers ≤ 9 → ((j : ℕ) → taken key.lane.value j ≡ 0) → Rule (opening (0 ∷ []) (Some key.lane.value ∷ []) (whole_view key))
+  pub opens : key.callers ≤ MOST_CALLERS → ((j : ℕ) → taken key.lane.value j ≡ 0) → Rule (opening (0 ∷ []) (Some key.lane.value ∷ []) (whole_view key))
   opens few fresh = record {
     account = λ _. 0;
     one_word = refl;

@@ -10,6 +10,9 @@ use std::sync::atomic::AtomicUsize;
 mod ends;
 mod turns;
 
+/// The most callers of a gate: the links of a node, and the control feeder.
+pub const MOST_CALLERS: u8 = 9;
+
 /// A lane behind a turn.
 #[derive(Drop)]
 pub struct Gate<L: LaneState> {

@@ -6,6 +6,6 @@ mod lane;
 mod pass;
 mod table;
 
-pub use gate::Gate;
+pub use gate::{Gate, MOST_CALLERS};
 pub use lane::LaneState;
 pub use pass::{Pass, PassList, Refused};

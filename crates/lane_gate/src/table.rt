@@ -57,9 +57,11 @@ pub trait Known<L> {
 }
 
 impl<L> Known<L> for Brand {
+    ghost use Rattle.lane_gate.specs.declared.gate.TheConstants.{MOST_CALLERS};
+
     ghost known = { λ _. Unit {0} };
 
-    ghost callers = { 9 };
+    ghost callers = { MOST_CALLERS };
 }
 
 /// The turn is tried.

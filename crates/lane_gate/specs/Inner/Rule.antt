@@ -4,6 +4,7 @@ use mathlib.Core.Option.{some, none}
 use lib.ListN.{get_elem?}
 use Rattle.atomic_table.specs.Table.{State, Me, Step, step}
 use Rattle.lane_gate.specs.Inner.Views.{fresh_counts, new_view, tried_view, resting_view, caller_in, done_in}
+use Rattle.lane_gate.specs.declared.gate.TheConstants.{MOST_CALLERS}
 use Rattle.lane_gate.specs.declared.table.View.{View}
 use Rattle.lane_gate.specs.declared.table.Opening.{Opening}
 
@@ -40,7 +41,7 @@ module _ {L P : Type 0} (plan : L → P) (taken : L → ℕ → ℕ) where
   pub record IsKept (key : Opening L) (s : State (Option L) View) : Type 0 where
     pub account : ℕ → ℕ
     pub one_word : length s.words ≡ 1
-    pub few : key.callers ≤ 9
+    pub few : key.callers ≤ MOST_CALLERS
     pub nothing_past : (j : ℕ) → key.callers ≤ j → account j ≡ 0
     pub counted : (i j d : ℕ) (v : View) → get_elem? s.views i ≡ some v → Contains v.counts (j, d) → (j < key.callers) × (account j ≡ d)
     pub apart : (i k j d e : ℕ) (v w : View) → get_elem? s.views i ≡ some v → get_elem? s.views k ≡ some w → Contains v.counts (j, d) → Contains w.counts (j, e) → i ≡ k
@@ -56,7 +57,7 @@ module _ {L : Type 0} (taken : L → ℕ → ℕ) where
   abbrev pub Enters : (L → Type 0) → ℕ → Step (Option L) → Me (Option L) View → ℕ → Me (Option L) View → Type 0
   Enters known callers st m found m' =
       (found ≡ 0 → (lane : L) × (noted : List ℕ) × (m' ≡ (tried_view m.0 0 (Some noted), (0, Some lane) ∷ m.1)) × known lane × IsNoted m.0 noted lane)
-      × (0 < found → (m' ≡ (tried_view m.0 found None, m.1)) × (callers ≤ 9) × (found ≤ callers) × (found ≢ caller_in m.0 + 1))
+      × (0 < found → (m' ≡ (tried_view m.0 found None, m.1)) × (callers ≤ MOST_CALLERS) × (found ≤ callers) × (found ≢ caller_in m.0 + 1))
 
   -- the seat has taken this lane out, and left nothing in its slot
   pub record HasEntered (old new : Me (Option L) View) (lane : L) : Type 0 where

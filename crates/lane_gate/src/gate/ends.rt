@@ -1,5 +1,6 @@
 //! Making a gate, and closing it.
 ghost use Rattle.std.specs.Prelude.{◌≡◌, ◌≢◌, ℕ, ◌+◌, ◌<◌, ◌≤◌, [], map, vec_capacity, None, IfOk, All};
+ghost use Rattle.lane_gate.specs.declared.gate.TheConstants.{MOST_CALLERS};
 ghost use Rattle.lane_gate.specs.Gates.{origin_of, callers_of, AreAllPasses, AreNumbered};
 ghost use Rattle.lane_gate.specs.Passes.{count_of, done_of};
 ghost use Rattle.lane_gate.specs.Inner.Rule.{whole_view};
@@ -17,7 +18,7 @@ use std::sync::atomic::AtomicUsize;
 impl<L: LaneState> Gate<L> {
     /// A gate round the lane, and a pass for each of 1 to 9 callers. The passes are numbered from 0, as the links of the lane's plan. Only want of memory refuses it, and the lane is then let go.
     pub fn make(alloc: Global, lane: L, callers: u8) -> Result<(Gate<L>, PassList), Memory>
-        requires callers { (0 < callers) × (callers ≤ 9) }
+        requires callers { (0 < callers) × (callers ≤ MOST_CALLERS) }
         requires fresh { (link : ℕ) → L.taken lane link ≡ 0 }
         ensures gate { IfOk result (λ made.
             (origin_of made.0 ≡ lane) × (callers_of made.0 ≡ callers)) }
