@@ -2,6 +2,7 @@
 use Rattle.std.proofs.Common.{◌≡◌, ℕ, ◌-◌, ◌==◌, ◌&&◌, ◌||◌, nat_lt, not, Bool, true, false, cond, List, [], ◌∷◌, map, take, filter, Option, Some, None, refl, ap, ap₂, arith, ⊎_elim}
 use Rattle.std.specs.List.{list_any, range_with_len}
 use Rattle.std.proofs.lemmas.Bool.{cases_Bool, ltb-true, ltb-false, eq-eqb, ne_eqb}
+use Rattle.relay_base.specs.declared.limits.TheConstants.{SLOTS}
 use Rattle.plant_core.specs.declared.terms.Ticks.{Ticks}
 use Rattle.relay_base.specs.References.{slot_of}
 use Rattle.section_model.specs.Lane.{Lane, Opening, gone_for, reference_of, is_at, is_kept_by, holds, is_held, lowest_free, enough}
@@ -41,4 +42,4 @@ unfolding lowest_free
 keeps_free lane openings count =
     ap (λ slots. enough lane count (take count slots))
     (filter_alike (λ slot. not (is_held lane.terms.ticks openings slot)) (λ slot. not (list_any (takes_slot slot) (map (remnant_of lane.terms.ticks) openings)))
-    (λ slot. ap not (held_is_taken lane.terms.ticks slot openings)) (range_with_len 1 4095))
+    (λ slot. ap not (held_is_taken lane.terms.ticks slot openings)) (range_with_len 1 SLOTS))

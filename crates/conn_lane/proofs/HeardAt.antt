@@ -1,5 +1,5 @@
 -- The one opening that may hear an event is the one that has the slot of the reference that the event names.
-use Rattle.std.proofs.Common.{◌≡◌, ℕ, zero, suc, ◌-◌, ◌==◌, ◌<◌, ◌≤◌, nat_lt, not, Bool, true, false, List, [], ◌∷◌, length, cond, map, set, get_or, position, slice_index_or, slice_set, All, Option, Some, None, is_some, if◌then◌else◌, refl, sym, ap, ap₂, ◌∙◌, subst, ⊎_elim, arith, eqb-true}
+use Rattle.std.proofs.Common.{◌+◌, ◌≡◌, ℕ, zero, suc, ◌-◌, ◌==◌, ◌<◌, ◌≤◌, nat_lt, not, Bool, true, false, List, [], ◌∷◌, length, cond, map, set, get_or, position, slice_index_or, slice_set, All, Option, Some, None, is_some, if◌then◌else◌, refl, sym, ap, ap₂, ◌∙◌, subst, ⊎_elim, arith, eqb-true}
 use Rattle.std.specs.List.{list_any, position_or_len}
 use Rattle.std.proofs.lemmas.Bool.{both_ways, not-true, eq-eqb, ltb-false, and_parts, and_from, or_cases, or_parts, or_left, or_right, or_from, false_from_ne_true}
 use Rattle.std.proofs.lemmas.Option.{same_Some}
@@ -7,6 +7,7 @@ use Rattle.std.proofs.lemmas.List.Elements.{All-head, All-tail}
 use Rattle.std.proofs.lemmas.List.Folds.{list_any_none}
 use Rattle.std.proofs.lemmas.List.Quantifiers.{position-Some}
 use Rattle.std.proofs.lemmas.List.Sums.{prefix_len_passes}
+use Rattle.relay_base.specs.declared.limits.TheConstants.{SLOTS}
 use Rattle.relay_base.specs.declared.words.Event.{Event}
 use Rattle.relay_base.specs.declared.words.Event.TheVariants.{Message as Arrived, Asked as Requested, Tick}
 use Rattle.relay_base.specs.declared.words.Output.{Output}
@@ -53,7 +54,7 @@ pub record NamesSlot (event : Event) (k : Remnant) : Type 0 where
   pub reference : ℕ
   pub named : reference_in event ≡ Some reference
   pub taken : has_slot (slot_of reference) k ≡ true
-  pub in_lane : slot_of reference < 4096
+  pub in_lane : slot_of reference < SLOTS + 1
 
 names_end : (c : Connection) (event : Event) → is_tick event ≡ false → hears c event ≡ true → names (reference_in event) c ≡ true
 unfolding hears
@@ -63,14 +64,14 @@ names_end c Tick untimed heard = absurd (cc)
 
 -- an end that a reference names has its slot
 named_sits : (reference : ℕ) (end : End) (seat : Option Seat) → SeatIs end seat → IsInLane seat → is_named reference end ≡ true
-    → (has (slot_of reference) seat ≡ true) × (slot_of reference < 4096)
+    → (has (slot_of reference) seat ≡ true) × (slot_of reference < SLOTS + 1)
 named_sits reference (wire x) None is within names = absurd (cc)
 named_sits reference (wire x) (Some s) is within names =
     let parts = and_parts (x.head.mine == reference) (not (is_gone x.head.state)) names in
     let same : s.mine ≡ reference = same_Some s.mine x.head.mine is.0 ∙ eqb-true x.head.mine reference parts.0 in
     let held : is_some s.left ≡ false = is.1 ∙ not-true (is_gone x.head.state) parts.1 in (
       and_from (slot_of s.mine == slot_of reference) (not (is_some s.left)) (eq-eqb (slot_of s.mine) (slot_of reference) (ap slot_of same)) (ap not held),
-      subst (λ mine. slot_of mine < 4096) same within,
+      subst (λ mine. slot_of mine < SLOTS + 1) same within,
     )
 named_sits reference (owner u) seat is within names = absurd (cc)
 
@@ -166,7 +167,7 @@ others_more event k keeps untimed seated none later =
 
 -- each slot that the event names is free
 abbrev IsFreeAt : Event → List Remnant → Type 0
-IsFreeAt event keeps = (r : ℕ) → reference_in event ≡ Some r → slot_of r < 4096 → list_any (has_slot (slot_of r)) keeps ≡ false
+IsFreeAt event keeps = (r : ℕ) → reference_in event ≡ Some r → slot_of r < SLOTS + 1 → list_any (has_slot (slot_of r)) keeps ≡ false
 
 free_first : (event : Event) (k : Remnant) (keeps : List Remnant) → IsFreeAt event (k ∷ keeps) → NamesSlot event k → ⊥
 free_first event k keeps free names =
@@ -195,7 +196,7 @@ none_passes p xs none =
 
 -- a reference whose slot nobody has
 pub nobody : (event : Event) (keeps : List Remnant) → is_tick event ≡ false → All IsSeated keeps
-    → ((r : ℕ) → reference_in event ≡ Some r → slot_of r < 4096 → position (has_slot (slot_of r)) keeps ≡ None)
+    → ((r : ℕ) → reference_in event ≡ Some r → slot_of r < SLOTS + 1 → position (has_slot (slot_of r)) keeps ≡ None)
     → (first_part event keeps ≡ None) × (map (remnant_after event) keeps ≡ keeps)
 nobody event keeps untimed seated nowhere =
     none_hear event keeps untimed seated (λ r named within. none_passes (has_slot (slot_of r)) keeps (nowhere r named within))
@@ -206,7 +207,7 @@ pub nobody_named : (event : Event) (keeps : List Remnant) → is_tick event ≡ 
 nobody_named event keeps untimed seated unnamed = nobody event keeps untimed seated (λ r named within. absurd (cc))
 
 -- a reference of no slot of the lane
-pub nobody_past : (event : Event) (keeps : List Remnant) (r : ℕ) → is_tick event ≡ false → All IsSeated keeps → reference_in event ≡ Some r → 4096 ≤ slot_of r
+pub nobody_past : (event : Event) (keeps : List Remnant) (r : ℕ) → is_tick event ≡ false → All IsSeated keeps → reference_in event ≡ Some r → SLOTS + 1 ≤ slot_of r
     → (first_part event keeps ≡ None) × (map (remnant_after event) keeps ≡ keeps)
 nobody_past event keeps r untimed seated is past =
     nobody event keeps untimed seated (λ q named within. absurd (omega (arith, past, within, ap slot_of (same_Some r q (sym is ∙ named)))))

@@ -4,6 +4,7 @@ use Rattle.std.specs.List.{list_any, range_with_len}
 use Rattle.std.proofs.lemmas.Bool.{not-true, and_parts, or_cases}
 use Rattle.std.proofs.lemmas.Nat.{div-mul-add}
 use Rattle.std.proofs.lemmas.List.Elements.{All-nil, All-cons, All-push, All-map, All-take, All-weaker, All-filter, filter_passes}
+use Rattle.relay_base.specs.declared.limits.TheConstants.{SLOTS}
 use Rattle.relay_base.specs.declared.words.Event.{Event}
 use Rattle.plant_core.specs.declared.answer.Answer.{Answer}
 use Rattle.plant_core.specs.declared.terms.Ticks.{Ticks}
@@ -24,7 +25,7 @@ use Rattle.conn_lane.proofs.Apart.{free_after, apart_after, apart_with}
 -- a reference of a slot of the lane that nobody takes
 pub record IsFree (lane : ℕ) (keeps : List Remnant) (mine : ℕ) : Type 0 where
   pub some : 1 ≤ slot_of mine
-  pub in_lane : slot_of mine < 4096
+  pub in_lane : slot_of mine < SLOTS + 1
   pub reference : mine ≡ reference_of_slot lane (slot_of mine)
   pub free : list_any (takes_slot (slot_of mine)) keeps ≡ false
 
@@ -40,21 +41,21 @@ above_start first a (suc n) within =
 
 record IsFreeSlot (keeps : List Remnant) (slot : ℕ) : Type 0 where
   some : 1 ≤ slot
-  below : slot < 4096
+  below : slot < SLOTS + 1
   free : list_any (takes_slot slot) keeps ≡ false
 
 free_slots : (keeps : List Remnant) → All (IsFreeSlot keeps) (free_in keeps)
 free_slots keeps = λ k d within.
     record {
-      some = All-filter (λ slot. not (list_any (takes_slot slot) keeps)) (λ slot. 1 ≤ slot) (range_with_len 1 4095) (above_start 1 1 4095 (omega arith)) k d within;
-      below = All-filter (λ slot. not (list_any (takes_slot slot) keeps)) (λ slot. slot < 4096) (range_with_len 1 4095) (below_end 1 4095 4096 (omega arith)) k d within;
-      free = not-true (list_any (takes_slot (get_or (free_in keeps) k d)) keeps) (filter_passes (λ slot. not (list_any (takes_slot slot) keeps)) (range_with_len 1 4095) k d within);
+      some = All-filter (λ slot. not (list_any (takes_slot slot) keeps)) (λ slot. 1 ≤ slot) (range_with_len 1 SLOTS) (above_start 1 1 SLOTS (omega arith)) k d within;
+      below = All-filter (λ slot. not (list_any (takes_slot slot) keeps)) (λ slot. slot < SLOTS + 1) (range_with_len 1 SLOTS) (below_end 1 SLOTS (SLOTS + 1) (omega arith)) k d within;
+      free = not-true (list_any (takes_slot (get_or (free_in keeps) k d)) keeps) (filter_passes (λ slot. not (list_any (takes_slot slot) keeps)) (range_with_len 1 SLOTS) k d within);
     }
 
 free_reference : (lane : Lane) (keeps : List Remnant) (slot : ℕ) → lane.number < 16 → IsFreeSlot keeps slot → IsFree lane.number keeps (reference_of_slot lane.number slot)
 free_reference lane keeps slot within is =
     let same : slot ≡ slot_of (reference_of_slot lane.number slot) = sym (div-mul-add slot 16 lane.number within) in
-    record { some = subst (λ s. 1 ≤ s) same is.some; in_lane = subst (λ s. s < 4096) same is.below; reference = ap (reference_of_slot lane.number) same; free = subst (λ s. list_any (takes_slot s) keeps ≡ false) same is.free }
+    record { some = subst (λ s. 1 ≤ s) same is.some; in_lane = subst (λ s. s < SLOTS + 1) same is.below; reference = ap (reference_of_slot lane.number) same; free = subst (λ s. list_any (takes_slot s) keeps ≡ false) same is.free }
 
 pub lowest_free : (lane : Lane) (keeps : List Remnant) (count : ℕ) → lane.number < 16 → All (IsFree lane.number keeps) (lowest_in lane keeps count)
 lowest_free lane keeps count within = by_test (length free == count)

@@ -36,6 +36,13 @@ pub struct Effect {
     pub work: Work,
 }
 
+/// No outputs, with room for one, which most events have.
+fn outs_of_one(alloc: Global) -> Result<Outs, Memory>
+    ensures { IfOk result (λ outs. outs ≡ []) }
+{
+    Ok(Outs::from(Vec::with_capacity(alloc, 1)?))
+}
+
 impl Effect {
     fn with(outs: Outs, work: Work) -> Effect
         ensures { result ≡ effect_with outs work }
@@ -50,7 +57,7 @@ impl Effect {
     fn of_lost(alloc: Global, lost: Lost) -> Result<Effect, Memory>
         ensures { IfOk result (λ effect. effect ≡ effect_with (Dropped lost ∷ []) work.Nothing) }
     {
-        let mut outs = Outs::new(alloc);
+        let mut outs = outs_of_one(alloc)?;
         outs.push(Output::Lost(lost))?;
         Ok(Effect::with(outs, Work::Nothing))
     }
@@ -106,7 +113,7 @@ impl Context<'_> {
             Ok(Some(ask)) => ask,
         };
         let asked = asked(self.plant, &ask);
-        let mut outs = Outs::new(self.alloc);
+        let mut outs = outs_of_one(self.alloc)?;
         let own = self.head.terms.own;
         let next = unit_outs(self.alloc, own, opc, sls, view, &asked.answer, &mut outs)?;
         Ok((Some(asked), Effect::with(outs, work_of(next))))
@@ -132,10 +139,10 @@ impl Context<'_> {
         ensures effect { let matter = matter_by_given (given_of ssn request.now)
             in IfOk result (λ x. x.1 ≡ effect_in self.now matter x.0) }
     {
-        let mut outs = Outs::new(self.alloc);
         let Some(ask) = user_ask(request) else {
-            return Ok((None, Effect::with(outs, Work::Nothing)));
+            return Ok((None, Effect::with(Outs::new(self.alloc), Work::Nothing)));
         };
+        let mut outs = outs_of_one(self.alloc)?;
         let asked = asked(self.plant, &ask);
         let is_cut = user_outs(
             self.alloc,

@@ -1,10 +1,10 @@
 //! The text of what a user is told, of what is lost, and of outputs. Each word follows a space.
 ghost use Rattle.std.specs.Prelude.{◌≡◌, ◌++◌, [], ◌∷◌, codes};
-ghost use Rattle.std.specs.Fmt.{decimal};
 ghost use Rattle.journal_text.specs.Inner.Texts.{Puts};
 ghost use Rattle.journal_text.specs.Print.{spaced, up_text, reason_text, unit_text, data_text, tell_text, read_fault_text, lost_text, output_line};
 
 use crate::text::Text;
+use itoa::Integer;
 use relay_base::{BoxedOctets, Lost, Octets, Output, Pc, ReadFault, Reason, Ref24, Sls, Ssn, Tell};
 use std::alloc::AllocError;
 
@@ -104,7 +104,7 @@ fn put_disc(
     ensures { let told = Tell.Disc mine cause body.now in
         Puts result text.old text.new (codes " " ++ tell_text told) }
 {
-    put_pair(text, "disc", mine.number(), u32::from(cause))?;
+    put_pair(text, "disc", mine.number(), cause)?;
     text.optional(body)
 }
 
@@ -123,8 +123,8 @@ fn put_point(text: &mut Text, point: Pc, up: bool) -> Result<(), AllocError>
 }
 
 /// A word and a number.
-pub fn put_number(text: &mut Text, word: &str, number: u32) -> Result<(), AllocError>
-    ensures { let part = spaced (word.now ∷ decimal number ∷ []) in
+pub fn put_number<I: Integer>(text: &mut Text, word: &str, number: I) -> Result<(), AllocError>
+    ensures { let part = spaced (word.now ∷ I.text number ∷ []) in
         Puts result text.old text.new (codes " " ++ part) }
 {
     text.word(word)?;
@@ -132,8 +132,13 @@ pub fn put_number(text: &mut Text, word: &str, number: u32) -> Result<(), AllocE
 }
 
 /// A word and two numbers.
-fn put_pair(text: &mut Text, word: &str, first: u32, second: u32) -> Result<(), AllocError>
-    ensures { let part = spaced (word.now ∷ decimal first ∷ decimal second ∷ []) in
+fn put_pair<I: Integer, J: Integer>(
+    text: &mut Text,
+    word: &str,
+    first: I,
+    second: J,
+) -> Result<(), AllocError>
+    ensures { let part = spaced (word.now ∷ I.text first ∷ J.text second ∷ []) in
         Puts result text.old text.new (codes " " ++ part) }
 {
     text.word(word)?;
@@ -175,10 +180,8 @@ fn put_tell(text: &mut Text, tell: &Tell) -> Result<(), AllocError>
             calling,
             body,
         } => put_conn(text, *mine, *class, *credit, called, calling, body),
-        Tell::Named { tag, mine } => put_pair(text, "ref", u32::from(*tag), mine.number()),
-        Tell::NotMade { tag, cause } => {
-            put_pair(text, "not-made", u32::from(*tag), u32::from(*cause))
-        }
+        Tell::Named { tag, mine } => put_pair(text, "ref", *tag, mine.number()),
+        Tell::NotMade { tag, cause } => put_pair(text, "not-made", *tag, *cause),
         Tell::Confirm {
             mine,
             class,
@@ -188,9 +191,7 @@ fn put_tell(text: &mut Text, tell: &Tell) -> Result<(), AllocError>
         } => put_confirm(text, *mine, *class, *credit, called, body),
         Tell::Text { mine, body } => put_data(text, "text", *mine, body),
         Tell::Expedited { mine, body } => put_data(text, "ed", *mine, body),
-        Tell::Renewed { mine, cause } => {
-            put_pair(text, "reset", mine.number(), u32::from(*cause))
-        }
+        Tell::Renewed { mine, cause } => put_pair(text, "reset", mine.number(), *cause),
         Tell::ResetDone { mine } => put_number(text, "reset-done", mine.number()),
         Tell::Disc { mine, cause, body } => put_disc(text, *mine, *cause, body),
         Tell::State { ssn, point, up } => put_state(text, *ssn, *point, *up),
@@ -207,10 +208,10 @@ fn put_read_fault(text: &mut Text, fault: ReadFault) -> Result<(), AllocError>
 {
     match fault {
         ReadFault::Empty => text.word("read 1"),
-        ReadFault::UnknownType(octet) => put_number(text, "read 2", u32::from(octet)),
+        ReadFault::UnknownType(octet) => put_number(text, "read 2", octet),
         ReadFault::Short => text.word("read 3"),
-        ReadFault::PointerOut(place) => put_number(text, "read 4", u32::from(place)),
-        ReadFault::ValueLength(name) => put_number(text, "read 5", u32::from(name)),
+        ReadFault::PointerOut(place) => put_number(text, "read 4", place),
+        ReadFault::ValueLength(name) => put_number(text, "read 5", name),
     }
 }
 
@@ -227,7 +228,7 @@ fn put_lost(text: &mut Text, lost: Lost) -> Result<(), AllocError>
         Lost::Stray => text.word("stray"),
         Lost::Segment => text.word("segment"),
         Lost::Manage => text.word("manage"),
-        Lost::Cause(cause) => put_number(text, "cause", u32::from(cause)),
+        Lost::Cause(cause) => put_number(text, "cause", cause),
         Lost::Same => text.word("same"),
         Lost::Duplicate => text.word("duplicate"),
         Lost::RowsFull => text.word("rows-full"),

@@ -11,6 +11,7 @@ ghost use Rattle.journal_text.specs.Inner.Writing.{Writes, Carries, with_lanes};
 
 use crate::book::Book;
 use crate::entries::Printed;
+use crate::tell::put_number;
 use crate::text::Text;
 use plant_core::EntryList;
 use relay_base::{Failed, Memory, Sink, write_all};
@@ -110,8 +111,7 @@ fn put_lane(text: &mut Text, name: &str, number: usize) -> Result<(), AllocError
         Puts result text.old text.new line }
 {
     text.put("=")?;
-    text.word(name)?;
-    text.number(number)?;
+    put_number(text, name, number)?;
     text.put("\n")
 }
 
