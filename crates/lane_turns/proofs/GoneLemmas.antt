@@ -12,15 +12,14 @@ use Rattle.plant_core.specs.declared.entry.Entry.{Entry}
 use Rattle.plant_core.specs.declared.entry.ControlEntry.{ControlEntry}
 use Rattle.plant_core.specs.declared.entry.ControlEvent.{ControlEvent}
 use Rattle.plant_core.specs.declared.entry.ControlEvent.TheVariants.{Plain, Change as Changing}
-use Rattle.gtt_editions.specs.Published.{Begins}
 use Rattle.gtt_editions.specs.Standing.{Standing, LooksFrom, newest_of}
 use Rattle.capture_form.specs.Events.{Stamped}
 use Rattle.scmg.specs.Lane.{GrowAlike}
 use Rattle.scmg.specs.Lane.{changes_of as changes_by}
 use Rattle.right_book.specs.Own.{pairs_of, control_pairs_of}
 use Rattle.lane_turns.specs.LaneStates.{PhaseLane, Control, Conn, Data}
-use Rattle.lane_turns.specs.Seats.{SeatKind, Seated, SeatState, Takes, GoneOn, HasLooked, IsSeenEntry, conn_seat, conn_seated, data_seat, data_seated}
-use Rattle.lane_turns.specs.Phases.{ControlSeatState, ControlTakes, IsUnchanged, IsOpen}
+use Rattle.lane_turns.specs.Seats.{SeatKind, Seated, Takes, GoneOn, IsSeenEntry, conn_seat, conn_seated, data_seat, data_seated}
+use Rattle.lane_turns.specs.Phases.{ControlSeatState, ControlTakes, IsUnchanged}
 use Rattle.lane_turns.specs.Turns.{TakesEvent, IsAsBefore, ControlGoneOn, HasGoneOn, HasRoom, pairs_in}
 use Rattle.lane_turns.proofs.SeenLemmas.{pairs_push, routed_later, routed_more, rising_more}
 

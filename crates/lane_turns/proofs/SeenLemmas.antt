@@ -1,5 +1,5 @@
 -- What a lane saw of the editions stays seen, and what it routes by its newest look is seen.
-use Rattle.std.proofs.Common.{◌≡◌, ℕ, ◌+◌, ◌-◌, ◌≤◌, List, [], ◌∷◌, ◌++◌, length, take, Option, Some, None, sym, refl, ap, ◌∙◌, subst, arith, length-append, append-nil}
+use Rattle.std.proofs.Common.{◌≡◌, ℕ, ◌-◌, ◌≤◌, List, [], ◌∷◌, ◌++◌, length, take, Option, Some, None, sym, ap, ◌∙◌, subst, arith, length-append, append-nil}
 use Rattle.std.proofs.lemmas.List.{map-append, take-append-le, take_all}
 use Rattle.std.proofs.lemmas.List.Elements.{All-from_recursion}
 use Rattle.std.proofs.lemmas.List.Sorted.{IsNonDecreasingBy-push}
@@ -15,11 +15,10 @@ use Rattle.plant_core.specs.declared.entry.Asked.{Asked}
 use Rattle.plant_core.specs.declared.entry.Entry.{Entry}
 use Rattle.plant_core.specs.declared.entry.ControlEvent.TheVariants.{Plain}
 use Rattle.gtt_editions.specs.Standing.{Standing, LooksFrom, newest_of}
-use Rattle.capture_form.specs.Events.{Stamped}
 use Rattle.right_book.specs.Own.{pairs_of}
 use Rattle.right_book.specs.Editions.{editions_in, named}
 use Rattle.right_book.proofs.ListLemmas.{weaker, all-append, all-push}
-use Rattle.lane_turns.specs.Seats.{IsSeen, IsSeenRouting, IsSeenEntry, Extends}
+use Rattle.lane_turns.specs.Seats.{IsSeen, IsSeenRouting, IsSeenEntry}
 
 -- ---- what was seen stays seen
 

@@ -1,29 +1,23 @@
--- What may go to another thread: the lane in its gate, and so a feeder, which refers to the gates.
+-- A lane with the phase whose events it takes may go to another thread.
 use denote.RattleType.{RattleType}
 use denote.Ref.{NamedLft}
 use denote.Struct.Declared.{shape}
-use denote.Param.Send.{IsSend, IsSync, sendable, view_send, view_sync, recorded_send, recorded_sync, struct_send, struct_sync}
-use Rattle.core.specs.declared.sync.Wait.{Ghosts}
+use denote.Param.Send.{IsSend, IsSync, sendable, view_send, recorded_send, struct_send}
 use Rattle.std.proofs.Crossing.{crosses}
 use Rattle.relay_base.proofs.lists.PlainList.TheSendSync.{the_sync as list_sync}
 use Rattle.relay_base.proofs.words.Stamp.TheSendSync.{the_sync as stamp_sync}
 use Rattle.plant_core.proofs.entry.ControlEvent.TheSendSync.{the_sync as event_sync}
 use Rattle.node_head.proofs.head.Head.TheSendSync.{the_sync as head_sync}
 use Rattle.mark.proofs.Mark.TheSendSync.{the_send as mark_send}
-use Rattle.lane_gate.proofs.gate.Gate.TheSendSync.{the_field_sync as gate_sync}
-use Rattle.lane_gate.proofs.pass.Pass.TheSendSync.{the_send as pass_send}
 use Rattle.data_lane.proofs.lane.DataLane.TheSendSync.{the_send as data_lane_send}
 use Rattle.conn_lane.proofs.Sent.{conn_lane_send}
 use Rattle.scmg.proofs.Sent.{control_lane_send}
-use Rattle.lane_turns.proofs.lane_name.LaneName.TheSendSync.{the_field_sync as name_sync}
 use Rattle.lane_turns.proofs.seat.Seat.TheSendSync.{the_send as seat_send}
 use Rattle.lane_turns.proofs.publisher.PhasePublisher.TheSendSync.{the_field_send as publisher_send}
 use Rattle.lane_turns.specs.contracts.control_seat.ControlSeat as ControlSeat
 use Rattle.lane_turns.specs.contracts.lane_kind.LaneKind as LaneKind
 use Rattle.lane_turns.specs.contracts.phase_lane.PhaseLane as PhaseLane
 use Rattle.lane_turns.specs.contracts.turn.LaneTurn as LaneTurn
-use Rattle.lane_turns.specs.contracts.door.Door as Door
-use Rattle.lane_turns.specs.contracts.hands.Feeder as Feeder
 
 control_send : (a : NamedLft) (T : RattleType) → IsSync T → IsSend (ControlSeat.the_row a T)
 control_send a T y =
@@ -38,13 +32,5 @@ lane_send a T y =
     let inside = PhaseLane.TheInside.the_type a T in
     view_send _ _ _ _ _ (recorded_send _ _ inside.to inside.to_one (struct_send (shape inside) (kind_send a T y, tt)))
 
-turn_send : (a b : NamedLft) (T : RattleType) → IsSync T → IsSend (LaneTurn.the_row a b T)
+pub turn_send : (a b : NamedLft) (T : RattleType) → IsSync T → IsSend (LaneTurn.the_row a b T)
 turn_send a b T y = search (sendable, crosses, head_sync, list_sync, stamp_sync, event_sync, mark_send, lane_send) depth 60 fits 20000
-
-door_sync : (a b : NamedLft) (T : RattleType) (g : Ghosts T.Denot) → IsSync T → IsSync (Door.the_row a b T g)
-door_sync a b T g y =
-    let inside = Door.TheInside.the_type a b T g in
-    view_sync _ _ _ _ _ (recorded_sync _ _ inside.to inside.to_one (struct_sync (shape inside) (name_sync, (search (gate_sync, turn_send) depth 20, (search sendable, tt)))))
-
-pub feeder_send : (a b c : NamedLft) (T : RattleType) (g : Ghosts T.Denot) → IsSync T → IsSend (Feeder.the_row a b c T g)
-feeder_send a b c T g y = search (sendable, crosses, head_sync, stamp_sync, event_sync, pass_send, door_sync) depth 60 fits 20000

@@ -11,15 +11,18 @@ use Rattle.plant_core.specs.declared.entry.ControlEvent.TheVariants.{Plain, Chan
 use Rattle.node_head.specs.declared.head.Head.{Head}
 use Rattle.capture_form.specs.Events.{Stamped, phase_events}
 use Rattle.capture_form.specs.Place.{place_of}
-use Rattle.lane_gate.specs.Plan.{IsNext, Raises, Stays}
+use Rattle.lane_gate.specs.Plan.{Plan, IsNext, Raises, Stays}
 use Rattle.right_book.specs.Placed.{taken}
-use Rattle.lane_turns.specs.declared.lane_name.LaneName.{LaneName}
-use Rattle.lane_turns.specs.declared.lane_name.LaneName.TheVariants as name
+use Rattle.link_threads.specs.declared.lane_name.LaneName.{LaneName}
+use Rattle.link_threads.specs.declared.lane_name.LaneName.TheVariants as name
 use Rattle.lane_turns.specs.LaneStates.{PhaseLane, Control, Conn, Data}
-use Rattle.lane_turns.specs.Plans.{of_link, AreBegun}
-use Rattle.lane_turns.specs.Turns.{CanTake, IsPlain, TakesEvent, IsAsBefore, IsNamed, HasRoom, HasGoneOn, TurnState, IsTurn, is_in, pairs_in, links_of, plan_of, fresh_of, taken_of, total, left_of, opened_turn}
-use Rattle.lane_turns.proofs.PlanLemmas.{begun_more, raises_more, passed, take_one_more}
-use Rattle.lane_turns.proofs.GoneLemmas.{gone_pairs, takes_pairs, before_pairs, gone_more, gone_before, gone_none, room_more, room_before}
+use Rattle.link_threads.specs.Links.{is_in}
+use Rattle.link_threads.specs.Gates.{HasTaken}
+use Rattle.lane_turns.specs.Plans.{of_link, AreBegun, AreWhole}
+use Rattle.lane_turns.specs.Rows.{HasPlace, IsControl, IsPlaced, IsSeated}
+use Rattle.lane_turns.specs.Turns.{CanTake, IsPlain, TakesEvent, IsAsBefore, IsNamed, HasRoom, HasGoneOn, HasServed, Opening, TurnState, IsTurn, pairs_in, links_of, plan_of, fresh_of, taken_of, total, left_of, opened_turn}
+use Rattle.lane_turns.proofs.PlanLemmas.{begun_more, begun_whole, raises_more, passed, take_one_more}
+use Rattle.lane_turns.proofs.GoneLemmas.{gone_other, gone_pairs, takes_pairs, before_pairs, gone_more, gone_before, gone_none, room_more, room_before}
 
 total_same : (n : ℕ) (f g : ℕ → ℕ) → ((j : ℕ) → j < n → g j ≡ f j) → total n g ≡ total n f
 total_same zero f g h = refl
@@ -192,3 +195,43 @@ turn_new head lists n lane is room =
       gone = gone_none (AreBegun (links_of t.opening)) lane (λ link. refl);
       room = room_less (length (phase_events lists)) (left_of t) lane (omega (arith, most, all)) room;
     }
+
+-- ---- the end
+
+-- a lane that has taken all of its plan has served
+pub served_all : (put out : TurnState) → put.lane ≡ put.opening.first → HasTaken plan_of taken_of put out → IsTurn out → HasServed put out.lane
+served_all put out unmoved taken turn =
+    let base : out.opening ≡ put.opening = ap (λ (p : Plan Opening ControlEvent). p.base) taken.same in
+    let whole : HasServed out out.lane =
+    gone_other (AreBegun (links_of out.opening)) (AreWhole (links_of out.opening)) out.opening.first out.lane turn.gone
+    (λ begun. begun_whole (links_of out.opening) (fresh_of out) begun (λ link. taken.all link ∙ ap (λ (o : Opening). length (links_of o link)) (sym base))) in
+    subst (λ (o : Opening). HasServed (record { opening = o; lane = put.lane }) out.lane) base whole
+
+-- the kind of a lane is that of its name
+pub seated_by : (t : TurnState) → IsTurn t → HasPlace t → IsSeated t.lane
+seated_by t turn placed = by t.opening.name t.opening.first t.lane turn.named turn.gone placed
+  where
+    by : (n : LaneName) (a b : PhaseLane) → IsNamed n a → HasGoneOn (AreBegun (links_of t.opening)) a b → IsPlaced n → IsSeated b
+    by name.Control a b named gone placed = absurd placed
+    by (name.Conn k) (Conn a) (Conn b) named gone placed = tt
+    by (name.Conn k) (Conn a) (Control b) named gone placed = absurd gone
+    by (name.Conn k) (Conn a) (Data b) named gone placed = absurd gone
+    by (name.Conn k) (Control a) b named gone placed = absurd named
+    by (name.Conn k) (Data a) b named gone placed = absurd named
+    by (name.Data k) (Data a) (Data b) named gone placed = tt
+    by (name.Data k) (Data a) (Control b) named gone placed = absurd gone
+    by (name.Data k) (Data a) (Conn b) named gone placed = absurd gone
+    by (name.Data k) (Control a) b named gone placed = absurd named
+    by (name.Data k) (Conn a) b named gone placed = absurd named
+
+pub control_by : (t : TurnState) → IsTurn t → t.opening.name ≡ name.Control → IsControl t.lane
+control_by t turn is = by t.opening.name t.opening.first t.lane turn.named turn.gone is
+  where
+    by : (n : LaneName) (a b : PhaseLane) → IsNamed n a → HasGoneOn (AreBegun (links_of t.opening)) a b → n ≡ name.Control → IsControl b
+    by name.Control (Control a) (Control b) named gone is = tt
+    by name.Control (Control a) (Conn b) named gone is = absurd gone
+    by name.Control (Control a) (Data b) named gone is = absurd gone
+    by name.Control (Conn a) b named gone is = absurd named
+    by name.Control (Data a) b named gone is = absurd named
+    by (name.Conn k) a b named gone is = absurd (cc)
+    by (name.Data k) a b named gone is = absurd (cc)

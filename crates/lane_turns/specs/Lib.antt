@@ -1,9 +1,7 @@
-pub mod Pairs
 pub mod Plans
 pub mod Seats
 pub mod Phases
 pub mod LaneStates
 pub mod Shown
 pub mod Turns
-pub mod Gates
 pub mod Rows

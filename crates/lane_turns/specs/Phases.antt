@@ -14,7 +14,7 @@ use Rattle.scmg.specs.Lane.{ControlState, AddsEntry, GrowAlike}
 use Rattle.scmg.specs.Lane.{changes_of as changes_by}
 use Rattle.right_book.specs.Own.{control_pairs_of}
 use Rattle.right_book.specs.Placed.{in_control}
-use Rattle.lane_turns.specs.Pairs.{PairsFrom}
+use Rattle.link_threads.specs.Pairs.{PairsFrom}
 use Rattle.lane_turns.specs.Plans.{planned, AreWhole}
 use Rattle.lane_turns.specs.Seats.{SeatState, Seated, WentOn, conn_seat, conn_seated, data_seat, data_seated}
 

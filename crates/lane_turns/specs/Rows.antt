@@ -1,5 +1,5 @@
 -- The lanes of a phase in one row, and their kinds apart again.
-use Rattle.std.specs.Prelude.{◌≡◌, ◌+◌, ◌++◌, ℕ, List, [], ◌∷◌, All}
+use Rattle.std.specs.Prelude.{◌≡◌, ◌+◌, ◌++◌, ℕ, List, [], ◌∷◌, map, All}
 use Rattle.std.specs.List.{flat_map}
 use Rattle.node_head.specs.declared.head.Head.{Head}
 use Rattle.capture_form.specs.Events.{Stamped}
@@ -7,7 +7,8 @@ use Rattle.scmg.specs.Lane.{ControlState}
 use Rattle.conn_lane.specs.Lanes.{ConnLaneState}
 use Rattle.data_lane.specs.Legal.{LaneState}
 use Rattle.gtt_editions.specs.Standing.{Publishing}
-use Rattle.lane_turns.specs.declared.lane_name.LaneName.TheVariants as name
+use Rattle.link_threads.specs.declared.lane_name.LaneName.{LaneName}
+use Rattle.link_threads.specs.declared.lane_name.LaneName.TheVariants as name
 use Rattle.lane_turns.specs.LaneStates.{PhaseLane, Control, Conn, Data}
 use Rattle.lane_turns.specs.Seats.{SeatState}
 use Rattle.lane_turns.specs.Phases.{PhaseState}
@@ -18,11 +19,15 @@ abbrev pub turns_from : {A : Type 0} → (ℕ → A → TurnState) → ℕ → L
 turns_from f number [] = []
 turns_from f number (x ∷ xs) = f number x ∷ turns_from f (number + 1) xs
 
+-- a lane of a kind at its place, before the first event of the phase
+abbrev pub seated_turn : {A : Type 0} → (ℕ → LaneName) → (SeatState A → PhaseLane) → Head → List Stamped → ℕ → SeatState A → TurnState
+seated_turn name_of lane_of head lists number s = opened_turn head lists (name_of number) (lane_of s)
+
 abbrev pub conn_turn : Head → List Stamped → ℕ → SeatState ConnLaneState → TurnState
-conn_turn head lists number s = opened_turn head lists (name.Conn number) (Conn s)
+conn_turn = seated_turn name.Conn Conn
 
 abbrev pub data_turn : Head → List Stamped → ℕ → SeatState LaneState → TurnState
-data_turn head lists number s = opened_turn head lists (name.Data number) (Data s)
+data_turn = seated_turn name.Data Data
 
 abbrev pub control_lane : ControlState → Publishing → PhaseLane
 control_lane lane p = Control (record { lane = lane; publisher = p })
@@ -37,6 +42,10 @@ abbrev pub IsControl : PhaseLane → Type 0
 IsControl (Control s) = Unit {0}
 IsControl _ = ⊥
 
+abbrev pub IsPlaced : LaneName → Type 0
+IsPlaced name.Control = ⊥
+IsPlaced _ = Unit {0}
+
 -- a lane at a place
 abbrev pub IsSeated : PhaseLane → Type 0
 IsSeated (Control s) = ⊥
@@ -50,15 +59,22 @@ abbrev pub data_of : PhaseLane → List (SeatState LaneState)
 data_of (Data s) = s ∷ []
 data_of _ = []
 
--- lanes at places, and last the control lane
-pub record EndInControl (lanes : List PhaseLane) : Type 0 where
-  pub seats : List PhaseLane
-  pub control : ControlState
-  pub publisher : Publishing
-  pub is : lanes ≡ seats ++ control_lane control publisher ∷ []
-  pub seated : All IsSeated seats
+abbrev pub lanes_of : List TurnState → List PhaseLane
+lanes_of turns = map (λ t. t.lane) turns
 
--- the lanes of such a row, by their kinds
+-- a lane that isn't the control lane, by its name
+abbrev pub HasPlace : TurnState → Type 0
+HasPlace t = IsPlaced t.opening.name
+
+-- lanes at places, and last the control lane, by their names
+pub record EndInControl (turns : List TurnState) : Type 0 where
+  pub seats : List TurnState
+  pub last : TurnState
+  pub is : turns ≡ seats ++ last ∷ []
+  pub placed : All HasPlace seats
+  pub control : last.opening.name ≡ name.Control
+
+-- the lanes of a row, by their kinds
 pub record AreApart (lanes : List PhaseLane) (control : ControlState) (x : PhaseState) : Type 0 where
   pub seats : List PhaseLane
   pub is : lanes ≡ seats ++ control_lane control x.publisher ∷ []

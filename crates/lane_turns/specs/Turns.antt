@@ -1,29 +1,22 @@
 -- A lane in its gate: what it is to take of a phase, and how far it has come.
-use Rattle.std.specs.Prelude.{◌≡◌, ◌<◌, ◌^◌, ◌+◌, ◌-◌, ◌++◌, ℕ, zero, suc, Bool, List, [], ◌∷◌, length, drop}
+use Rattle.std.specs.Prelude.{◌≡◌, ◌<◌, ◌^◌, ◌+◌, ◌-◌, ◌++◌, ℕ, zero, suc, List, length, drop}
 use Rattle.relay_base.specs.declared.words.Stamp.{Stamp}
 use Rattle.plant_core.specs.declared.entry.ControlEntry.{ControlEntry}
 use Rattle.plant_core.specs.declared.entry.ControlEvent.{ControlEvent}
 use Rattle.plant_core.specs.declared.entry.ControlEvent.TheVariants.{Plain}
 use Rattle.node_head.specs.declared.head.Head.{Head}
-use Rattle.capture_form.specs.declared.lane_place.LanePlace.{LanePlace}
 use Rattle.capture_form.specs.Events.{Stamped}
 use Rattle.scmg.specs.Lane.{GrowAlike}
 use Rattle.scmg.specs.Lane.{changes_of as changes_by}
 use Rattle.lane_gate.specs.Plan.{Plan}
 use Rattle.right_book.specs.Own.{pairs_of, control_pairs_of}
-use Rattle.right_book.specs.Placed.{in_control, in_conn, in_data}
-use Rattle.lane_turns.specs.declared.lane_name.LaneName.{LaneName}
-use Rattle.lane_turns.specs.declared.lane_name.LaneName.TheVariants as name
+use Rattle.link_threads.specs.declared.lane_name.LaneName.{LaneName}
+use Rattle.link_threads.specs.declared.lane_name.LaneName.TheVariants as name
+use Rattle.link_threads.specs.Links.{is_in}
 use Rattle.lane_turns.specs.LaneStates.{PhaseLane, Control, Conn, Data}
 use Rattle.lane_turns.specs.Plans.{of_link, planned, AreBegun, AreWhole}
 use Rattle.lane_turns.specs.Seats.{Takes, HasLooked, GoneOn, conn_seat, conn_seated, data_seat, data_seated}
 use Rattle.lane_turns.specs.Phases.{ControlSeatState, ControlTakes, IsUnchanged, IsOpen}
-
--- the places that are in the lane of a name
-abbrev pub is_in : LaneName → LanePlace → Bool
-is_in name.Control place = in_control place
-is_in (name.Conn number) place = in_conn number place
-is_in (name.Data number) place = in_data number place
 
 -- ---- one event
 

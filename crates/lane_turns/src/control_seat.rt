@@ -10,6 +10,7 @@ use std::marker::Model;
 use std::sync::Wait;
 
 /// The control lane, and the publisher of its changes.
+#[derive(Drop)]
 pub struct ControlSeat<'r, R: Wait> {
     lane: ControlLane,
     publisher: PhasePublisher<'r, R>,
@@ -21,15 +22,6 @@ impl<'r, R: Wait> Model for ControlSeat<'r, R> {
     ghost Value = { ControlSeatState };
 
     ghost view = { λ s. record { lane = s.lane; publisher = s.publisher.publisher } };
-}
-
-impl<'r, R: Wait> Drop for ControlSeat<'r, R> {
-    fn drop(self) {
-        let Self {
-            lane: _lane,
-            publisher: _publisher,
-        } = self;
-    }
 }
 
 impl<'r, R: Wait> ControlSeat<'r, R> {
@@ -49,12 +41,12 @@ impl<'r, R: Wait> ControlSeat<'r, R> {
     }
 
     /// Takes an event. After want of memory the lane is as before, and nothing was published.
-    pub fn step(&mut self, stamp: Stamp, event: &ControlEvent) -> Result<(), Memory>
+    pub fn step(&mut self, stamp: Stamp, event: ControlEvent) -> Result<(), Memory>
         requires few { length self.old.lane.journal < 4294967295 }
         requires open { IsOpen self.old.publisher self.old.lane }
-        ensures ok { OnOk result (ControlTakes stamp event.now self.old self.new) }
+        ensures ok { OnOk result (ControlTakes stamp event self.old self.new) }
         ensures err { OnErr result (IsUnchanged self.old self.new) }
     {
-        self.lane.step(&mut self.publisher, stamp, event)
+        self.lane.step_owned(&mut self.publisher, stamp, event)
     }
 }

@@ -1,20 +1,14 @@
-//! The lanes of a phase, each behind a gate, and the links that feed them, each in a thread of its own.
+//! The lanes of a phase, each at its place in the published routing data, and how they take what comes on its links.
 #![tactic(auto)]
 
-mod closing;
 mod control_seat;
-mod dealing;
-mod door;
-mod feed;
-mod given;
-mod hands;
 mod lane_kind;
-mod lane_name;
 mod phase_lane;
 mod phase_lanes;
 mod publisher;
 mod run;
 mod seat;
+mod seated_kind;
 mod turn;
 
 pub use phase_lanes::{ConnSeatList, DataSeatList, PhaseLanes};

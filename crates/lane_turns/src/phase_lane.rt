@@ -1,5 +1,5 @@
 //! A lane of a phase takes an event.
-ghost use Rattle.std.specs.Prelude.{◌≡◌, ◌++◌, OnOk, OnErr};
+ghost use Rattle.std.specs.Prelude.{◌≡◌, ◌++◌, ◌<◌, length, vec_capacity, OnOk, OnErr};
 ghost use Rattle.plant_core.specs.declared.entry.ControlEvent.TheVariants.{Plain};
 ghost use Rattle.lane_turns.specs.LaneStates.{Control, Conn, Data};
 ghost use Rattle.lane_turns.specs.Turns.{CanTake, IsPlain, TakesEvent, IsAsBefore};
@@ -16,6 +16,7 @@ use std::marker::Model;
 use std::sync::Wait;
 
 /// A lane of a phase.
+#[derive(Drop)]
 pub struct PhaseLane<'r, R: Wait> {
     kind: LaneKind<'r, R>,
 }
@@ -27,12 +28,6 @@ impl<'r, R: Wait> Model for PhaseLane<'r, R> {
     ghost Value = { PhaseLaneState };
 
     ghost view = { λ l. shown l.kind };
-}
-
-impl<'r, R: Wait> Drop for PhaseLane<'r, R> {
-    fn drop(self) {
-        let Self { kind: _kind } = self;
-    }
 }
 
 /// What clauses see of a lane. No value of it is made: it stands for the type of its values in clauses.
@@ -47,9 +42,9 @@ impl Model for LaneView {
 }
 
 /// The event of another lane than the control lane.
-fn plain(event: &ControlEvent) -> &Event
-    requires { IsPlain event.now }
-    ensures { event.now ≡ Plain result.now }
+fn plain(event: ControlEvent) -> Event
+    requires { IsPlain event }
+    ensures { event ≡ Plain result }
 {
     let ControlEvent::Plain(event) = event else {
         unreachable!()
@@ -83,9 +78,9 @@ impl<'r, R: Wait> PhaseLane<'r, R> {
     }
 
     /// Takes an event that is placed in the lane. After want of memory the lane is as before, but that it may have looked.
-    pub fn step(&mut self, stamp: Stamp, event: &ControlEvent) -> Result<(), Memory>
-        requires { CanTake event.now self.old }
-        ensures ok { OnOk result (TakesEvent stamp event.now self.old self.new) }
+    pub fn step(&mut self, stamp: Stamp, event: ControlEvent) -> Result<(), Memory>
+        requires { CanTake event self.old }
+        ensures ok { OnOk result (TakesEvent stamp event self.old self.new) }
         ensures err { OnErr result (IsAsBefore self.old self.new) }
     {
         match &mut self.kind {
@@ -101,20 +96,27 @@ impl<'r, R: Wait> PhaseLane<'r, R> {
         ensures { self.entry ≡ Control result }
     {
         let Self { kind } = self;
-        kind.into_control()
+        let LaneKind::Control(seat) = kind else {
+            unreachable!()
+        };
+        seat
     }
 
     /// Another lane goes to those of its kind.
-    pub fn put(
-        self,
-        conns: &mut Vec<Seat<'r, R, ConnLane>>,
-        units: &mut Vec<Seat<'r, R, DataLane>>,
-    ) -> Result<(), Memory>
-        requires { IsSeated self }
-        ensures conns { OnOk result (conns.new.items ≡ conns.old.items ++ conn_of self.entry) }
-        ensures units { OnOk result (units.new.items ≡ units.old.items ++ data_of self.entry) }
+    pub fn put(self, conns: &mut Vec<Seat<'r, R, ConnLane>>, units: &mut Vec<Seat<'r, R, DataLane>>)
+        requires seated { IsSeated self }
+        requires conns_room { length conns.old.items < vec_capacity conns.old }
+        requires units_room { length units.old.items < vec_capacity units.old }
+        ensures conns { conns.new.items ≡ conns.old.items ++ conn_of self.entry }
+        ensures conns_room { vec_capacity conns.new ≡ vec_capacity conns.old }
+        ensures units { units.new.items ≡ units.old.items ++ data_of self.entry }
+        ensures units_room { vec_capacity units.new ≡ vec_capacity units.old }
     {
         let Self { kind } = self;
-        kind.put(conns, units)
+        match kind {
+            LaneKind::Control(_) => unreachable!(),
+            LaneKind::Conn(seat) => conns.push_reserved(seat),
+            LaneKind::Data(seat) => units.push_reserved(seat),
+        }
     }
 }

@@ -1,19 +1,21 @@
 //! The lanes of a phase, each at its place.
-ghost use Rattle.std.specs.Prelude.{◌≡◌, ◌+◌, ◌<◌, length, All, IfOk};
+ghost use Rattle.std.specs.Prelude.{◌≡◌, ◌+◌, ◌++◌, ◌≤◌, length, vec_capacity, All, IfOk};
 ghost use Rattle.std.specs.List.{flat_map};
 ghost use Rattle.capture_form.specs.Events.{phase_events};
 ghost use Rattle.lane_turns.specs.Phases.{HasRoomFor, IsOpen};
-ghost use Rattle.lane_turns.specs.Rows.{AreApart, EndInControl, IsSeated, conn_of, conn_turn, data_of, data_turn, turns_from, turns_of};
+ghost use Rattle.lane_turns.specs.Turns.{HasRoom, IsTurn};
+ghost use Rattle.lane_turns.specs.Rows.{AreApart, EndInControl, HasPlace, conn_of, data_of, lanes_of, seated_turn, turns_from, turns_of};
 
 use crate::control_seat::ControlSeat;
-use crate::lane_name::LaneName;
 use crate::phase_lane::PhaseLane;
 use crate::publisher::PhasePublisher;
 use crate::seat::Seat;
+use crate::seated_kind::SeatedKind;
 use crate::turn::LaneTurn;
 use capture_form::Phase;
 use conn_lane::ConnLane;
 use data_lane::DataLane;
+use link_threads::LaneName;
 use node_head::Head;
 use relay_base::Memory;
 use scmg::ControlLane;
@@ -28,6 +30,7 @@ pub type ConnSeatList<'r, R> = Vec<Seat<'r, R, ConnLane>>;
 pub type DataSeatList<'r, R> = Vec<Seat<'r, R, DataLane>>;
 
 /// The publisher of the control lane, and the other lanes at their places.
+#[derive(Drop)]
 pub struct PhaseLanes<'r, R: Wait> {
     pub publisher: PhasePublisher<'r, R>,
     pub conns: ConnSeatList<'r, R>,
@@ -46,65 +49,40 @@ impl<'r, R: Wait> Model for PhaseLanes<'r, R> {
     } };
 }
 
-impl<'r, R: Wait> Drop for PhaseLanes<'r, R> {
-    fn drop(self) {
-        let Self {
-            publisher: _publisher,
-            conns: _conns,
-            units: _units,
-        } = self;
-    }
-}
-
-/// The connection lanes, before the first event of the phase.
-fn conn_turns<'p, 'r, R: Wait>(
-    alloc: Global,
+/// Lanes of a kind go to the end of a row, before the first event of the phase.
+fn add_turns<'p, 'r, R: Wait, L: SeatedKind>(
+    turns: &mut Vec<LaneTurn<'p, 'r, R>>,
     head: &'p Head,
     phase: &'p Phase,
-    seats: ConnSeatList<'r, R>,
-) -> Result<Vec<LaneTurn<'p, 'r, R>>, Memory>
-    requires { let events = length (phase_events phase.now) in
-        All (λ s. length s.lane.journal + events < 4294967296) seats.items }
-    ensures { IfOk result (λ v. v.items ≡ turns_from (conn_turn head.now phase.now) 0 seats.entry.items) }
+    seats: Vec<Seat<'r, R, L>>,
+)
+    requires reserved { length turns.old.items + length seats.items ≤ vec_capacity turns.old }
+    requires room { All (λ s. HasRoom (length (phase_events phase.now)) (L.lane_of s)) seats.items }
+    ensures turns { let turn = seated_turn L.name_of L.lane_of head.now phase.now in
+        turns.new.items ≡ turns.old.items ++ turns_from turn 0 seats.entry.items }
+    ensures capacity { vec_capacity turns.new ≡ vec_capacity turns.old }
 {
-    let mut turns = Vec::new(alloc);
+    let first = turns.len();
     for seat in seats {
-        let name = LaneName::Conn(turns.len());
-        turns.push(LaneTurn::new(head, phase, name, PhaseLane::conn(seat)))?;
+        let name = L::name(turns.len() - first);
+        turns.push_reserved(LaneTurn::new(head, phase, name, L::lane(seat)));
     }
-    Ok(turns)
 }
 
-/// The data lanes, before the first event of the phase.
-fn data_turns<'p, 'r, R: Wait>(
+/// Lanes at their places, by their kinds, once they have taken the events of the phase.
+fn apart<'p, 'r, R: Wait>(
     alloc: Global,
-    head: &'p Head,
-    phase: &'p Phase,
-    seats: DataSeatList<'r, R>,
-) -> Result<Vec<LaneTurn<'p, 'r, R>>, Memory>
-    ensures { IfOk result (λ v. v.items ≡ turns_from (data_turn head.now phase.now) 0 seats.entry.items) }
-{
-    let mut turns = Vec::new(alloc);
-    for seat in seats {
-        let name = LaneName::Data(turns.len());
-        turns.push(LaneTurn::new(head, phase, name, PhaseLane::data(seat)))?;
-    }
-    Ok(turns)
-}
-
-/// Lanes at their places, by their kinds.
-fn apart<'r, R: Wait>(
-    alloc: Global,
-    lanes: Vec<PhaseLane<'r, R>>,
+    turns: Vec<LaneTurn<'p, 'r, R>>,
 ) -> Result<(ConnSeatList<'r, R>, DataSeatList<'r, R>), Memory>
-    requires { All IsSeated lanes.items }
-    ensures conns { IfOk result (λ t. t.0.items ≡ flat_map conn_of lanes.entry.items) }
-    ensures units { IfOk result (λ t. t.1.items ≡ flat_map data_of lanes.entry.items) }
+    requires { All HasPlace turns.items }
+    ensures conns { IfOk result (λ t. t.0.items ≡ flat_map conn_of (lanes_of turns.entry.items)) }
+    ensures units { IfOk result (λ t. t.1.items ≡ flat_map data_of (lanes_of turns.entry.items)) }
+    ensures turns { IfOk result (λ _. All IsTurn turns.entry.items) }
 {
-    let mut conns = Vec::new(alloc);
-    let mut units = Vec::new(alloc);
-    for lane in lanes {
-        lane.put(&mut conns, &mut units)?;
+    let mut conns = Vec::with_capacity(alloc, turns.len())?;
+    let mut units = Vec::with_capacity(alloc, turns.len())?;
+    for turn in turns {
+        turn.into_lane().put(&mut conns, &mut units);
     }
     Ok((conns, units))
 }
@@ -130,6 +108,13 @@ impl<'r, R: Wait> PhaseLanes<'r, R> {
         (publisher, conns, units)
     }
 
+    /// How many lanes a phase has, with the control lane.
+    fn count(&self) -> usize
+        ensures { result ≡ length self.now.conns + length self.now.units + 1 }
+    {
+        self.conns.len() + self.units.len() + 1
+    }
+
     /// The lanes in one row, before the first event of the phase: the control lane stands last.
     pub fn into_turns<'p>(
         self,
@@ -142,26 +127,28 @@ impl<'r, R: Wait> PhaseLanes<'r, R> {
         requires open { IsOpen self.publisher control }
         ensures { IfOk result (λ v. v.items ≡ turns_of head.now phase.now control self.entry) }
     {
+        let mut turns = Vec::with_capacity(alloc, self.count())?;
         let (publisher, conns, units) = self.into_parts();
-        let mut turns = conn_turns(alloc, head, phase, conns)?;
-        let mut more = data_turns(alloc, head, phase, units)?;
+        add_turns(&mut turns, head, phase, conns);
+        add_turns(&mut turns, head, phase, units);
         let last = PhaseLane::control(ControlSeat::new(control, publisher));
-        more.push(LaneTurn::new(head, phase, LaneName::Control, last))?;
-        turns.append(&mut more)?;
+        turns.push_reserved(LaneTurn::new(head, phase, LaneName::Control, last));
         Ok(turns)
     }
 
-    /// The lanes of a row, each where it belongs.
-    pub fn from_lanes(
+    /// The lanes of a row, each where it belongs, once they have taken the events of the phase.
+    pub fn from_turns<'p>(
         alloc: Global,
-        lanes: Vec<PhaseLane<'r, R>>,
+        turns: Vec<LaneTurn<'p, 'r, R>>,
     ) -> Result<(ControlLane, PhaseLanes<'r, R>), Memory>
-        requires { EndInControl lanes.items }
-        ensures { IfOk result (λ t. AreApart lanes.entry.items t.0 t.1) }
+        requires { EndInControl turns.items }
+        ensures apart { IfOk result (λ t. AreApart (lanes_of turns.entry.items) t.0 t.1) }
+        ensures turns { IfOk result (λ _. All IsTurn turns.entry.items) }
     {
-        let mut lanes = lanes;
-        let (control, publisher) = lanes.pop().unwrap().into_control().into_parts();
-        let (conns, units) = apart(alloc, lanes)?;
+        let mut turns = turns;
+        let last = turns.pop().unwrap().into_lane();
+        let (control, publisher) = last.into_control().into_parts();
+        let (conns, units) = apart(alloc, turns)?;
         let lanes = PhaseLanes {
             publisher,
             conns,

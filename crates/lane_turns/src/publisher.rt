@@ -9,16 +9,9 @@ use scmg::Publish;
 use std::sync::Wait;
 
 /// Publishes the changes of the control lane to all lanes of a phase.
+#[derive(Drop)]
 pub struct PhasePublisher<'r, R: Wait> {
     pub publisher: Publisher<'r, R>,
-}
-
-impl<'r, R: Wait> Drop for PhasePublisher<'r, R> {
-    fn drop(self) {
-        let Self {
-            publisher: _publisher,
-        } = self;
-    }
 }
 
 impl<'r, R: Wait> PhasePublisher<'r, R> {

@@ -5,11 +5,9 @@ ghost use Rattle.capture_form.specs.Events.{phase_events};
 ghost use Rattle.lane_turns.specs.Plans.{IsPhase};
 ghost use Rattle.lane_turns.specs.Phases.{GoesOn, HasRoomFor, IsOpen};
 
-use crate::closing::close_all;
-use crate::dealing::open;
-use crate::hands::feed;
 use crate::phase_lanes::PhaseLanes;
 use capture_form::Phase;
+use link_threads::{PhaseLinks, take_events};
 use node_head::Head;
 use relay_base::{Memory, Pace};
 use scmg::ControlLane;
@@ -35,8 +33,7 @@ pub fn take_phase<'r, R: Threads + Wait + Sync, P: Pace>(
     ensures { IfOk result (λ t. GoesOn head.now phase.now control lanes.entry t.0 t.1) }
 {
     let turns = lanes.into_turns(alloc, head, phase, control)?;
-    let (doors, hands) = open(rt, alloc, head, phase, turns)?;
-    let hands = feed(rt, alloc, &doors, head, phase, hands, pace)?;
-    let lanes = close_all(rt, alloc, head, phase, doors, hands)?;
-    PhaseLanes::from_lanes(alloc, lanes)
+    let links = PhaseLinks::new(head, phase);
+    let turns = take_events(rt, alloc, &links, turns, pace)?;
+    PhaseLanes::from_turns(alloc, turns)
 }

@@ -3,11 +3,10 @@ ghost use Rattle.std.specs.Prelude.{◌≡◌, length};
 ghost use Rattle.capture_form.specs.Events.{phase_events};
 ghost use Rattle.lane_turns.specs.Turns.{HasRoom, IsNamed, IsTurn, opened_turn};
 
-use crate::given::Given;
-use crate::lane_name::LaneName;
 use crate::phase_lane::{LaneView, PhaseLane};
 use capture_form::Phase;
 use lane_gate::LaneState;
+use link_threads::{Given, LaneName, Named};
 use mark::Mark;
 use node_head::Head;
 use relay_base::{Memory, Stamp};
@@ -15,6 +14,7 @@ use std::marker::Model;
 use std::sync::Wait;
 
 /// A lane, with the phase whose events it takes.
+#[derive(Drop)]
 pub struct LaneTurn<'p, 'r, R: Wait> {
     head: &'p Head,
     phase: &'p Phase,
@@ -32,18 +32,6 @@ impl<'p, 'r, R: Wait> Model for LaneTurn<'p, 'r, R> {
     ghost view = { λ t. turn_of t.head.now t.phase.now t.name t.first.value t.lane };
 
     ghost invariant = { λ t. IsTurn (turn_of t.head.now t.phase.now t.name t.first.value t.lane) };
-}
-
-impl<'p, 'r, R: Wait> Drop for LaneTurn<'p, 'r, R> {
-    fn drop(self) {
-        let Self {
-            head: _,
-            phase: _,
-            name: _,
-            first: _,
-            lane: _lane,
-        } = self;
-    }
 }
 
 /// A mark of a lane that a proof chooses by the lane that is seen.
@@ -77,12 +65,6 @@ impl<'p, 'r, R: Wait> LaneTurn<'p, 'r, R> {
         }
     }
 
-    pub fn name(&self) -> LaneName
-        ensures { result ≡ self.now.opening.name }
-    {
-        self.name
-    }
-
     /// The lane, with what its type kept.
     pub fn into_lane(self) -> PhaseLane<'r, R>
         ensures lane { result ≡ self.entry.lane }
@@ -111,6 +93,15 @@ impl<'p, 'r, R: Wait> LaneState for LaneTurn<'p, 'r, R> {
     ghost taken = { taken_of };
 
     fn take_turn(&mut self, stamp: Stamp, event: &Given<'p>) -> Result<(), Memory> {
-        self.lane.step(stamp, event.get())
+        let event = event.owned()?;
+        self.lane.step(stamp, event)
+    }
+}
+
+impl<'p, 'r, R: Wait> Named for LaneTurn<'p, 'r, R> {
+    ghost name_of = { λ t. t.opening.name };
+
+    fn name(&self) -> LaneName {
+        self.name
     }
 }

@@ -28,7 +28,7 @@ fn seated<'r, R: Wait, L: Drop>(
     let mut seats = Vec::new(alloc);
     for lane in lanes {
         let place = places.pop().unwrap();
-        seats.push(Seat::new(lane, place))?;
+        seats.push(Seat::new(alloc, lane, place)?)?;
     }
     Ok(seats)
 }

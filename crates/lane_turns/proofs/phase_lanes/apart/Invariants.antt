@@ -1,11 +1,15 @@
-use Rattle.std.proofs.Common.{◌≡◌, All}
+use Rattle.std.proofs.Common.{◌≡◌, ◌+◌, ◌≤◌, length, vec_capacity, All}
 use Rattle.std.specs.List.{flat_map}
-use Rattle.lane_turns.specs.Rows.{IsSeated, conn_of, data_of}
+use Rattle.lane_turns.specs.Turns.{IsTurn}
+use Rattle.lane_turns.specs.Rows.{HasPlace, conn_of, data_of, lanes_of}
 use Rattle.lane_turns.proofs.phase_lanes.apart.Given as goal
 
-abbrev pub invariant-loop-lane : goal.invariant-loop-lane
-invariant-loop-lane g l = record {
-  conns : l.conns.items ≡ flat_map conn_of l.yielded;
-  units : l.units.items ≡ flat_map data_of l.yielded;
-  seated : All IsSeated l.lane-iterator.rest.items;
+abbrev pub invariant-loop-turn : goal.invariant-loop-turn
+invariant-loop-turn g l = record {
+  conns : l.conns.items ≡ flat_map conn_of (lanes_of l.yielded);
+  units : l.units.items ≡ flat_map data_of (lanes_of l.yielded);
+  turns : All IsTurn l.yielded;
+  placed : All HasPlace l.turn-iterator.rest.items;
+  conns_room : length l.conns.items + length l.turn-iterator.rest.items ≤ vec_capacity l.conns;
+  units_room : length l.units.items + length l.turn-iterator.rest.items ≤ vec_capacity l.units;
 }

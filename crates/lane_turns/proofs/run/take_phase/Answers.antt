@@ -1,35 +1,41 @@
-use Rattle.std.proofs.Common.{◌≡◌, List, map, All, Result, Ok, Err, IfOk, sym, ◌∙◌, subst}
-use Rattle.lane_gate.specs.Gates.{origin_of}
-use Rattle.lane_turns.specs.Pairs.{Beside}
-use Rattle.lane_turns.specs.Turns.{TurnState, HasServed}
-use Rattle.lane_turns.specs.Gates.{LaneGate, IsAtOpening}
-use Rattle.lane_turns.specs.Rows.{turns_of}
-use Rattle.lane_turns.proofs.BesideLemmas.{beside_map}
-use Rattle.lane_turns.proofs.RowLemmas.{ends_in_control, row_goes_on, row_at_opening}
+use denote.Param.Send.{sendable}
+use Rattle.std.proofs.Common.{List, All, Result, Ok, Err, IfOk, sym, subst}
+use Rattle.plant_core.specs.declared.entry.ControlEvent.{ControlEvent}
+use Rattle.right_book.specs.Lanes.{LanesFrom}
+use Rattle.link_threads.specs.Pairs.{Beside}
+use Rattle.link_threads.specs.Links.{Link, IsStamped}
+use Rattle.link_threads.specs.Phases.{links_of}
+use Rattle.link_threads.specs.Gates.{IsAtOpening, HasTaken}
+use Rattle.lane_turns.specs.Turns.{TurnState, plan_of, taken_of}
+use Rattle.lane_turns.specs.Rows.{lanes_of}
+use Rattle.lane_turns.proofs.Sent.{turn_send}
+use Rattle.lane_turns.proofs.RowLemmas.{ends_in_control, row_at_opening, row_goes_on, row_served, phase_stamped}
 use Rattle.lane_turns.proofs.run.take_phase.Goals as goal
 
--- what follows from a call's answer
-if_ok : {A E : Type 0} (r : Result A E) (P Q : A → Type 0) → ((x : A) → P x → Q x) → IfOk r P → IfOk r Q
-if_ok (Ok x) P Q f h = f x h
-if_ok (Err e) P Q f h = tt
+-- what follows from both that is known of a call's answer
+if_both : {A E : Type 0} (r : Result A E) (P Q S : A → Type 0) → ((x : A) → P x → Q x → S x) → IfOk r P → IfOk r Q → IfOk r S
+if_both (Ok x) P Q S f p q = f x p q
+if_both (Err e) P Q S f p q = tt
 
-pub open-requires-clause-lanes : goal.open-requires-clause-lanes
-open-requires-clause-lanes g c =
-    subst (All (IsAtOpening c.args.head.now c.args.phase.now)) (sym c.in_ok-turns.ensures) (row_at_opening c.args.head.now c.args.phase.now c.args.control c.args.lanes)
+pub take_events-requires-send-L : goal.take_events-requires-send-L
+take_events-requires-send-L g c κs within = search (sendable, turn_send)
 
-pub from_lanes-requires : goal.from_lanes-requires
-from_lanes-requires g c =
-    let row : List TurnState = turns_of c.args.head.now c.args.phase.now c.args.control c.args.lanes in
-    let gates : List LaneGate = c.in_ok-doors.doors.items in
-    let origins : map (λ (x : LaneGate). origin_of x) gates ≡ row = c.in_ok-doors.ensures.origins ∙ c.in_ok-turns.ensures in
-    ends_in_control c.args.head.now c.args.phase.now c.args.control c.args.lanes c.in_ok-lanes.lanes.items
-    (subst (λ (l : List TurnState). Beside HasServed l c.in_ok-lanes.lanes.items) origins (beside_map HasServed (λ (x : LaneGate). origin_of x) gates c.in_ok-lanes.lanes.items c.in_ok-lanes.ensures))
+pub take_events-requires-clause-stamped : goal.take_events-requires-clause-stamped
+take_events-requires-clause-stamped g c κs within = subst (LanesFrom IsStamped 0) (sym c.new-links.ensures) (phase_stamped c.args.head.now c.args.phase.now c.requires.phase.number 0 c.requires.phase.stamped)
+
+pub take_events-requires-clause-lanes : goal.take_events-requires-clause-lanes
+take_events-requires-clause-lanes g c κs within =
+    subst (λ (links : List (Link ControlEvent)). All (IsAtOpening plan_of taken_of (λ t. t.opening.name) links) c.in_ok-turns.turns.items) (sym c.new-links.ensures)
+    (subst (All (IsAtOpening plan_of taken_of (λ t. t.opening.name) (links_of c.args.head.now c.args.phase.now))) (sym c.in_ok-turns.ensures) (row_at_opening c.args.head.now c.args.phase.now c.args.control c.args.lanes))
+
+pub from_turns-requires : goal.from_turns-requires
+from_turns-requires g c =
+    let taken = subst (λ (l : List TurnState). Beside (HasTaken plan_of taken_of) l c.in_ok-turns-2.turns.items) c.in_ok-turns.ensures c.in_ok-turns-2.ensures in
+    ends_in_control c.args.head.now c.args.phase.now c.args.control c.args.lanes c.in_ok-turns-2.turns.items taken
 
 pub returns : goal.returns
 returns g c =
-    let row : List TurnState = turns_of c.args.head.now c.args.phase.now c.args.control c.args.lanes in
-    let gates : List LaneGate = c.in_ok-doors.doors.items in
-    let origins : map (λ (x : LaneGate). origin_of x) gates ≡ row = c.in_ok-doors.ensures.origins ∙ c.in_ok-turns.ensures in
-    let served : Beside HasServed row c.in_ok-lanes.lanes.items =
-    subst (λ (l : List TurnState). Beside HasServed l c.in_ok-lanes.lanes.items) origins (beside_map HasServed (λ (x : LaneGate). origin_of x) gates c.in_ok-lanes.lanes.items c.in_ok-lanes.ensures) in
-    if_ok c.from_lanes.result _ _ (λ t apart. row_goes_on c.args.head.now c.args.phase.now c.args.control c.args.lanes c.in_ok-lanes.lanes.items served t.0 t.1 apart) c.from_lanes.ensures
+    let taken = subst (λ (l : List TurnState). Beside (HasTaken plan_of taken_of) l c.in_ok-turns-2.turns.items) c.in_ok-turns.ensures c.in_ok-turns-2.ensures in
+    if_both c.from_turns.result _ _ _ (λ t apart turns.
+    let served = row_served c.args.head.now c.args.phase.now c.args.control c.args.lanes c.in_ok-turns-2.turns.items turns taken in
+    row_goes_on c.args.head.now c.args.phase.now c.args.control c.args.lanes (lanes_of c.in_ok-turns-2.turns.items) served t.0 t.1 apart) c.from_turns.ensures.apart c.from_turns.ensures.turns

@@ -1,0 +1,148 @@
+-- The gates of lanes, the passes that each link's thread holds, and what was delivered through them.
+use Rattle.std.specs.Prelude.{◌≡◌, ℕ, ◌<◌, ◌≤◌, true, Bool, List, [], ◌∷◌, ◌++◌, length, take, slice_get, All, Some}
+use Rattle.std.specs.declared.vec.Vec.{Vec}
+use Rattle.std.specs.declared.alloc.Global.{Global}
+use Rattle.lane_gate.specs.declared.gate.Gate.{Gate}
+use Rattle.lane_gate.specs.declared.pass.Pass.{Pass}
+use Rattle.lane_gate.specs.Gates.{origin_of, callers_of, IsPassOf, AreAllPasses}
+use Rattle.lane_gate.specs.Passes.{done_of}
+use Rattle.lane_gate.specs.Plan.{Plan}
+use Rattle.right_book.specs.Lanes.{LanesFrom}
+use Rattle.link_threads.specs.declared.lane_name.LaneName.{LaneName}
+use Rattle.link_threads.specs.declared.door.Door.{Door}
+use Rattle.link_threads.specs.Pairs.{Beside}
+use Rattle.link_threads.specs.Links.{Link, IsStamped, events_for, link_at, planned_for}
+
+-- passes that one thread holds, one of each gate
+abbrev pub Hand : Type 0
+Hand = Vec Pass Global
+
+-- ---- lanes
+
+module _ {L E B : Type 0} (plan : L → Plan B E) where
+  -- a lane that is to take of each link what is for its name, and has taken nothing
+  pub record IsAtOpening (has_taken : L → ℕ → ℕ) (name : L → LaneName) (links : List (Link E)) (lane : L) : Type 0 where
+    pub plan_is : (number : ℕ) → (plan lane).links number ≡ planned_for (name lane) links number
+    pub fresh : (number : ℕ) → has_taken lane number ≡ 0
+
+  -- a lane with the same plan, which has taken all of it
+  pub record HasTaken (has_taken : L → ℕ → ℕ) (old new : L) : Type 0 where
+    pub same : plan new ≡ plan old
+    pub all : (number : ℕ) → has_taken new number ≡ length ((plan old).links number)
+
+  -- the gate of a lane that is to take of each link what is for the name, with a caller for each link
+  pub record IsDoorOf (links : List (Link E)) (door : Door L E) : Type 0 where
+    pub plan_is : (number : ℕ) → (plan (origin_of door.gate)).links number ≡ planned_for door.name links number
+    pub callers : callers_of door.gate ≡ length links
+
+-- ---- dealing
+
+module _ {L E : Type 0} where
+  -- a new pass of this gate and of this link
+  pub record IsNewPass (number : ℕ) (gate : Gate L E) (pass : Pass) : Type 0 where
+    pub own : IsPassOf gate pass
+    pub number_is : pass.number ≡ number
+    pub unused : done_of pass ≡ 0
+
+  -- new passes of a gate, numbered from 0
+  pub record AreNew (gate : Gate L E) (passes : List Pass) : Type 0 where
+    pub own : All (IsPassOf gate) passes
+    pub numbered : (k : ℕ) (p : Pass) → slice_get passes k ≡ Some p → p.number ≡ k
+    pub unused : All (λ p. done_of p ≡ 0) passes
+
+  -- the hand of a link has one pass more
+  pub record GetsPass (gate : Gate L E) (number : ℕ) (old new : Hand) : Type 0 where
+    pub pass : Pass
+    pub items : new.items ≡ old.items ++ pass ∷ []
+    pub is_new : IsNewPass number gate pass
+
+  -- from this link on, each hand has one pass more
+  pub record IsDealt (gate : Gate L E) (from number : ℕ) (old new : Hand) : Type 0 where
+    pub before : number < from → new ≡ old
+    pub after : from ≤ number → GetsPass gate number old new
+
+  -- the hand of a link has a new pass of each gate
+  abbrev pub HasNewOfEach : List (Door L E) → ℕ → Hand → Type 0
+  HasNewOfEach doors number hand = Beside (λ door pass. IsNewPass number door.gate pass) doors hand.items
+
+module _ {L E B : Type 0} (plan : L → Plan B E) (links : List (Link E)) where
+  -- gates of lanes, and in each link's hand a new pass of each
+  pub record AreDealt (doors : List (Door L E)) (hands : List Hand) : Type 0 where
+    pub each : All (IsDoorOf plan links) doors
+    pub count : length hands ≡ length links
+    pub passes : LanesFrom (HasNewOfEach doors) 0 hands
+
+-- ---- feeding
+
+module _ {L E B : Type 0} (plan : L → Plan B E) where
+  -- through the link's pass of this gate went those of its first events that are for the lane, which is to take those of all
+  pub record HasFed (number : ℕ) (link : Link E) (count : ℕ) (door : Door L E) (pass : Pass) : Type 0 where
+    pub plan_is : (plan (origin_of door.gate)).links number ≡ events_for door.name link
+    pub own : IsPassOf door.gate pass
+    pub number_is : pass.number ≡ number
+    pub done : done_of pass ≡ length (events_for door.name (take count link))
+
+-- a feeder: the gates, the number of its link, and a pass of each gate; and whether it came to its end
+pub record FeederState (L E : Type 0) : Type 0 where
+  pub doors : List (Door L E)
+  pub links : List (Link E)
+  pub number : ℕ
+  pub passes : Hand
+  pub ended : Bool
+
+abbrev pub link_of : {L E : Type 0} → FeederState L E → Link E
+link_of f = link_at f.links f.number
+
+module _ {L E B : Type 0} (plan : L → Plan B E) where
+  -- before the first event: the passes are new
+  pub record IsReady (f : FeederState L E) : Type 0 where
+    pub within : f.number < length f.links
+    pub stamped : IsStamped f.number (link_of f)
+    pub ready : Beside (HasFed plan f.number (link_of f) 0) f.doors f.passes.items
+
+  -- after the last one, if it came to its end: all events of its link went through them
+  abbrev pub HasRun : FeederState L E → FeederState L E → Type 0
+  HasRun old new = new.ended ≡ true → Beside (HasFed plan old.number (link_of old) (length (link_of old))) old.doors new.passes.items
+
+-- the feeder of a link, with the passes that a hand held
+pub record IsFeederOf {L E : Type 0} (doors : List (Door L E)) (links : List (Link E)) (number : ℕ) (hand : Hand) (f : FeederState L E) : Type 0 where
+  pub doors_are : f.doors ≡ doors
+  pub links_are : f.links ≡ links
+  pub number_is : f.number ≡ number
+  pub passes_are : f.passes ≡ hand
+
+-- ---- closing
+
+module _ {L E B : Type 0} (plan : L → Plan B E) where
+  -- all events of the link went through its pass of this gate
+  pub record HasUsed (number : ℕ) (door : Door L E) (pass : Pass) : Type 0 where
+    pub own : IsPassOf door.gate pass
+    pub number_is : pass.number ≡ number
+    pub done : done_of pass ≡ length ((plan (origin_of door.gate)).links number)
+
+  -- and so did they through its pass of each gate
+  abbrev pub HasUsedEach : List (Door L E) → ℕ → Hand → Type 0
+  HasUsedEach doors number hand = Beside (HasUsed number) doors hand.items
+
+  -- and those of each link
+  pub record AreUsed (links : List (Link E)) (doors : List (Door L E)) (hands : List Hand) : Type 0 where
+    pub each : All (IsDoorOf plan links) doors
+    pub count : length hands ≡ length links
+    pub used : LanesFrom (HasUsedEach doors) 0 hands
+
+  -- what closing a gate needs: the passes are all, and used up, and no other link has events
+  pub record AreUsedUp (gate : Gate L E) (passes : List Pass) : Type 0 where
+    pub all : AreAllPasses gate passes
+    pub few : All (λ p. p.number < callers_of gate) passes
+    pub done : All (λ p. done_of p ≡ length ((plan (origin_of gate)).links p.number)) passes
+    pub others : (number : ℕ) → callers_of gate ≤ number → (plan (origin_of gate)).links number ≡ []
+
+-- a hand gave its last pass
+abbrev pub GivesPass : Hand → Hand → Pass → Type 0
+GivesPass old new pass = old.items ≡ new.items ++ pass ∷ []
+
+-- and so did each hand of a list
+abbrev pub GivePasses : List Hand → List Hand → List Pass → Type 0
+GivePasses [] [] [] = Unit {0}
+GivePasses (old ∷ olds) (new ∷ news) (pass ∷ passes) = GivesPass old new pass × GivePasses olds news passes
+GivePasses _ _ _ = ⊥

@@ -1,0 +1,4 @@
+pub mod Pairs
+pub mod Links
+pub mod Gates
+pub mod Phases

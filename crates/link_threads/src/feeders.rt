@@ -1,0 +1,148 @@
+//! The feeders at work, each in a thread of its own.
+ghost use Rattle.std.specs.Prelude.{◌≡◌, ◌<◌, ◌≤◌, true, length, map, All, IfOk};
+ghost use Rattle.std.specs.Thread.{IsSync};
+ghost use Rattle.right_book.specs.Lanes.{LanesFrom};
+ghost use Rattle.lane_gate.specs.declared.gate.TheConstants.{MOST_CALLERS};
+ghost use Rattle.link_threads.specs.Pairs.{Beside, PairsFrom};
+ghost use Rattle.link_threads.specs.Links.{IsStamped};
+ghost use Rattle.link_threads.specs.Gates.{AreDealt, AreUsed, HasRun, IsFeederOf, IsReady};
+
+use crate::door::Door;
+use crate::feed::serve;
+use crate::links::Links;
+use lane_gate::{LaneState, MOST_CALLERS, Pass};
+use relay_base::{Memory, Pace};
+use std::alloc::Global;
+use std::marker::Model;
+use std::sync::Wait;
+use std::thread;
+use std::thread::Threads;
+
+/// A feeder: the gates of the lanes, a pass of each, and the link whose events it delivers.
+#[derive(Drop)]
+pub struct Feeder<'g, L: LaneState, S: Links<L::Event>> {
+    doors: &'g [Door<L>],
+    links: &'g S,
+    link: u8,
+    passes: Vec<Pass>,
+    ended: bool,
+}
+
+impl<'g, L: LaneState, S: Links<L::Event>> Model for Feeder<'g, L, S> {
+    ghost use Rattle.link_threads.specs.Gates.{FeederState};
+
+    ghost Value = { FeederState L L.Event };
+
+    ghost view = { λ f. record {
+      doors = f.doors.now;
+      links = S.links f.links.now;
+      number = f.link;
+      passes = f.passes;
+      ended = f.ended;
+    } };
+}
+
+impl<'g, L: LaneState, S: Links<L::Event>> Feeder<'g, L, S> {
+    /// What one thread does.
+    fn run<R: Wait, P: Pace>(&mut self, rt: &R, pace: &P)
+        requires { IsReady L.plan self.old }
+        ensures { HasRun L.plan self.old self.new }
+    {
+        let passes = self.passes.as_mut_slice();
+        let served = serve(rt, pace, self.doors, self.links, self.link, passes);
+        self.ended = served.is_ok();
+    }
+
+    /// The passes, and whether it came to its end.
+    fn into_parts(self) -> (Vec<Pass>, bool)
+        ensures { (result.0 ≡ self.entry.passes) × (result.1 ≡ self.entry.ended) }
+    {
+        (self.passes, self.ended)
+    }
+}
+
+/// A feeder for each link.
+fn feeders<'g, L: LaneState, S: Links<L::Event>>(
+    alloc: Global,
+    doors: &'g [Door<L>],
+    links: &'g S,
+    hands: Vec<Vec<Pass>>,
+) -> Result<Vec<Feeder<'g, L, S>>, Memory>
+    requires few { length hands.items ≤ MOST_CALLERS }
+    ensures { IfOk result (λ v.
+        PairsFrom (IsFeederOf doors.now (S.links links.now)) 0 hands.items v.items) }
+{
+    let mut feeders = Vec::with_capacity(alloc, hands.len())?;
+    for passes in hands {
+        feeders.push_reserved(Feeder {
+            doors,
+            links,
+            link: feeders.len() as u8,
+            passes,
+            ended: false,
+        });
+    }
+    Ok(feeders)
+}
+
+/// Each feeder in a thread of its own. All are joined.
+fn run_all<'g, R: Threads + Wait + Sync, P: Pace, L: LaneState + Send, S: Links<L::Event> + Sync>(
+    rt: &R,
+    pace: &P,
+    all: &mut [Feeder<'g, L, S>],
+)
+where
+    L::Event: Send,
+    requires { All (IsReady L.plan) all.old }
+    ensures { Beside (HasRun L.plan) all.old all.new }
+{
+    thread::for_each_mut(
+        rt,
+        all,
+        usize::from(MOST_CALLERS),
+        &|_: usize, feeder: &mut Feeder<'_, L, S>|
+            requires { IsSync P.row × IsReady L.plan feeder.now }
+            ensures { HasRun L.plan feeder.entry.now feeder.exit.now }
+        { feeder.run(rt, pace) },
+    );
+}
+
+/// What the feeders held, where each came to its end.
+fn used_hands<'g, L: LaneState, S: Links<L::Event>>(
+    alloc: Global,
+    feeders: Vec<Feeder<'g, L, S>>,
+) -> Result<Vec<Vec<Pass>>, Memory>
+    ensures ended { IfOk result (λ v. All (λ f. f.ended ≡ true) feeders.entry.items) }
+    ensures hands { IfOk result (λ v. v.items ≡ map (λ f. f.passes) feeders.entry.items) }
+{
+    let mut hands = Vec::with_capacity(alloc, feeders.len())?;
+    for feeder in feeders {
+        let (passes, ended) = feeder.into_parts();
+        if !ended {
+            return Err(Memory);
+        }
+        hands.push_reserved(passes);
+    }
+    Ok(hands)
+}
+
+/// All events are delivered, those of each link in their order. Where a feeder meets want of memory, all are joined first.
+pub fn feed<R: Threads + Wait + Sync, P: Pace, L: LaneState + Send, S: Links<L::Event> + Sync>(
+    rt: &R,
+    alloc: Global,
+    doors: &[Door<L>],
+    links: &S,
+    hands: Vec<Vec<Pass>>,
+    pace: &P,
+) -> Result<Vec<Vec<Pass>>, Memory>
+where
+    L::Event: Send,
+    requires few { length (S.links links.now) ≤ MOST_CALLERS }
+    requires stamped { LanesFrom IsStamped 0 (S.links links.now) }
+    requires dealt { AreDealt L.plan (S.links links.now) doors.now hands.items }
+    ensures { IfOk result (λ v. AreUsed L.plan (S.links links.now) doors.now v.items) }
+{
+    let mut all = feeders(alloc, doors, links, hands)?;
+    run_all(rt, pace, all.as_mut_slice());
+    used_hands(alloc, all)
+}

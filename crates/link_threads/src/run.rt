@@ -1,0 +1,39 @@
+//! A thread for each link.
+ghost use Rattle.std.specs.Prelude.{◌<◌, ◌≤◌, length, All, IfOk};
+ghost use Rattle.right_book.specs.Lanes.{LanesFrom};
+ghost use Rattle.lane_gate.specs.declared.gate.TheConstants.{MOST_CALLERS};
+ghost use Rattle.link_threads.specs.Pairs.{Beside};
+ghost use Rattle.link_threads.specs.Links.{IsStamped};
+ghost use Rattle.link_threads.specs.Gates.{HasTaken, IsAtOpening};
+
+use crate::closing::close_all;
+use crate::dealing::open;
+use crate::feeders::feed;
+use crate::lane_name::Named;
+use crate::links::Links;
+use lane_gate::LaneState;
+use relay_base::{Memory, Pace};
+use std::alloc::Global;
+use std::sync::Wait;
+use std::thread::Threads;
+
+/// Lanes take what comes on the links: a feeder for each link, in a thread of its own, delivers the events of its link in their order to the lanes in which
+/// they are placed, and all are joined. Where one of them meets want of memory, so does this.
+pub fn take_events<
+    R: Threads + Wait + Sync,
+    P: Pace,
+    L: LaneState + Named + Send,
+    S: Links<L::Event> + Sync,
+>(rt: &R, alloc: Global, links: &S, lanes: Vec<L>, pace: &P) -> Result<Vec<L>, Memory>
+where
+    L::Event: Send,
+    requires some { 0 < length (S.links links.now) }
+    requires few { length (S.links links.now) ≤ MOST_CALLERS }
+    requires stamped { LanesFrom IsStamped 0 (S.links links.now) }
+    requires lanes { All (IsAtOpening L.plan L.taken L.name_of (S.links links.now)) lanes.items }
+    ensures { IfOk result (λ v. Beside (HasTaken L.plan L.taken) lanes.items v.items) }
+{
+    let (doors, hands) = open(alloc, links, lanes)?;
+    let hands = feed(rt, alloc, doors.as_slice(), links, hands, pace)?;
+    close_all(alloc, links, doors, hands)
+}
