@@ -33,12 +33,12 @@ use Rattle.right_book.specs.Editions.{changes_of, edition_of, editions_before, e
 use Rattle.right_book.specs.Lanes.{LaneKind, LanesFrom, IsRouted, conn_kind, data_kind}
 use Rattle.node_engine.specs.Running.{IsConnLaneOf, IsDataLaneOf, IsOf, IsRightSoFar, IsCounted, AreRightSoFar, HasRoom, LaneTook, Went, book_of, conn_journals, data_journals}
 use Rattle.node_engine.specs.Barriers.{IsAtOpening, IsOpening, HaveSeen, IsClosing}
-use Rattle.lane_turns.specs.Pairs.{PairsFrom}
+use Rattle.link_threads.specs.Pairs.{PairsFrom}
 use Rattle.lane_turns.specs.Plans.{planned, AreWhole}
 use Rattle.lane_turns.specs.Seats.{SeatState, Seated, SeatKind, IsSeen, IsSeenRouting, IsSeenEntry, WentOn, conn_seat, conn_seated, data_seat, data_seated}
 use Rattle.lane_turns.specs.Phases.{PhaseState, GoesOn, HasRoomFor, conns_seated}
 use Rattle.right_book.proofs.ListLemmas.{weaker, weaker-two, all-append, all-map, all-mapped, map-twice, any-lanes, lanes-all, lanes-weaker, lanes-map, lanes-mapped}
-use Rattle.lane_turns.proofs.PairLemmas.{pairs-length, pairs-lanes, pairs-map, pairs-all}
+use Rattle.link_threads.proofs.PairLemmas.{pairs-length, pairs-lanes, pairs-map, pairs-all}
 use Rattle.node_engine.proofs.EditionLemmas.{Grows, before-all, before-more, upto-whole}
 use Rattle.node_engine.proofs.LaneLemmas.{stands-kept, known-editions}
 use Rattle.node_engine.proofs.CountLemmas.{counted-legal}

@@ -21,7 +21,7 @@ use Rattle.right_book.specs.Heads.{routing_of, lane_head_of, control_head_of}
 use Rattle.right_book.specs.Placed.{in_control}
 use Rattle.right_book.specs.Editions.{changes_of, editions_in}
 use Rattle.right_book.specs.Lanes.{LaneKind, LanesFrom, IsRouted, conn_kind, data_kind}
-use Rattle.lane_turns.specs.Pairs.{PairsFrom}
+use Rattle.link_threads.specs.Pairs.{PairsFrom}
 use Rattle.lane_turns.specs.Plans.{planned, AreWhole}
 
 -- the journals of lanes
