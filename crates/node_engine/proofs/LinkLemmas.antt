@@ -1,5 +1,5 @@
 -- What is known of events of which each link's are known.
-use Rattle.std.proofs.Common.{◌≡◌, ℕ, zero, suc, ◌+◌, ◌-◌, ◌≤◌, ◌<◌, ◌==◌, Bool, true, false, not, cond, List, [], ◌∷◌, ◌++◌, length, map, get_or, refl, sym, ap, ◌∙◌, subst, arith, length-append, zero-add, add-zero, inl, inr}
+use Rattle.std.proofs.Common.{◌≡◌, ℕ, zero, suc, ◌+◌, ◌-◌, ◌≤◌, ◌==◌, Bool, true, false, not, cond, List, [], ◌∷◌, length, map, get_or, refl, sym, ap, ◌∙◌, subst, arith, length-append, zero-add, add-zero, inl, inr}
 use Rattle.std.specs.Prelude.{◌≢◌, filter}
 use Rattle.std.specs.List.{AllByRecursion}
 use Rattle.std.proofs.lemmas.Bool.{eqb-true, cases_Bool}
@@ -13,7 +13,6 @@ use Rattle.node_head.specs.declared.head.Head.{Head}
 use Rattle.capture_form.specs.Events.{Stamped, phase_events, AreOfLinks}
 use Rattle.capture_form.specs.Place.{place_of}
 use Rattle.capture_form.specs.declared.lane_place.LanePlace.{LanePlace}
-use Rattle.right_book.specs.Placed.{taken}
 use Rattle.right_book.proofs.ListLemmas.{weaker, all-filter}
 use Rattle.lane_turns.specs.Plans.{of_link, planned, AreWhole}
 use Rattle.node_engine.specs.Running.{Took}

@@ -1,5 +1,5 @@
 -- The lanes come to their places at the opening of a phase, and leave them at its end.
-use Rattle.std.specs.Prelude.{◌≡◌, true, List, length, map}
+use Rattle.std.specs.Prelude.{◌≡◌, ◌++◌, true, List, length, map, reverse}
 use Rattle.std.specs.List.{AllByRecursion}
 use Rattle.plant_core.specs.Plant.{PlantState}
 use Rattle.gtt_editions.specs.Published.{published, nothing, Begins}
@@ -31,6 +31,11 @@ pub record IsAtOpening (lane : ControlState) (place : Standing) : Type 0 where
 pub record AreSeated {A : Type 0} (control : ControlState) (lanes : List A) (seats : List (SeatState A)) : Type 0 where
   pub lanes_are : map (λ s. s.lane) seats ≡ lanes
   pub places : AllByRecursion (IsAtOpening control) (map (λ s. s.place) seats)
+
+-- the lanes of the first list have the last places, those of the second the ones before
+pub record HaveTaken {A B : Type 0} (places : List Standing) (firsts : List (SeatState A)) (seconds : List (SeatState B)) : Type 0 where
+  pub left : List Standing
+  pub are : places ≡ (left ++ reverse (map (λ s. s.place) seconds)) ++ reverse (map (λ s. s.place) firsts)
 
 -- the lanes of a node, at the opening of a phase
 pub record IsOpening (node : Node) (lanes : PhaseState) : Type 0 where

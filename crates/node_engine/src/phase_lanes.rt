@@ -3,7 +3,7 @@ ghost use Rattle.std.specs.Prelude.{◌≡◌, ◌≤◌, ◌<◌, ◌+◌, ◌+
 ghost use Rattle.std.specs.List.{AllByRecursion};
 ghost use Rattle.gtt_editions.specs.Published.{Begins};
 ghost use Rattle.scmg.specs.Control.{IsControlJournal};
-ghost use Rattle.node_engine.specs.Barriers.{IsPlantOf, IsFresh, IsAtOpening, AreSeated, HaveSeen, IsOpening, IsClosing};
+ghost use Rattle.node_engine.specs.Barriers.{IsPlantOf, IsFresh, IsAtOpening, AreSeated, HaveTaken, HaveSeen, IsOpening, IsClosing};
 
 use crate::node::{ConnLaneList, DataLaneList, Node};
 use gtt_editions::{Ended, PlaceList, Publisher, editions};
@@ -86,6 +86,23 @@ fn opened<'r, R: Wait>(
     editions(rt, alloc, plant, places)
 }
 
+/// The lanes beside the control lane, each at a place of its own.
+fn both_seated<'r, R: Wait>(
+    alloc: Global,
+    conns: ConnLaneList,
+    units: DataLaneList,
+    mut places: PlaceList<'r, R>,
+) -> Result<(ConnSeatList<'r, R>, DataSeatList<'r, R>), Memory>
+    requires { length conns.items + length units.items ≤ length places.items }
+    ensures conns { IfOk result (λ t. map (λ s. s.lane) t.0.items ≡ conns.items) }
+    ensures units { IfOk result (λ t. map (λ s. s.lane) t.1.items ≡ units.items) }
+    ensures places { IfOk result (λ t. HaveTaken places.entry.items t.0.items t.1.items) }
+{
+    let conns = seated(alloc, conns, &mut places)?;
+    let units = seated(alloc, units, &mut places)?;
+    Ok((conns, units))
+}
+
 /// The publisher of a phase, and the lanes beside the control lane, each at a place of its own.
 fn placed_lanes<'r, R: Wait>(
     rt: &'r R,
@@ -102,9 +119,8 @@ fn placed_lanes<'r, R: Wait>(
     ensures units { IfOk result (λ lanes. AreSeated control.now units.items lanes.units) }
 {
     let count = conns.len() + units.len();
-    let (publisher, mut places) = opened(rt, alloc, control, count as u8)?;
-    let conns = seated(alloc, conns, &mut places)?;
-    let units = seated(alloc, units, &mut places)?;
+    let (publisher, places) = opened(rt, alloc, control, count as u8)?;
+    let (conns, units) = both_seated(alloc, conns, units, places)?;
     Ok(PhaseLanes {
         publisher: PhasePublisher { publisher },
         conns,
