@@ -16,10 +16,13 @@ use relay_base::{Memory, Stamp};
 use std::marker::Brand;
 use std::sync::Wait;
 use std::sync::atomic::Ordering;
-use std::{hint, mem};
+use std::{hint, mem, thread};
 
-/// How often a caller that waits looks for the end of a turn before it sleeps: a turn takes about as long.
-const LOOKS: u32 = 200;
+/// How often a caller that waits looks for the end of a turn before it lets other threads run.
+const LOOKS: u32 = 40;
+
+/// How often it lets other threads run before it sleeps.
+const YIELDS: u32 = 100;
 
 impl<L: LaneState> Gate<L> {
     // Takes the turn, and the lane with it, or tells who has it.
@@ -101,10 +104,15 @@ impl<L: LaneState> Gate<L> {
         }
     }
 
+    // Whether this caller has the turn.
+    fn is_held_by(&self, holder: u8) -> bool {
+        self.table.shared.peek(0) == u64::from(holder) + 1
+    }
+
     // Whether the turn of this caller ended within so many looks.
     fn ends_soon(&self, holder: u8) -> bool {
         for _ in 0..LOOKS {
-            if self.table.shared.peek(0) != u64::from(holder) + 1 {
+            if !self.is_held_by(holder) {
                 return true;
             }
             hint::spin_loop();
@@ -112,9 +120,20 @@ impl<L: LaneState> Gate<L> {
         false
     }
 
+    // Whether it ended while other threads ran: one of them may be its caller, where there are more threads than processors.
+    fn ends_meanwhile(&self, holder: u8) -> bool {
+        for _ in 0..YIELDS {
+            if !self.is_held_by(holder) {
+                return true;
+            }
+            thread::yield_now();
+        }
+        false
+    }
+
     // Waits for the end of this caller's turn. It may end early.
     fn wait_for<R: Wait>(&self, rt: &R, holder: u8) {
-        if !self.ends_soon(holder) {
+        if !self.ends_soon(holder) && !self.ends_meanwhile(holder) {
             self.sleeping.fetch_add(1, Ordering::SeqCst);
             self.table.shared.park(rt, 0, u32::from(holder) + 1);
             self.sleeping.fetch_sub(1, Ordering::SeqCst);
