@@ -33,7 +33,7 @@ use Rattle.conn_lane.proofs.Keeps.{keeps_all}
 use Rattle.conn_lane.proofs.NewSeats.{IsFree, among_free, orderly_keeps, orderly_none}
 use Rattle.conn_lane.proofs.HeardAt.{nobody_named}
 use Rattle.std.proofs.lemmas.List.Elements.{All-nil}
-use Rattle.relay_base.specs.declared.limits.TheConstants.{SLOTS}
+use Rattle.relay_base.specs.declared.limits.TheConstants.{MOST_LANES, SLOTS}
 use Rattle.local_refs.specs.Slots.{free_references}
 use Rattle.local_refs.specs.declared.state.SlotState.TheVariants.{Free}
 use Rattle.section_coupling.specs.declared.side.Side.{Side}
@@ -161,7 +161,7 @@ lane_grows plant head number journal before after entry lane grows =
     }
 
 -- a lane before its first event
-pub lane_begins : (head : LaneHead) (number : ℕ) → number < 16 → IsCredit head.terms.credit
+pub lane_begins : (head : LaneHead) (number : ℕ) → number < MOST_LANES → IsCredit head.terms.credit
     → IsConnLane head number [] (record { taken = 0; kept = []; slots = record { lane = number; freeze = head.terms.ticks.freeze; states = replicate SLOTS Free }; owners = replicate (SLOTS + 1) None })
 lane_begins head number lanes credit =
     record {
@@ -287,7 +287,7 @@ opened_of head number keeps o wish answer at =
 
 -- what a new connection changes
 opened_makes : (head : LaneHead) (number : ℕ) (event : Event) (keeps : List Remnant) (o : OpeningsState) (answer : Option Answer) (duo : Option DuoState) (outputs : List Output) (change : Change)
-    → number < 16 → StandsIn head number keeps o → is_wish (wish_of head.terms event) ≡ true
+    → number < MOST_LANES → StandsIn head number keeps o → is_wish (wish_of head.terms event) ≡ true
     → opened_in (lane_of head number) keeps (wish_of head.terms event) answer ≡ record { connection = option_map (duo_at o.taken) duo; outs = outputs } → IfSome duo (λ d. d.ticks ≡ head.terms.ticks)
     → Opens duo change → Makes change o o.taken (keeps_in (lane_of head number) keeps event (wish_of head.terms event) answer)
 opened_makes head number event keeps o answer None outputs change within at wish opens ticks so =
@@ -309,7 +309,7 @@ opened_makes head number event keeps o answer (Some d) outputs (Opened new) with
     let all : keeps_in lane keeps event w answer ≡ keeps ++ remnant_of head.terms.ticks (record { first = c; since = [] }) ∷ [] =
     ap₂ (λ ks x. ks ++ new_remnant head.terms.ticks x) (open_unheard head.terms event keeps wish at.stands.orderly) some in
     subst (Makes (Opened new) o o.taken) (sym all)
-    (makes_opened o keeps head.terms.ticks d new (lowest_in lane keeps count) (subst (λ n. n < 16) (sym at.lane) within) at.stands
+    (makes_opened o keeps head.terms.ticks d new (lowest_in lane keeps count) (subst (λ n. n < MOST_LANES) (sym at.lane) within) at.stands
     (subst (λ refs. Before refs (free_references o.slots)) same (lowest_before o.slots count)) first are ticks (sym at.freeze) so.0
     (so.1 ∙ side_reference 0 o.taken d.pair.this) (so.2 ∙ side_reference 0 o.taken d.pair.that)
     (subst AreOrderly all (orderly_keeps lane keeps event w answer within at.stands.orderly)))
@@ -320,7 +320,7 @@ opened_makes head number event keeps o answer (Some d) outputs (Opened new) with
 
 -- an event that opens a connection
 pub open_comes : (plant : PlantState) (head : LaneHead) (number : ℕ) (event : Event) (o : OpeningsState) (routing : Option Asked) (duo : Option DuoState) (outputs : List Output) (change : Change)
-    → number < 16 → is_wish (wish_of head.terms event) ≡ true → routing ≡ conn_asked_of head plant event
+    → number < MOST_LANES → is_wish (wish_of head.terms event) ≡ true → routing ≡ conn_asked_of head plant event
     → opened head.terms (wish_of head.terms event) (answer_in routing) (lowest_of o.slots (slots_needed (wish_of head.terms event) (answer_in routing))) ≡ record { connection = option_map (duo_at o.taken) duo; outs = outputs }
     → IfSome duo (λ d. d.ticks ≡ head.terms.ticks) → Opens duo change → (keeps : List Remnant) → StandsIn head number keeps o
     → Fits change o × Comes plant head number event keeps o (changed change o) routing outputs

@@ -4,7 +4,7 @@ use Rattle.std.specs.List.{list_any, range_with_len}
 use Rattle.std.proofs.lemmas.Bool.{not-true, and_parts, or_cases}
 use Rattle.std.proofs.lemmas.Nat.{div-mul-add}
 use Rattle.std.proofs.lemmas.List.Elements.{All-nil, All-cons, All-push, All-map, All-take, All-weaker, All-filter, filter_passes}
-use Rattle.relay_base.specs.declared.limits.TheConstants.{SLOTS}
+use Rattle.relay_base.specs.declared.limits.TheConstants.{MOST_LANES, SLOTS}
 use Rattle.relay_base.specs.declared.words.Event.{Event}
 use Rattle.plant_core.specs.declared.answer.Answer.{Answer}
 use Rattle.plant_core.specs.declared.terms.Ticks.{Ticks}
@@ -52,12 +52,12 @@ free_slots keeps = λ k d within.
       free = not-true (list_any (takes_slot (get_or (free_in keeps) k d)) keeps) (filter_passes (λ slot. not (list_any (takes_slot slot) keeps)) (range_with_len 1 SLOTS) k d within);
     }
 
-free_reference : (lane : Lane) (keeps : List Remnant) (slot : ℕ) → lane.number < 16 → IsFreeSlot keeps slot → IsFree lane.number keeps (reference_of_slot lane.number slot)
+free_reference : (lane : Lane) (keeps : List Remnant) (slot : ℕ) → lane.number < MOST_LANES → IsFreeSlot keeps slot → IsFree lane.number keeps (reference_of_slot lane.number slot)
 free_reference lane keeps slot within is =
-    let same : slot ≡ slot_of (reference_of_slot lane.number slot) = sym (div-mul-add slot 16 lane.number within) in
+    let same : slot ≡ slot_of (reference_of_slot lane.number slot) = sym (div-mul-add slot MOST_LANES lane.number within) in
     record { some = subst (λ s. 1 ≤ s) same is.some; in_lane = subst (λ s. s < SLOTS + 1) same is.below; reference = ap (reference_of_slot lane.number) same; free = subst (λ s. list_any (takes_slot s) keeps ≡ false) same is.free }
 
-pub lowest_free : (lane : Lane) (keeps : List Remnant) (count : ℕ) → lane.number < 16 → All (IsFree lane.number keeps) (lowest_in lane keeps count)
+pub lowest_free : (lane : Lane) (keeps : List Remnant) (count : ℕ) → lane.number < MOST_LANES → All (IsFree lane.number keeps) (lowest_in lane keeps count)
 lowest_free lane keeps count within = by_test (length free == count)
   where
     free : List ℕ
@@ -115,7 +115,7 @@ new_is_apart lane keeps ticks c slot are takes =
     (seat_is_free lane keeps ticks.freeze slot that (reference_of c.that) are.1)
     (or_cases (sits slot (seat_by ticks.freeze this (reference_of c.this))) (sits slot (seat_by ticks.freeze that (reference_of c.that))) takes)
 
-pub among_free : (lane : Lane) (keeps : List Remnant) (wish : Wish) (answer : Option Answer) → lane.number < 16 → AreAmong (IsFree lane.number keeps) (opened_in lane keeps wish answer).connection
+pub among_free : (lane : Lane) (keeps : List Remnant) (wish : Wish) (answer : Option Answer) → lane.number < MOST_LANES → AreAmong (IsFree lane.number keeps) (opened_in lane keeps wish answer).connection
 among_free lane keeps wish answer within =
     opened_among (IsFree lane.number keeps) lane.terms wish answer (lowest_in lane keeps (slots_needed wish answer)) (lowest_free lane keeps (slots_needed wish answer) within)
 
@@ -137,7 +137,7 @@ orderly_after event keeps orderly =
 
 -- one more event, and what it opens
 pub orderly_keeps : (lane : Lane) (keeps : List Remnant) (event : Event) (wish : Wish) (answer : Option Answer)
-    → lane.number < 16 → AreOrderly keeps → AreOrderly (keeps_in lane keeps event wish answer)
+    → lane.number < MOST_LANES → AreOrderly keeps → AreOrderly (keeps_in lane keeps event wish answer)
 orderly_keeps lane keeps event wish answer within orderly =
     orderly_with lane.number event keeps lane.terms.ticks (opened_in lane keeps wish answer).connection
     (among_free lane keeps wish answer within) (orderly_after event keeps orderly)

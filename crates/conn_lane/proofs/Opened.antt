@@ -6,7 +6,7 @@ use Rattle.std.proofs.lemmas.List.{map-append}
 use Rattle.std.proofs.lemmas.List.Elements.{All-push}
 use Rattle.std.proofs.lemmas.Nat.{div-mul-add}
 use Rattle.relay_base.specs.References.{slot_of, reference_of_slot}
-use Rattle.relay_base.specs.declared.limits.TheConstants.{SLOTS}
+use Rattle.relay_base.specs.declared.limits.TheConstants.{MOST_LANES, SLOTS}
 use Rattle.local_refs.specs.Slots.{LaneSlots, is_free, free_from, free_references}
 use Rattle.local_refs.specs.declared.state.SlotState.{SlotState}
 use Rattle.local_refs.specs.declared.state.SlotState.TheVariants.{Held}
@@ -129,7 +129,7 @@ free_rises (state ∷ states) slot a b more is = by_test (is_free state) is (fre
         omega (arith, same, free_above states (slot + 1) b more rest)
     by_test false e later = later e
 
-pub two_apart : (slots : LaneSlots) (a b : ℕ) (more : List ℕ) → slots.lane < 16 → free_references slots ≡ a ∷ b ∷ more → slot_of a < slot_of b
+pub two_apart : (slots : LaneSlots) (a b : ℕ) (more : List ℕ) → slots.lane < MOST_LANES → free_references slots ≡ a ∷ b ∷ more → slot_of a < slot_of b
 two_apart slots a b more within is = by_free (free_from 1 slots.states) refl is
   where
     by_free : (xs : List ℕ) → free_from 1 slots.states ≡ xs → map (reference_of_slot slots.lane) xs ≡ a ∷ b ∷ more → slot_of a < slot_of b
@@ -138,7 +138,7 @@ two_apart slots a b more within is = by_free (free_from 1 slots.states) refl is
     by_free (x ∷ y ∷ xs) e f =
         let first : reference_of_slot slots.lane x ≡ a = cc in
         let second : reference_of_slot slots.lane y ≡ b = cc in
-        omega (arith, free_rises slots.states 1 x y xs e, ap slot_of first, ap slot_of second, div-mul-add x 16 slots.lane within, div-mul-add y 16 slots.lane within)
+        omega (arith, free_rises slots.states 1 x y xs e, ap slot_of first, ap slot_of second, div-mul-add x MOST_LANES slots.lane within, div-mul-add y MOST_LANES slots.lane within)
 
 -- The slots and the index.
 
@@ -207,7 +207,7 @@ new_below lane keeps None is = tt
 new_below lane keeps (Some m) is = is.in_lane
 
 -- the ends of a new opening take different slots
-new_ends : (g h : Option ℕ) (slots : LaneSlots) (rest : List ℕ) → slots.lane < 16 → free_references slots ≡ listed g ++ (listed h ++ rest) → IfSome h (λ m. sits (slot_of m) (seat_new g) ≡ false)
+new_ends : (g h : Option ℕ) (slots : LaneSlots) (rest : List ℕ) → slots.lane < MOST_LANES → free_references slots ≡ listed g ++ (listed h ++ rest) → IfSome h (λ m. sits (slot_of m) (seat_new g) ≡ false)
 new_ends g None slots rest within is = tt
 new_ends None (Some m) slots rest within is = refl
 new_ends (Some n) (Some m) slots rest within is = elsewhere n (slot_of m) None (λ e. let less = two_apart slots n m rest within is in omega (arith, less, e))
@@ -235,7 +235,7 @@ new_is ticks c this that =
     kept_alike one two three = rw (one, two, three) refl
 
 -- the new connection, with what it takes
-pub makes_opened : (o : OpeningsState) (keeps : List Remnant) (ticks : Ticks) (d : DuoState) (new : NewConnection) (refs : List ℕ) → o.slots.lane < 16 → Stands keeps o → Before refs (free_references o.slots) → TakesFirst refs (duo_at o.taken d)
+pub makes_opened : (o : OpeningsState) (keeps : List Remnant) (ticks : Ticks) (d : DuoState) (new : NewConnection) (refs : List ℕ) → o.slots.lane < MOST_LANES → Stands keeps o → Before refs (free_references o.slots) → TakesFirst refs (duo_at o.taken d)
     → EndsAre (IsFree o.slots.lane keeps) (duo_at o.taken d) → d.ticks ≡ ticks → ticks.freeze ≡ o.slots.freeze → new.one ≡ d → new.this ≡ reference_of (duo_at o.taken d).this → new.that ≡ reference_of (duo_at o.taken d).that
     → AreOrderly (keeps ++ remnant_of ticks (record { first = duo_at o.taken d; since = [] }) ∷ [])
     → Makes (Opened new) o o.taken (keeps ++ remnant_of ticks (record { first = duo_at o.taken d; since = [] }) ∷ [])

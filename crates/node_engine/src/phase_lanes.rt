@@ -1,6 +1,7 @@
 //! The lanes of a phase: each comes to its place at a barrier, and leaves it at the next one.
 ghost use Rattle.std.specs.Prelude.{◌≡◌, ◌≤◌, ◌<◌, ◌+◌, ◌++◌, true, length, map, reverse, IfOk, OnOk};
 ghost use Rattle.std.specs.List.{AllByRecursion};
+ghost use Rattle.relay_base.specs.declared.limits.TheConstants.{MOST_LANES};
 ghost use Rattle.gtt_editions.specs.Published.{Begins};
 ghost use Rattle.scmg.specs.Control.{IsControlJournal};
 ghost use Rattle.node_engine.specs.Barriers.{IsPlantOf, IsFresh, IsAtOpening, AreSeated, HaveTaken, HaveSeen, IsOpening, IsClosing};
@@ -112,8 +113,8 @@ fn placed_lanes<'r, R: Wait>(
     units: DataLaneList,
 ) -> Result<PhaseLanes<'r, R>, Memory>
     requires some { 0 < length conns.items }
-    requires conns { length conns.items ≤ 16 }
-    requires units { length units.items ≤ 16 }
+    requires conns { length conns.items ≤ MOST_LANES }
+    requires units { length units.items ≤ MOST_LANES }
     ensures publisher { IfOk result (λ lanes. IsFresh control.now lanes.publisher) }
     ensures conns { IfOk result (λ lanes. AreSeated control.now conns.items lanes.conns) }
     ensures units { IfOk result (λ lanes. AreSeated control.now units.items lanes.units) }
@@ -142,8 +143,8 @@ pub fn opened_lanes<'r, R: Wait>(
     node: Node,
 ) -> Result<(ControlLane, PhaseLanes<'r, R>), Memory>
     requires some { 0 < length node.conns.items }
-    requires conns { length node.conns.items ≤ 16 }
-    requires units { length node.units.items ≤ 16 }
+    requires conns { length node.conns.items ≤ MOST_LANES }
+    requires units { length node.units.items ≤ MOST_LANES }
     ensures control { IfOk result (λ t. t.0 ≡ node.control) }
     ensures open { IfOk result (λ t. IsOpening node t.1) }
     ensures legal { IsControlJournal node.control.head node.control.start node.control.journal }
