@@ -29,6 +29,7 @@ generator_head = record {
   timers = USUAL_TICKS;
   row = [];
   replicate = [];
+  short = [];
 }
 
 -- ---- the sequence of numbers

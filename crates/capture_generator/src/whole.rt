@@ -32,6 +32,7 @@ fn generator_head(alloc: Global) -> Result<Head, Memory>
         timers: USUAL_TICKS,
         row: RowList::new(alloc),
         replicate: ReplicateList::new(alloc),
+        short: PcList::new(alloc),
     })
 }
 

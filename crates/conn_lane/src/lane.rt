@@ -48,7 +48,7 @@ impl Drop for ConnLane {
     fn drop(self) {
         let Self {
             alloc: _,
-            head: _,
+            head: _head,
             number: _,
             journal: _journal,
             openings: _openings,
@@ -91,9 +91,9 @@ struct Turn {
 
 /// A lane's head and number.
 #[derive(Clone, Copy)]
-struct Context {
+struct Context<'a> {
     alloc: Global,
-    head: LaneHead,
+    head: &'a LaneHead,
     number: u8,
 }
 
@@ -138,7 +138,7 @@ fn needed(event: &Event, answer: Option<&Answer>) -> u8
     }
 }
 
-impl Context {
+impl Context<'_> {
     /// Opens a connection with the lowest free references.
     fn begin(
         &self,
@@ -147,19 +147,19 @@ impl Context {
         openings: &Openings,
     ) -> Result<Begun, Memory>
         requires taken { openings.now.taken ≤ 4_294_967_295 }
-        requires credit { IsCredit self.now.head.terms.credit }
-        requires answered { let wish = wish_of self.now.head.terms event.now in
+        requires credit { IsCredit self.now.head.now.terms.credit }
+        requires answered { let wish = wish_of self.now.head.now.terms event.now in
             IsAnswered wish (answer_in asked.now) }
-        ensures opened { let wish = wish_of self.now.head.terms event.now in
+        ensures opened { let wish = wish_of self.now.head.now.terms event.now in
             let answer = answer_in asked.now in
             let lowest = lowest_of openings.now.slots (slots_needed wish answer) in
-            IfOk result (λ b. opened self.now.head.terms wish answer lowest ≡
+            IfOk result (λ b. opened self.now.head.now.terms wish answer lowest ≡
             record {
               connection = option_map (duo_at openings.now.taken) b.duo;
               outs = b.outs;
             }) }
         ensures ticks { IfOk result (λ b.
-            IfSome b.duo (λ d. d.ticks ≡ self.now.head.terms.ticks)) }
+            IfSome b.duo (λ d. d.ticks ≡ self.now.head.now.terms.ticks)) }
     {
         let answer = answer_in(asked);
         let count = needed(event, answer);
@@ -179,8 +179,8 @@ impl Context {
     fn open(&self, plant: &Plant, event: &Event, openings: &Openings) -> Result<Turn, Memory>
         requires taken { openings.now.taken ≤ 4_294_967_295 }
         requires number { self.now.number < MOST_LANES }
-        requires credit { IsCredit self.now.head.terms.credit }
-        requires wish { is_wish (wish_of self.now.head.terms event.now) ≡ true }
+        requires credit { IsCredit self.now.head.now.terms.credit }
+        requires wish { is_wish (wish_of self.now.head.now.terms event.now) ≡ true }
         ensures turns { IfOk result (λ turn.
             TurnsInto plant.now self.now event.now openings.now turn) }
         ensures woken { (wakes : ℕ → Bool) → IfOk result (λ turn.
@@ -201,7 +201,7 @@ impl Context {
         requires standing { IsStanding openings.now }
         requires taken { openings.now.taken ≤ 4_294_967_295 }
         requires event { is_tick event.now ≡ false }
-        requires wish { is_wish (wish_of self.now.head.terms event.now) ≡ false }
+        requires wish { is_wish (wish_of self.now.head.now.terms event.now) ≡ false }
         ensures turns { (plant : PlantState) →
             IfOk result (λ turn. TurnsInto plant self.now event.now openings.now turn) }
         ensures woken { (wakes : ℕ → Bool) → IfOk result (λ turn.
@@ -248,7 +248,7 @@ impl Context {
         requires quiet { AreQuiet openings.now.taken openings.now.kept }
         requires taken { openings.now.taken ≤ 4_294_967_295 }
         requires number { self.now.number < MOST_LANES }
-        requires credit { IsCredit self.now.head.terms.credit }
+        requires credit { IsCredit self.now.head.now.terms.credit }
         ensures turns { IfOk result (λ turn.
             TurnsInto plant.now self.now event.now openings.now turn) }
         ensures woken { let due = due_now wheel.now.armed in IfOk result (λ turn.
@@ -277,11 +277,11 @@ impl Context {
         requires quiet { AreQuiet openings.now.taken openings.now.kept }
         requires taken { openings.now.taken ≤ 4_294_967_295 }
         requires number { self.now.number < MOST_LANES }
-        requires credit { IsCredit self.now.head.terms.credit }
-        ensures grows { IfOk result (λ r. Grows plant.now self.now.head self.now.number
+        requires credit { IsCredit self.now.head.now.terms.credit }
+        ensures grows { IfOk result (λ r. Grows plant.now self.now.head.now self.now.number
             openings.now (changed r.0 openings.now) r.1) }
         ensures fits { (keeps : List Remnant) →
-            StandsIn self.now.head self.now.number keeps openings.now →
+            StandsIn self.now.head.now self.now.number keeps openings.now →
             IfOk result (λ r. Fits r.0 openings.now) }
         ensures woken { let due = due_now wheel.now.armed in IfOk result (λ r.
             WakesDue (λ n. is_due n due) openings.now.kept r.0) }
@@ -317,7 +317,7 @@ impl ConnLane {
         let openings = Openings::new(alloc, number, head.terms.ticks.freeze)?;
         Ok(ConnLane {
             alloc,
-            head: *head,
+            head: head.copy(alloc)?,
             number,
             journal: EntryList::new(alloc),
             openings,
@@ -343,7 +343,7 @@ impl ConnLane {
     {
         let context = Context {
             alloc: self.alloc,
-            head: self.head,
+            head: &self.head,
             number: self.number,
         };
         let (change, entry) = context.entry(plant, stamp, event, &self.openings, &self.wheel)?;
@@ -366,7 +366,7 @@ impl ConnLane {
     {
         let Self {
             alloc: _,
-            head: _,
+            head: _head,
             number: _,
             journal,
             openings: _openings,

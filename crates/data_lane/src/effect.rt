@@ -93,7 +93,7 @@ fn piece_of(segment: Segment, ssn: Ssn) -> Piece
 #[derive(Clone, Copy)]
 pub struct Context<'a> {
     pub alloc: Global,
-    pub head: LaneHead,
+    pub head: &'a LaneHead,
     pub number: u8,
     pub cut: u32,
     pub plant: &'a Plant,

@@ -32,7 +32,7 @@ impl Drop for DataLane {
     fn drop(self) {
         let Self {
             alloc: _,
-            head: _,
+            head: _head,
             number: _,
             journal: _journal,
             cut: _,
@@ -107,7 +107,7 @@ impl DataLane {
     {
         Ok(DataLane {
             alloc,
-            head: *head,
+            head: head.copy(alloc)?,
             number,
             journal: EntryList::new(alloc),
             cut: 0,
@@ -131,7 +131,7 @@ impl DataLane {
     {
         let context = Context {
             alloc: self.alloc,
-            head: self.head,
+            head: &self.head,
             number: self.number,
             cut: self.cut,
             plant,
@@ -174,7 +174,7 @@ impl DataLane {
     {
         let Self {
             alloc: _,
-            head: _,
+            head: _head,
             number: _,
             journal,
             cut: _,

@@ -13,7 +13,7 @@ use Rattle.node_head.specs.Lines.{halves, joined}
 use Rattle.node_head.specs.Head.{table_of, counts_of, values_of, head_of_text, begun}
 use Rattle.node_head.specs.Keys.{path, known_keys, known_tables, all_known, number_at, point_at}
 use Rattle.node_head.specs.Tables.{tables_value}
-use Rattle.node_head.specs.Numbers.{numbers_value, concerned_value}
+use Rattle.node_head.specs.Numbers.{numbers_value, points_value}
 use Rattle.node_head.specs.Timers.{ticks_at, ticks_of, timers_value}
 use Rattle.node_head.specs.Rows.{rows_value}
 use Rattle.node_head.specs.Replicates.{replicates_value}
@@ -37,7 +37,7 @@ use Rattle.generator_law.proofs.Reading.{not_above, read_at, lines-read}
 -- ---- the head
 
 head-read : head_of_text (joined (codes "point = 1" ∷ codes "users = [8]" ∷ codes "conn_lanes = 4" ∷ codes "data_lanes = 4" ∷ [])) ≡ Ok generator_head
-unfolding toml_on_literals is_utf8 chars head_of_text table_of values_of counts_of path known_keys known_tables all_known number_at point_at tables_value numbers_value concerned_value ticks_at ticks_of timers_value rows_value replicates_value
+unfolding toml_on_literals is_utf8 chars head_of_text table_of values_of counts_of path known_keys known_tables all_known number_at point_at tables_value numbers_value points_value ticks_at ticks_of timers_value rows_value replicates_value
 head-read = refl
 
 begun-head : (ls : Lines) → begun (halves (head_lines ++ ls)) ≡ Ok (generator_head, 4, ls)

@@ -33,18 +33,19 @@ pub struct Node {
 }
 
 /// What a connection lane or a data lane is told of a head.
-fn lane_head_of(head: &Head) -> LaneHead
-    ensures value { result ≡ lane_head_of head.now }
-    ensures range { IsHead head.now → IsLaneHead result }
+fn lane_head_of(alloc: Global, head: &Head) -> Result<LaneHead, Memory>
+    ensures value { IfOk result (λ told. told ≡ lane_head_of head.now) }
+    ensures range { IsHead head.now → IfOk result IsLaneHead }
 {
-    LaneHead {
+    Ok(LaneHead {
         terms: Terms {
             own: head.point,
             credit: head.credit,
             ticks: head.timers,
         },
         reassembly: head.timers.reassembly,
-    }
+        short: PcList::from_slice(alloc, head.short.as_slice())?,
+    })
 }
 
 /// What the control lane is told of a head.
@@ -117,7 +118,7 @@ fn conn_lanes(alloc: Global, head: &Head) -> Result<ConnLaneList, Memory>
     ensures lanes { IfOk result (λ lanes. LanesFrom (IsConnLaneOf head.now) 0 lanes.items) }
     ensures empty { IfOk result (λ lanes. AllByRecursion (λ l. l.journal ≡ []) lanes.items) }
 {
-    let lane_head = lane_head_of(head);
+    let lane_head = lane_head_of(alloc, head)?;
     let mut lanes = Vec::new(alloc);
     for number in 0..head.conn_lanes {
         let lane = ConnLane::new(alloc, &lane_head, number)?;
@@ -133,7 +134,7 @@ fn data_lanes(alloc: Global, head: &Head) -> Result<DataLaneList, Memory>
     ensures lanes { IfOk result (λ lanes. LanesFrom (IsDataLaneOf head.now) 0 lanes.items) }
     ensures empty { IfOk result (λ lanes. AllByRecursion (λ l. l.journal ≡ []) lanes.items) }
 {
-    let lane_head = lane_head_of(head);
+    let lane_head = lane_head_of(alloc, head)?;
     let mut lanes = Vec::new(alloc);
     for number in 0..head.data_lanes {
         let lane = DataLane::new(alloc, &lane_head, number)?;

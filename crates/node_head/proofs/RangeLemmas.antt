@@ -28,7 +28,7 @@ use Rattle.node_head.specs.declared.section.TableArray.TheVariants.{Rows, Replic
 use Rattle.node_head.specs.Addable.{are_addable}
 use Rattle.node_head.specs.Entity.{digits_of}
 use Rattle.node_head.specs.Keys.{path, required, usual, number_in, number_value, number_at, point_at, text_at}
-use Rattle.node_head.specs.Numbers.{integers_after, new_number, numbers_after, numbers_value, users_value, other_points, concerned_value}
+use Rattle.node_head.specs.Numbers.{integers_after, new_number, numbers_after, numbers_value, users_value, other_points, points_value}
 use Rattle.node_head.specs.Timers.{ticks_at, ticks_of, timers_value}
 use Rattle.node_head.specs.Inner.Timers.{connection_ticks, release_ticks, waiting_ticks, management_ticks, grouped_ticks}
 use Rattle.node_head.proofs.TimerLemmas.{grouped-flat}
@@ -37,7 +37,7 @@ use Rattle.node_head.specs.Rows.{selector_at, new_prefix, prefix_at, entity_at, 
 use Rattle.node_head.specs.Replicates.{has_replicate, is_new_user, user_at, other_point_at, replicate_of, replicates_after, replicates_value}
 use Rattle.node_head.specs.Refusals.{Reads, fault, or_fault}
 use Rattle.node_head.specs.Head.{counts_of, values_of}
-use Rattle.node_head.specs.Ranges.{AreNumbers, IsReplicate, AreReplicates, IsHead}
+use Rattle.node_head.specs.Ranges.{AreNumbers, AreOthers, IsReplicate, AreReplicates, IsHead}
 use Rattle.node_head.proofs.AddableLemmas.{addable_more}
 use Rattle.relay_base.proofs.GivingLemmas.{bound}
 use Rattle.node_head.proofs.Given.{after_any, by_test}
@@ -227,14 +227,11 @@ numbers-are key b (Some d) =
     after_any (λ ns. AreNumbers b.least ns b.most) (or_fault (integers_after [] items) (fault kind.Kind key)) _ (λ zs.
     given-some (λ ns. AreNumbers b.least ns b.most) (cond (nat_lt MOST_NUMBERS (length zs)) None (numbers_after b [] zs)) (fault kind.Range key) (few-numbers b zs (nat_lt MOST_NUMBERS (length zs)) refl)))
 
-abbrev AreConcerned : ℕ → List ℕ → Type 0
-AreConcerned own points = AreNumbers 0 points (POINT_CODES - 1) × (list_any (λ point. point == own) points ≡ false)
-
-concerned-are : (own : ℕ) (d : Option Data) → IfOk (concerned_value own d) (AreConcerned own)
-unfolding concerned_value
-concerned-are own d =
-    bound (λ ns. AreNumbers 0 ns (POINT_CODES - 1)) (AreConcerned own) (numbers_value (codes "concerned") (required 0 (POINT_CODES - 1)) d) (other_points own) (numbers-are (codes "concerned") (required 0 (POINT_CODES - 1)) d)
-    (λ ns h. by_test (AreConcerned own) (list_any (λ point. point == own) ns) (Err (fault kind.Range (codes "concerned"))) (Ok ns) (λ e. tt) (λ e. (h, e)))
+points-are : (key : List ℕ) (own : ℕ) (d : Option Data) → IfOk (points_value key own d) (AreOthers own)
+unfolding points_value
+points-are key own d =
+    bound (λ ns. AreNumbers 0 ns (POINT_CODES - 1)) (AreOthers own) (numbers_value key (required 0 (POINT_CODES - 1)) d) (other_points key own) (numbers-are key (required 0 (POINT_CODES - 1)) d)
+    (λ ns h. by_test (AreOthers own) (list_any (λ point. point == own) ns) (Err (fault kind.Range key)) (Ok ns) (λ e. tt) (λ e. record { numbers = h; others = e }))
 
 -- ---- rows
 
@@ -359,22 +356,23 @@ head-in ms =
     after_any IsHead (point_at Top ms) _ (λ point.
     bound (λ ns. AreNumbers LEAST_USER ns GREATEST_USER) IsHead (users_value (get_member (codes "users") ms)) _ (numbers-are (codes "users") (required LEAST_USER GREATEST_USER) (get_member (codes "users") ms)) (λ users u.
     bound AreCounts IsHead (counts_of ms) _ (counts-within ms) (λ counts c.
-    bound (AreConcerned point) IsHead (concerned_value point (get_member (codes "concerned") ms)) _ (concerned-are point (get_member (codes "concerned") ms)) (λ concerned o.
+    bound (AreOthers point) IsHead (points_value (codes "concerned") point (get_member (codes "concerned") ms)) _ (points-are (codes "concerned") point (get_member (codes "concerned") ms)) (λ concerned o.
     bound AreTicks IsHead (timers_value (get_member (codes "timers") ms)) _ (timers-within (get_member (codes "timers") ms)) (λ timers t.
     bound (λ rows. IsTrue (are_addable [] rows)) IsHead (rows_value point (get_member (codes "row") ms)) _ (rows-are point (get_member (codes "row") ms)) (λ row r.
     bound (AreReplicates point users) IsHead (replicates_value point users (get_member (codes "replicate") ms)) _ (replicates-are point users (get_member (codes "replicate") ms)) (λ replicates p.
+    bound (AreOthers point) IsHead (points_value (codes "short") point (get_member (codes "short") ms)) _ (points-are (codes "short") point (get_member (codes "short") ms)) (λ short s.
     record {
       users = u;
       conn_lanes = c.conn_lanes;
       data_lanes = c.data_lanes;
       links = c.links;
       credit = c.credit;
-      concerned = o.0;
-      concerned_others = o.1;
+      concerned = o;
       timers = t;
       rows = r;
       replicates = p;
-    })))))))
+      short = s;
+    }))))))))
 
 -- a head that was read is in its ranges
 pub read_in_range : (r : Result Head HeadRefused) (ms : Members) → Reads r (values_of ms) → IfOk r IsHead

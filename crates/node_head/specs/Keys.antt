@@ -36,7 +36,7 @@ is_stated Top key =
     same key (codes "point") || same key (codes "users")
     || same key (codes "conn_lanes") || same key (codes "data_lanes") || same key (codes "links")
     || same key (codes "credit") || same key (codes "concerned") || same key (codes "timers")
-    || same key (codes "row") || same key (codes "replicate")
+    || same key (codes "row") || same key (codes "replicate") || same key (codes "short")
 is_stated Timers key =
     same key (codes "connect") || same key (codes "ias") || same key (codes "iar") || same key (codes "rel")
     || same key (codes "repeat") || same key (codes "int") || same key (codes "reset") || same key (codes "reassembly")

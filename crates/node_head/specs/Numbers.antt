@@ -1,4 +1,4 @@
--- The lists of different numbers in a head: its local users, and the points that are concerned.
+-- The lists of different numbers in a head: its local users, the points that are concerned, and those that can't take an LUDT.
 use Rattle.std.specs.Prelude.{ℕ, ℤ, ◌-◌, ◌==◌, nat_lt, codes, List, [], ◌∷◌, ◌++◌, length, if◌then◌else◌, Option, Some, None, Ok, Err, option_and_then}
 use Rattle.std.specs.List.{list_any}
 use Rattle.std.specs.declared.result.Result.{Result}
@@ -40,9 +40,9 @@ abbrev pub users_value : Option Data → Result (List ℕ) HeadFault
 users_value d = numbers_value (codes "users") (required LEAST_USER GREATEST_USER) d
 
 -- points of which the own one is none
-abbrev pub other_points : ℕ → List ℕ → Result (List ℕ) HeadFault
-other_points own points = if list_any (λ point. point == own) points then Err (fault kind.Range (codes "concerned")) else Ok points
+abbrev pub other_points : List ℕ → ℕ → List ℕ → Result (List ℕ) HeadFault
+other_points key own points = if list_any (λ point. point == own) points then Err (fault kind.Range key) else Ok points
 
--- the points that are concerned
-unfoldable pub concerned_value : ℕ → Option Data → Result (List ℕ) HeadFault
-concerned_value own d = numbers_value (codes "concerned") (required 0 (POINT_CODES - 1)) d >>= other_points own
+-- the points at a key
+unfoldable pub points_value : List ℕ → ℕ → Option Data → Result (List ℕ) HeadFault
+points_value key own d = numbers_value key (required 0 (POINT_CODES - 1)) d >>= other_points key own

@@ -15,6 +15,11 @@ pub record AreNumbers (least : ℕ) (numbers : List ℕ) (most : ℕ) : Type 0 w
   pub distinct : IsDistinct nat_eq numbers
   pub few : length numbers ≤ MOST_NUMBERS
 
+-- at most 16 different points, not the own one
+pub record AreOthers (own : ℕ) (points : List ℕ) : Type 0 where
+  pub numbers : AreNumbers 0 points (POINT_CODES - 1)
+  pub others : list_any (λ point. point == own) points ≡ false
+
 -- a user, and another point that has it too
 pub record IsReplicate (own : ℕ) (users : List ℕ) (replicate : Replicate) : Type 0 where
   pub user : list_any (λ user. user == replicate.ssn) users ≡ true
@@ -32,8 +37,8 @@ pub record IsHead (head : Head) : Type 0 where
   pub data_lanes : IsWithin 1 head.data_lanes MOST_LANES
   pub links : IsWithin 1 head.links MOST_LINKS
   pub credit : IsWithin 1 head.credit GREATEST_CREDIT
-  pub concerned : AreNumbers 0 head.concerned (POINT_CODES - 1)
-  pub concerned_others : list_any (λ point. point == head.point) head.concerned ≡ false
+  pub concerned : AreOthers head.point head.concerned
   pub timers : AreTicks head.timers
   pub rows : IsTrue (are_addable [] head.row)
   pub replicates : AreReplicates head.point head.users head.replicate
+  pub short : AreOthers head.point head.short

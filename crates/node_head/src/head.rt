@@ -38,6 +38,8 @@ pub struct Head {
     pub row: RowList,
     /// The replicates of local users: at most one for each user, not at the own point.
     pub replicate: ReplicateList,
+    /// The points that can't take an LUDT or an LUDTS: at most 16 different ones, not the own one.
+    pub short: PcList,
 }
 
 /// How many lanes and links a head states, and its greatest credit.

@@ -1,10 +1,10 @@
-//! The lists of different numbers in a head: its local users, and the points that are concerned.
+//! The lists of different numbers in a head: its local users, the points that are concerned, and those that can't take an LUDT.
 ghost use Rattle.std.specs.Prelude.{◌≡◌, ◌<◌, [], IfOk};
 ghost use Rattle.toml.specs.View.{array_view};
 ghost use Rattle.node_head.specs.Inner.Sections.{integers_in, data_in};
 ghost use Rattle.node_head.specs.Keys.{number_in};
 ghost use Rattle.node_head.specs.Refusals.{Reads};
-ghost use Rattle.node_head.specs.Numbers.{integers_after, new_number, numbers_after, numbers_value, users_value, other_points, concerned_value};
+ghost use Rattle.node_head.specs.Numbers.{integers_after, new_number, numbers_after, numbers_value, users_value, other_points, points_value};
 
 use crate::fault::{HeadKind, HeadRefused};
 use crate::head::{GREATEST_USER, LEAST_USER};
@@ -116,25 +116,25 @@ pub fn users_of(alloc: Global, value: Option<&Value>) -> Result<SsnList, HeadRef
 }
 
 /// Refuses points among which the own one is.
-fn other_points(alloc: Global, own: Pc, points: PcList) -> Result<PcList, HeadRefused>
-    ensures { Reads result (other_points own points) }
+fn other_points(alloc: Global, key: &str, own: Pc, points: PcList) -> Result<PcList, HeadRefused>
+    ensures { Reads result (other_points key.now own points) }
 {
     if points.as_slice().contains(&own) {
-        return Err(refuse(alloc, HeadKind::Range, "concerned"));
+        return Err(refuse(alloc, HeadKind::Range, key));
     }
     Ok(points)
 }
 
-/// The points that are concerned, none where the key is absent.
-#[tactic(auto, using(crate::proofs::HeadLemmas::failures), unfolding(crate::specs::Numbers::concerned_value))]
-pub fn concerned_of(alloc: Global, own: Pc, value: Option<&Value>) -> Result<PcList, HeadRefused>
-    ensures { Reads result (concerned_value own (data_in value.entry)) }
+/// The points at a key, none where it is absent.
+#[tactic(auto, using(crate::proofs::HeadLemmas::failures), unfolding(crate::specs::Numbers::points_value))]
+pub fn points_of(
+    alloc: Global,
+    key: &str,
+    own: Pc,
+    value: Option<&Value>,
+) -> Result<PcList, HeadRefused>
+    ensures { Reads result (points_value key.now own (data_in value.entry)) }
 {
-    let points = numbers_of(
-        alloc,
-        "concerned",
-        &Bounds::required(0, POINT_CODES - 1),
-        value,
-    )?;
-    other_points(alloc, own, points)
+    let points = numbers_of(alloc, key, &Bounds::required(0, POINT_CODES - 1), value)?;
+    other_points(alloc, key, own, points)
 }

@@ -143,6 +143,7 @@ fn is_top_key(key: &str) -> bool
             | "timers"
             | "row"
             | "replicate"
+            | "short"
     )
 }
 

@@ -1,5 +1,8 @@
 //! What a lane is told at its start.
-use relay_base::{Pc, PlainList, Ssn};
+ghost use Rattle.std.specs.Prelude.{◌≡◌, IfOk};
+
+use relay_base::{Memory, Pc, PcList, PlainList, Ssn};
+use std::alloc::Global;
 
 /// The most ticks of a timer.
 pub const MOST_TICKS: u32 = 65_535;
@@ -57,11 +60,28 @@ pub struct Terms {
     pub ticks: Ticks,
 }
 
-/// What a lane is made with: the terms of its connections, and the ticks of a reassembly (1 to 65,535).
-#[derive(Clone, Copy)]
+/// What a lane is made with.
+#[derive(Drop)]
 pub struct LaneHead {
+    /// The terms of its connections.
     pub terms: Terms,
+    /// The ticks of a reassembly, 1 to 65,535.
     pub reassembly: u32,
+    /// The points that can't take an LUDT or an LUDTS: at most 16 different ones, not the own one.
+    pub short: PcList,
+}
+
+impl LaneHead {
+    /// An equal head.
+    pub fn copy(&self, alloc: Global) -> Result<LaneHead, Memory>
+        ensures { IfOk result (λ h. h ≡ self.now) }
+    {
+        Ok(LaneHead {
+            terms: self.terms,
+            reassembly: self.reassembly,
+            short: PcList::from_slice(alloc, self.short.as_slice())?,
+        })
+    }
 }
 
 /// A subsystem that another point has too, by which a local user may be replaced (Q.714, 5.3.5).

@@ -10,7 +10,11 @@ routing_of head = record (start_of head.point head.users) { rows = head.row }
 
 -- what a connection lane or a data lane is told of a head
 abbrev pub lane_head_of : Head → LaneHead
-lane_head_of head = record { terms = record { own = head.point; credit = head.credit; ticks = head.timers }; reassembly = head.timers.reassembly }
+lane_head_of head = record {
+  terms = record { own = head.point; credit = head.credit; ticks = head.timers };
+  reassembly = head.timers.reassembly;
+  short = head.short;
+}
 
 -- what the control lane is told of a head
 abbrev pub control_head_of : Head → ControlHead

@@ -2,7 +2,7 @@
 use crate::common::{octets, point, selection, ticks};
 use data_lane::DataLane;
 use plant_core::{LaneHead, Plant, Terms};
-use relay_base::{BoxedOctets, Event, Octets, Output, Outs, Request, Ssn, Stamp};
+use relay_base::{BoxedOctets, Event, Octets, Output, Outs, PcList, Request, Ssn, Stamp};
 use std::alloc::Global;
 use std::process::Abort;
 
@@ -86,6 +86,7 @@ fn lane(rt: &impl Abort, alloc: Global, number: u8) -> DataLane {
     let head = LaneHead {
         terms,
         reassembly: 15,
+        short: PcList::new(alloc),
     };
     DataLane::new(alloc, &head, number).expect(rt, "memory")
 }

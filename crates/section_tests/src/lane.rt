@@ -16,7 +16,7 @@ use std::test::Fail;
 const MOST_EVENTS: usize = 5_000;
 
 /// Point 100, where connections have a credit of 7.
-fn lane_head() -> LaneHead
+fn lane_head(alloc: Global) -> LaneHead
     ensures { result.terms.credit ≡ 7 }
 {
     let terms = Terms {
@@ -27,6 +27,7 @@ fn lane_head() -> LaneHead
     LaneHead {
         terms,
         reassembly: USUAL_TICKS.reassembly,
+        short: PcList::new(alloc),
     }
 }
 
@@ -41,7 +42,7 @@ impl Scene {
     /// The first lane of point 100, which has subsystem 8.
     fn new(alloc: Global) -> Result<Scene, Memory> {
         let plant = Plant::start(alloc, Pc::new(100).unwrap(), &[Ssn::from(8)])?;
-        let lane = ConnLane::new(alloc, &lane_head(), 0)?;
+        let lane = ConnLane::new(alloc, &lane_head(alloc), 0)?;
         Ok(Scene { plant, lane })
     }
 

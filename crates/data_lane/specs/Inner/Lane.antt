@@ -29,4 +29,4 @@ abbrev pub asked_in : Context → Option Question → Option Asked
 asked_in c asks = asked_at c.plant.now.edition c.plant.now.routing asks
 
 abbrev pub effect_in : Context → Matter → Option Asked → Effect
-effect_in c matter asked = effect_by c.head c.number c.cut matter (answer_in asked)
+effect_in c matter asked = effect_by c.head.now c.number c.cut matter (answer_in asked)

@@ -8,7 +8,7 @@ returns-clause-grows c =
     λ keeps at.
     let o = c.args.openings.now in
     let turn = c.in_ok-change.field-0 in
-    subst (λ outs. Comes c.args.plant.now c.args.self.now.head c.args.self.now.number c.args.event keeps o (changed turn.change o) turn.asked outs)
+    subst (λ outs. Comes c.args.plant.now c.args.self.now.head.now c.args.self.now.number c.args.event keeps o (changed turn.change o) turn.asked outs)
     (sym c.fitted.ensures) (c.in_ok-change.ensures.turns.comes keeps at).1
 
 pub returns-clause-fits : goal.returns-clause-fits

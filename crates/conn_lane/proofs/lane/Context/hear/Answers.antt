@@ -6,6 +6,6 @@ returns-clause-turns c =
     λ plant.
     record {
       comes = λ keeps at.
-          hear_comes plant c.args.self.now.head c.args.self.now.number c.args.event.now c.args.openings.now c.in_ok-change.part c.in_ok-outs.outs c.in_ok-change.change keeps
+          hear_comes plant c.args.self.now.head.now c.args.self.now.number c.args.event.now c.args.openings.now c.in_ok-change.part c.in_ok-outs.outs c.in_ok-change.change keeps
           c.requires.event c.requires.wish (c.in_ok-change.ensures.part keeps at.stands) c.in_ok-outs.ensures (c.in_ok-change.ensures.makes keeps at.stands);
     }

@@ -8,7 +8,7 @@ use Rattle.conn_lane.proofs.lane.Context.open.Goals as goal
 
 pub open-requires : goal.open-requires
 open-requires c =
-    let terms = c.args.self.now.head.terms in
+    let terms = c.args.self.now.head.now.terms in
     let wish = wish_of terms c.args.event.now in
     let answer = answer_in c.asked_by-asked.result in
     record { alive = opened_alive c.args.openings.now.taken terms wish answer (lowest_of c.args.openings.now.slots (slots_needed wish answer)) c.in_ok-begun.begun.duo (ap (λ x. x.connection) c.in_ok-begun.ensures.opened) }
@@ -17,6 +17,6 @@ pub returns-clause-turns : goal.returns-clause-turns
 returns-clause-turns c =
     record {
       comes = λ keeps at.
-          open_comes c.args.plant.now c.args.self.now.head c.args.self.now.number c.args.event.now c.args.openings.now c.asked_by-asked.result c.in_ok-begun.begun.duo c.in_ok-begun.begun.outs c.in_ok-change.change
-          c.requires.number c.requires.wish (c.asked_by-asked.ensures c.args.self.now.head) c.in_ok-begun.ensures.opened c.in_ok-begun.ensures.ticks c.in_ok-change.ensures.opens keeps at;
+          open_comes c.args.plant.now c.args.self.now.head.now c.args.self.now.number c.args.event.now c.args.openings.now c.asked_by-asked.result c.in_ok-begun.begun.duo c.in_ok-begun.begun.outs c.in_ok-change.change
+          c.requires.number c.requires.wish (c.asked_by-asked.ensures c.args.self.now.head.now) c.in_ok-begun.ensures.opened c.in_ok-begun.ensures.ticks c.in_ok-change.ensures.opens keeps at;
     }

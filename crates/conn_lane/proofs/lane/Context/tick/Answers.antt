@@ -11,7 +11,7 @@ returns-clause-turns c =
     λ plant.
     record {
       comes = λ keeps at.
-          tick_comes plant c.args.self.now.head c.args.self.now.number c.args.openings.now c.in_ok-change.outs c.in_ok-change.change keeps
+          tick_comes plant c.args.self.now.head.now c.args.self.now.number c.args.openings.now c.in_ok-change.outs c.in_ok-change.change keeps
           (c.in_ok-change.ensures.outs keeps at.stands) (c.in_ok-change.ensures.makes keeps at.stands);
     }
 

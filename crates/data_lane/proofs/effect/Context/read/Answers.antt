@@ -46,5 +46,5 @@ returns-clause-asked c =
 
 pub returns-clause-effect : goal.returns-clause-effect
 returns-clause-effect c =
-    effect-outcome c.args.self.now.head c.args.self.now.number c.args.self.now.cut c.args.opc c.args.sls _ (seen_ask c.in-Ok-Some.ask) c.asked-asked.result.answer
+    effect-outcome c.args.self.now.head.now c.args.self.now.number c.args.self.now.cut c.args.opc c.args.sls _ (seen_ask c.in-Ok-Some.ask) c.asked-asked.result.answer
     c.in_ok-outs.outs c.unit_outs.new.outs c.in_ok-next.next c.work_of.result c.with-2.result (asks c) c.in_ok-outs.ensures c.in_ok-next.ensures.ok c.in_ok-next.ensures.next c.work_of.ensures c.with-2.ensures

@@ -21,5 +21,5 @@ returns-clause-asked c =
 
 pub returns-clause-effect : goal.returns-clause-effect
 returns-clause-effect c =
-    effect-sending c.args.self.now.head c.args.self.now.number c.args.self.now.cut _ (seen_ask c.in-Some.ask) c.asked-asked.result.answer
+    effect-sending c.args.self.now.head.now c.args.self.now.number c.args.self.now.cut _ (seen_ask c.in-Some.ask) c.asked-asked.result.answer
     c.in_ok-outs.outs c.user_outs.new.outs c.in_ok-is_cut.is_cut (asks c) c.in_ok-outs.ensures c.in_ok-is_cut.ensures.ok c.in_ok-is_cut.ensures.cut
