@@ -5,8 +5,8 @@ use crate::outputs::assert_outs;
 use conn_lane::ConnLane;
 use plant_core::{LaneHead, Plant, Terms, USUAL_TICKS};
 use relay_base::{
-    BoxedOctets, Event, Lost, Memory, Octets, Output, Outs, Pc, Ref24, Request, Sls, Ssn, Stamp,
-    Tell,
+    BoxedOctets, Event, Lost, Memory, Octets, Output, Outs, Pc, PcList, Ref24, Request, Sls, Ssn,
+    Stamp, Tell,
 };
 use std::alloc::Global;
 use std::process::Abort;
