@@ -5,13 +5,13 @@ use Rattle.std.specs.List.{AllByRecursion, IsDistinct}
 use Rattle.plant_core.specs.Terms.{AreTicks}
 use Rattle.plant_core.specs.declared.terms.TheConstants.{USUAL_TICKS}
 use Rattle.node_head.specs.declared.head.TheConstants.{GREATEST_USER, LEAST_USER}
-use Rattle.node_head.specs.Ranges.{AreNumbers, AreReplicates, IsHead}
+use Rattle.node_head.specs.Ranges.{AreNumbers, AreOthers, AreReplicates, IsHead}
 use Rattle.relay_base.specs.declared.words.Event.{Event}
 use Rattle.relay_base.specs.declared.words.Event.TheVariants.{Asked}
 use Rattle.relay_base.specs.declared.words.Request.TheVariants.{Accept}
 use Rattle.plant_core.specs.declared.entry.ControlEvent.{ControlEvent}
 use Rattle.plant_core.specs.declared.entry.ControlEvent.TheVariants.{Plain}
-use Rattle.relay_base.specs.declared.limits.TheConstants.{MOST_GENERATED_LINES, OCTET_VALUES, POINT_CODES}
+use Rattle.relay_base.specs.declared.limits.TheConstants.{MOST_GENERATED_LINES, OCTET_VALUES}
 use Rattle.capture_form.specs.declared.steps.TheConstants.{MOST_LINES}
 use Rattle.capture_form.specs.Events.{Stamped, phase_events, all_events, AreOfLinks, AreOfPhases}
 use Rattle.capture_form.specs.Links.{comes_on_link, AreOnLinks, AreLinked}
@@ -31,9 +31,9 @@ head-users : AreNumbers LEAST_USER (8 ∷ []) GREATEST_USER
 unfolding IsDistinct
 head-users = record { each = ((omega arith, omega arith), tt); distinct = (tt, tt); few = omega arith }
 
-head-concerned : AreNumbers 0 [] (POINT_CODES - 1)
+head-others : AreOthers 1 []
 unfolding IsDistinct
-head-concerned = record { each = tt; distinct = tt; few = omega arith }
+head-others = record { numbers = record { each = tt; distinct = tt; few = omega arith }; others = refl }
 
 head-replicates : AreReplicates 1 (8 ∷ []) []
 unfolding IsDistinct
@@ -62,11 +62,11 @@ head-within = record {
   data_lanes = (omega arith, omega arith);
   links = (omega arith, omega arith);
   credit = (omega arith, omega arith);
-  concerned = head-concerned;
-  concerned_others = refl;
+  concerned = head-others;
   timers = ticks-within;
   rows = search rules;
   replicates = head-replicates;
+  short = head-others;
 }
 
 -- ---- stamps
