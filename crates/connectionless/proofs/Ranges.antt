@@ -1,11 +1,12 @@
 -- The units that a user gives may be written.
 use Rattle.std.proofs.Common.{◌≡◌, ℕ, ◌+◌, ◌≤◌, List, [], ◌∷◌, length, Bool, true, false, refl, sym, subst, arith, take, drop, length-take, length-append}
-use Rattle.std.specs.Prelude.{◌&&◌, not, nat_le, IsTrue, Some, None}
+use Rattle.std.specs.Prelude.{◌&&◌, not, nat_le, IsTrue, Option, Some, None}
 use Rattle.std.proofs.lemmas.Bool.{leb-true}
 use Rattle.std.proofs.lemmas.Bool.Decides.{nat_tests}
-use Rattle.connectionless.specs.declared.outgoing.TheConstants.{SEGMENT_ROOM}
+use Rattle.connectionless.specs.declared.cutting.TheConstants.{SEGMENT_ROOM}
 use Rattle.relay_base.specs.declared.limits.TheConstants.{LONGEST_GIVEN_ADDRESS, LONGEST_GIVEN_UNIT, LONGEST_PARAMETER}
 use Rattle.plant_core.specs.Rewriting.{called_onward}
+use Rattle.connectionless.specs.Cutting.{importance_size}
 use Rattle.connectionless.specs.Given.{Given, Outgoing, is_cut}
 use Rattle.connectionless.specs.Inner.Units.{IsInRange, IsShort}
 use Rattle.plant_core.proofs.AddressLengths.{length-called_onward}
@@ -15,10 +16,12 @@ use Rattle.q713_codec.specs.Writing.{is_in_range}
 use Rattle.q713_codec.specs.declared.longest.TheConstants.{LONGEST}
 use Rattle.q713_codec.specs.declared.message.Message.TheVariants.{Udt, Xudt}
 
-pub segment-in_range : (first hop : ℕ) (called calling body segmentation : List ℕ) → length called + length calling + length body ≤ SEGMENT_ROOM → length segmentation ≡ 4
-    → IsTrue (is_in_range (Xudt first hop called calling body (Some segmentation) None))
+pub segment-in_range : (first hop : ℕ) (called calling body segmentation : List ℕ) (importance : Option ℕ) → length called + length calling + length body + importance_size importance ≤ SEGMENT_ROOM → length segmentation ≡ 4
+    → IsTrue (is_in_range (Xudt first hop called calling body (Some segmentation) importance))
 unfolding is_in_range are_in_range
-segment-in_range first hop called calling body segmentation few four =
+segment-in_range first hop called calling body segmentation None few four =
+    grind (arith, nat_tests, length-append {A = ℕ})
+segment-in_range first hop called calling body segmentation (Some level) few four =
     grind (arith, nat_tests, length-append {A = ℕ})
 
 pub whole-in_range : (first : ℕ) (called calling body : List ℕ) → length called + length calling ≤ 252 → length body ≤ LONGEST_PARAMETER

@@ -1,5 +1,5 @@
 -- What a message and a request ask of routing, and what comes of them, as the calls tell it (Q.714, 2.3 and 4.1).
-use Rattle.std.specs.Prelude.{ℕ, [], false, if◌then◌else◌, Option, Some, None, Ok, Err, IsSome, IfSome, IsOk}
+use Rattle.std.specs.Prelude.{◌≡◌, ℕ, [], false, if◌then◌else◌, Option, Some, None, Ok, Err, IsSome, IfSome, IsOk}
 use Rattle.std.specs.declared.result.Result.{Result}
 use Rattle.relay_base.specs.declared.words.Request.{Request}
 use Rattle.relay_base.specs.declared.words.Request.TheVariants.{Unit as UnitRequest}
@@ -14,7 +14,7 @@ use Rattle.q713_codec.specs.Names.{Message}
 use Rattle.connectionless.specs.Unitdata.{Unitdata, unitdata_of}
 use Rattle.connectionless.specs.Given.{Given, Sending, is_unit_request, given_outcome}
 use Rattle.connectionless.specs.Routed.{Outcome, done, unit_outcome}
-use Rattle.connectionless.specs.Asking.{question_of}
+use Rattle.connectionless.specs.Asking.{is_of_wrong_class, question_of}
 
 -- what a message asks, if it is of the connectionless service, or why it is lost
 abbrev pub some_question : Result Question Lost → Result (Option Question) Lost
@@ -49,6 +49,10 @@ outcome_of own opc sls (Some x) answer = unit_outcome own opc sls x answer
 pub record IsRoutable (message : Message) : Type 0 where
   pub unit : IsSome (unitdata_of message)
   pub address : IfSome (unitdata_of message) (λ x. IsOk (address_of x.called))
+
+-- a unit whose class is at most 1, or a service message
+abbrev pub IsOfClass : Message → Type 0
+IsOfClass message = IfSome (unitdata_of message) (λ x. is_of_wrong_class x ≡ false)
 
 -- a request that isn't a unit in its ranges has no outputs
 abbrev pub sending_of : Option Given → Answer → ℕ → Sending

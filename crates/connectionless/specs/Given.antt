@@ -1,6 +1,5 @@
 -- A user's unit (Q.711, N-UNITDATA request; Q.714, 4.1 and 4.1.1).
-use Rattle.std.specs.Prelude.{ℕ, ◌+◌, ◌-◌, ◌*◌, ◌/◌, ◌%◌, ◌==◌, ◌&&◌, nat_le, not, is_ok, unwrap_or, Bool, true, false, List, [], ◌∷◌, length, map, take, drop, if◌then◌else◌, Option, Some, None}
-use Rattle.std.specs.List.{range_with_len}
+use Rattle.std.specs.Prelude.{ℕ, ◌+◌, ◌*◌, ◌%◌, ◌&&◌, nat_le, not, is_ok, unwrap_or, Bool, true, false, List, [], ◌∷◌, length, if◌then◌else◌, Option, Some, None}
 use Rattle.relay_base.specs.declared.limits.TheConstants.{LONGEST_GIVEN_ADDRESS, LONGEST_GIVEN_UNIT, LONGEST_PARAMETER, MOST_LANES, REFERENCES}
 use Rattle.relay_base.specs.declared.words.Output.{Output}
 use Rattle.relay_base.specs.declared.words.Output.TheVariants.{Sent, Told, Lost as Dropped}
@@ -15,11 +14,9 @@ use Rattle.plant_core.specs.declared.answer.Answer.TheVariants.{Local, Forward, 
 use Rattle.plant_core.specs.declared.answer.Rewrite.{Rewrite}
 use Rattle.plant_core.specs.declared.answer.TheConstants.{MOST_HOPS}
 use Rattle.plant_core.specs.Causes.{return_code}
-use Rattle.q713_codec.specs.Messages.{octets3}
 use Rattle.q713_codec.specs.declared.longest.TheConstants.{LONGEST}
-use Rattle.connectionless.specs.declared.outgoing.TheConstants.{SEGMENT_ROOM}
-use Rattle.connectionless.specs.declared.unitdata.Kind.TheVariants.{Extended}
-use Rattle.connectionless.specs.Unitdata.{Unitdata, basic, with_hop}
+use Rattle.connectionless.specs.Cutting.{Cutting, return_bit, segment_outputs}
+use Rattle.connectionless.specs.Unitdata.{Unitdata, basic}
 use Rattle.connectionless.specs.Leaving.{unit_octets}
 use Rattle.plant_core.specs.Rewriting.{called_onward}
 
@@ -64,10 +61,6 @@ pub record Outgoing : Type 0 where
   pub point : ℕ
   pub reference : ℕ
 
--- bit 8 of the class octet (Q.713, 3.6)
-abbrev pub return_bit : Bool → ℕ
-return_bit ret = if ret then 128 else 0
-
 -- the unit as one UDT (Q.713, 4.10)
 abbrev pub whole : Outgoing → Unitdata
 whole u = basic false (u.given.class + return_bit u.given.ret) u.called u.given.calling u.given.body
@@ -78,37 +71,27 @@ is_cut u =
     not (nat_le (length u.given.body) LONGEST_PARAMETER
     && nat_le (8 + length u.called + length u.given.calling + length u.given.body) LONGEST)
 
--- the octets of data in a full segment (Q.713, 4.18), and how many segments there are
-abbrev pub segment_size : Outgoing → ℕ
-segment_size u = SEGMENT_ROOM - length u.called - length u.given.calling
-
-abbrev pub segment_count : Outgoing → ℕ
-segment_count u = (length u.given.body + segment_size u - 1) / segment_size u
-
--- the first segment has bit 8; bit 7 is the class, and bits 4 to 1 tell how many segments remain (Q.713, 3.17)
-abbrev pub segmentation_octets : Outgoing → ℕ → List ℕ
-segmentation_octets u k =
-    ((if k == 0 then 128 else 0) + 64 * u.given.class + (segment_count u - 1 - k)) ∷ octets3 u.reference
-
--- the segment at place k, from 0: an XUDT of class 1 (Q.714, 4.1.1)
-abbrev pub segment : Outgoing → ℕ → Unitdata
-segment u k =
-    with_hop Extended false (1 + return_bit u.given.ret) MOST_HOPS u.called u.given.calling
-    (take (segment_size u) (drop (segment_size u * k) u.given.body))
-    (Some (segmentation_octets u k)) None
-
-unfoldable pub segment_output : Outgoing → ℕ → Output
-segment_output u k = Sent u.point u.given.sls (unit_octets (segment u k))
-
-abbrev pub segment_outputs : Outgoing → List Output
-segment_outputs u = map (segment_output u) (range_with_len 0 (segment_count u))
+-- what is cut: it leaves its origin, and has no importance
+abbrev pub cutting : Outgoing → Cutting
+cutting u = record {
+  point = u.point;
+  sls = u.given.sls;
+  class = u.given.class;
+  ret = u.given.ret;
+  hop = MOST_HOPS;
+  called = u.called;
+  calling = u.given.calling;
+  body = u.given.body;
+  importance = None;
+  reference = u.reference;
+}
 
 unfoldable pub whole_output : Outgoing → Output
 whole_output u = Sent u.point u.given.sls (unit_octets (whole u))
 
 -- its outputs
 unfoldable pub sent_outputs : Outgoing → List Output
-sent_outputs u = if is_cut u then segment_outputs u else whole_output u ∷ []
+sent_outputs u = if is_cut u then segment_outputs (cutting u) else whole_output u ∷ []
 
 -- a refused one is told back where that was asked, with its addresses in exchange (Q.714, 4.2)
 abbrev pub refused_by : Bool → ℕ → Given → Output

@@ -2,6 +2,7 @@ pub mod Unitdata
 pub mod Leaving
 pub mod Returning
 pub mod Routed
+pub mod Cutting
 pub mod Given
 pub mod Asking
 pub mod Calls

@@ -1,13 +1,13 @@
 //! What a unit asks of routing, or why it is lost (Q.714, 4.1).
-ghost use Rattle.std.specs.Prelude.{◌≡◌, is_some, IfOk, IsOk, OnOk, OnSome};
+ghost use Rattle.std.specs.Prelude.{◌≡◌, false, is_some, IfOk, IsOk, OnOk, OnSome};
 ghost use Rattle.std.specs.Option.{option_map};
 ghost use Rattle.relay_base.specs.Giving.{Gives};
 ghost use Rattle.sccp_address.specs.Parsing.{address_of};
 ghost use Rattle.q713_codec.specs.Reading.{seen};
 ghost use Rattle.connectionless.specs.Inner.Units.{seen_unit};
-ghost use Rattle.connectionless.specs.Calls.{IsRoutable};
+ghost use Rattle.connectionless.specs.Calls.{IsRoutable, IsOfClass};
 ghost use Rattle.connectionless.specs.Given.{is_unit_request};
-ghost use Rattle.connectionless.specs.Asking.{question_of, message_in};
+ghost use Rattle.connectionless.specs.Asking.{is_of_wrong_class, question_of, message_in};
 ghost use Rattle.connectionless.specs.Calls.{message_question, user_question};
 ghost use Rattle.plant_core.specs.Asking.{seen_ask};
 
@@ -23,6 +23,7 @@ use sccp_address::parse;
 fn asked<'a>(unit: &UnitView<'a>) -> Result<Ask<'a>, Lost>
     ensures value { Gives seen_ask result (question_of (seen_unit unit.now)) }
     ensures address { OnOk result (IsOk (address_of unit.now.called.now)) }
+    ensures class { OnOk result (is_of_wrong_class (seen_unit unit.now) ≡ false) }
 {
     match parse(unit.called) {
         Err(_) => Err(Lost::Address),
@@ -37,10 +38,11 @@ fn asked<'a>(unit: &UnitView<'a>) -> Result<Ask<'a>, Lost>
 
 /// What a message asks of routing where it is of the connectionless service (Q.714); None where it is of another one. `Address`: its
 /// called address doesn't read; else `Class`: it is a unit whose class is above 1.
-#[tactic(auto, using(crate::proofs::Routable::routable), unfolding(crate::specs::Calls::message_question))]
+#[tactic(auto, using(crate::proofs::Routable::routable, crate::proofs::Routable::of_class), unfolding(crate::specs::Calls::message_question))]
 pub fn message_ask<'a>(view: &View<'a>) -> Result<Option<Ask<'a>>, Lost>
     ensures value { Gives (option_map seen_ask) result (message_question (seen view.now)) }
     ensures routable { IfOk result (λ ask. OnSome ask (IsRoutable (seen view.now))) }
+    ensures class { IfOk result (λ ask. OnSome ask (IsOfClass (seen view.now))) }
 {
     let Some(unit) = unit_of(view) else {
         return Ok(None);

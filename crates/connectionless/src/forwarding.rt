@@ -31,7 +31,8 @@ fn calling_with_origin(alloc: Global, opc: Pc, calling: &[u8]) -> Result<Octets,
     }
 }
 
-fn calling_onward(alloc: Global, opc: Pc, unit: &UnitView<'_>) -> Result<Octets, Memory>
+/// The octets of a calling address as it goes on: a service message keeps it.
+pub fn calling_onward(alloc: Global, opc: Pc, unit: &UnitView<'_>) -> Result<Octets, Memory>
     ensures { IfOk result (λ x. x ≡ calling_by unit.now.is_service opc unit.now.calling.now) }
 {
     if unit.is_service {

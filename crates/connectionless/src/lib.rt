@@ -2,6 +2,7 @@
 #![tactic(auto)]
 
 mod asking;
+mod cutting;
 mod delivery;
 mod forwarding;
 mod given;
@@ -14,7 +15,11 @@ mod unitdata;
 mod user;
 
 pub use asking::{message_ask, message_in, user_ask};
-pub use returning::return_outs;
+pub use cutting::CutUnit;
+pub use forwarding::calling_onward;
+pub use leaving::octets_of;
+pub use returning::{refusal_output, return_outs};
 pub use segment::{Next, Segment};
 pub use unit::unit_outs;
-pub use user::user_outs;
+pub use unitdata::{Kind, UnitView, message_of, unit_of};
+pub use user::{reference_after, user_outs};

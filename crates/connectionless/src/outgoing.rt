@@ -1,19 +1,17 @@
 //! A user's unit that goes to another point, as one UDT or cut into segments (Q.714, 4.1.1).
-ghost use Rattle.std.specs.Prelude.{◌≡◌, ◌≤◌, ◌<◌, false, length, take, drop, IfOk};
-ghost use Rattle.connectionless.specs.Given.{return_bit, is_cut, segment_size, segment_count, segmentation_octets, whole_output, segment_output, segment_outputs, sent_outputs};
-ghost use Rattle.connectionless.specs.Inner.Units.{seen_outgoing, IsShort};
+ghost use Rattle.std.specs.Prelude.{◌≡◌, false, IfOk};
+ghost use Rattle.connectionless.specs.Given.{is_cut, cutting, whole_output, sent_outputs};
+ghost use Rattle.connectionless.specs.Inner.Units.{seen_outgoing, seen_cut, IsShort, IsCuttable};
 
+use crate::cutting::{CutUnit, return_bit};
 use crate::given::GivenView;
 use crate::leaving::octets_of;
 use crate::unitdata::{Kind, UnitView};
 use plant_core::MOST_HOPS;
-use q713_codec::{LONGEST, octets3};
+use q713_codec::LONGEST;
 use relay_base::limits::LONGEST_PARAMETER;
 use relay_base::{Memory, Output, Outs, Pc, Ref24};
 use std::alloc::Global;
-
-/// What the addresses and the data of a segment have room for: an XUDT with segmentation has 17 octets beside them (Q.713, 4.18).
-pub const SEGMENT_ROOM: usize = LONGEST - 17;
 
 /// A user's unit, with its called address as it goes on, the point that it goes to, and the reference that its segments have.
 #[derive(Clone, Copy)]
@@ -22,21 +20,6 @@ pub struct OutgoingUnit<'a> {
     pub called: &'a [u8],
     pub point: Pc,
     pub reference: Ref24,
-}
-
-fn return_bit(ret: bool) -> u8
-    ensures { result ≡ return_bit ret }
-{
-    if ret { 0x80 } else { 0 }
-}
-
-/// At most this many octets from a place on.
-fn part(body: &[u8], start: usize, size: usize) -> &[u8]
-    requires { start ≤ length body.now }
-    ensures { result.now ≡ take size (drop start body.now) }
-{
-    let rest = &body[start..];
-    &rest[..size.min(rest.len())]
 }
 
 impl OutgoingUnit<'_> {
@@ -50,79 +33,25 @@ impl OutgoingUnit<'_> {
         !(given.body.len() <= LONGEST_PARAMETER && size <= LONGEST)
     }
 
-    /// The octets of data in a full segment.
-    fn segment_size(&self) -> usize
+    /// What is cut: it leaves its origin, and has no importance.
+    fn cutting(&self) -> CutUnit<'_>
         requires { IsShort (seen_outgoing self.now) }
-        ensures value { result ≡ segment_size (seen_outgoing self.now) }
-        ensures least { 170 ≤ result }
-    {
-        SEGMENT_ROOM - self.called.len() - self.given.calling.len()
-    }
-
-    /// How many segments there are.
-    fn segment_count(&self) -> usize
-        requires { IsShort (seen_outgoing self.now) }
-        ensures value { result ≡ segment_count (seen_outgoing self.now) }
-        ensures most { result ≤ 16 }
-    {
-        let size = self.segment_size();
-        (self.given.body.len() + size - 1) / size
-    }
-
-    /// The segmentation of the segment at a place, from 0.
-    fn segmentation(&self, place: usize) -> [u8; 4]
-        requires short { IsShort (seen_outgoing self.now) }
-        requires place { place < segment_count (seen_outgoing self.now) }
-        ensures { result ≡ segmentation_octets (seen_outgoing self.now) place }
-    {
-        let first_bit = if place == 0 { 0x80 } else { 0 };
-        let remaining = (self.segment_count() - 1 - place) as u8;
-        let [low, middle, high] = octets3(self.reference);
-        [
-            first_bit + 64 * self.given.class + remaining,
-            low,
-            middle,
-            high,
-        ]
-    }
-
-    /// The segment at a place, from 0.
-    #[tactic(auto, unfolding(crate::specs::Given::segment_output))]
-    fn segment(&self, alloc: Global, place: usize) -> Result<Output, Memory>
-        requires short { IsShort (seen_outgoing self.now) }
-        requires place { place < segment_count (seen_outgoing self.now) }
-        ensures { IfOk result (λ output. output ≡ segment_output (seen_outgoing self.now) place) }
+        ensures value { seen_cut result ≡ cutting (seen_outgoing self.now) }
+        ensures cuttable { IsCuttable (seen_cut result) }
     {
         let given = self.given;
-        let size = self.segment_size();
-        let unit = UnitView {
-            kind: Kind::Extended,
-            is_service: false,
-            first: 1 + return_bit(given.ret),
-            hop: Some(MOST_HOPS),
-            called: self.called,
-            calling: given.calling,
-            body: part(given.body, size * place, size),
-            segmentation: Some(self.segmentation(place)),
-            importance: None,
-        };
-        Ok(Output::Sent {
+        CutUnit {
             point: self.point,
             sls: given.sls,
-            bytes: octets_of(alloc, &unit)?,
-        })
-    }
-
-    /// All segments, in their order.
-    fn segments(&self, alloc: Global) -> Result<Outs, Memory>
-        requires { IsShort (seen_outgoing self.now) }
-        ensures { IfOk result (λ outs. outs ≡ segment_outputs (seen_outgoing self.now)) }
-    {
-        let mut outs = Outs::new(alloc);
-        for place in 0..self.segment_count() {
-            outs.push(self.segment(alloc, place)?)?;
+            class: given.class,
+            ret: given.ret,
+            hop: MOST_HOPS,
+            called: self.called,
+            calling: given.calling,
+            body: given.body,
+            importance: None,
+            reference: self.reference,
         }
-        Ok(outs)
     }
 
     /// The unit as one UDT.
@@ -159,7 +88,7 @@ impl OutgoingUnit<'_> {
         ensures cut { IfOk result (λ x. x.1 ≡ is_cut (seen_outgoing self.now)) }
     {
         if self.is_cut() {
-            return Ok((self.segments(alloc)?, true));
+            return Ok((self.cutting().segments(alloc)?, true));
         }
         let mut outs = Outs::new(alloc);
         outs.push(self.whole(alloc)?)?;

@@ -91,7 +91,7 @@ fn outcome(
 }
 
 /// The reference of the segments of the next unit that is cut in a lane (Q.713, 3.17).
-fn reference_after(lane: u8, count: u32) -> Ref24
+pub fn reference_after(lane: u8, count: u32) -> Ref24
     ensures { result ≡ reference_after lane count }
 {
     let number = (u64::from(count) * u64::from(MOST_LANES) + u64::from(lane))

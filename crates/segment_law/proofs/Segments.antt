@@ -3,7 +3,7 @@ use Rattle.std.proofs.Common.{◌≡◌, ℕ, ◌+◌, ◌-◌, ◌/◌, ◌≤�
 use Rattle.std.specs.Prelude.{◌&&◌, nat_le, is_ok, Option, Some, None, Ok, unwrap_or}
 use Rattle.std.proofs.Math.Nat.{div-lt_iff_lt-mul}
 use Rattle.std.proofs.lemmas.Bool.{leb-true}
-use Rattle.connectionless.specs.declared.outgoing.TheConstants.{SEGMENT_ROOM}
+use Rattle.connectionless.specs.declared.cutting.TheConstants.{SEGMENT_ROOM}
 use Rattle.relay_base.specs.declared.limits.TheConstants.{LONGEST_GIVEN_ADDRESS, LONGEST_GIVEN_UNIT}
 use Rattle.relay_base.specs.declared.words.Request.{Request}
 use Rattle.relay_base.specs.declared.words.Request.TheVariants.{Unit as UnitRequest}
@@ -75,8 +75,8 @@ units-few routing ssn request g a point reference rewrite hop given reads goes =
     let size : least_size ≤ SEGMENT_ROOM - length (called_onward rewrite g.called) - length g.calling = omega (arith, few.calling) in
     record {
       addresses = omega (arith, few.calling);
-      size = size;
-      count = counted (length g.body) (SEGMENT_ROOM - length (called_onward rewrite g.called) - length g.calling) few.body size;
+      size = omega (arith, size);
+      count = counted (length g.body) (SEGMENT_ROOM - length (called_onward rewrite g.called) - length g.calling - 0) few.body (omega (arith, size));
     }
   where
     counted : (n s : ℕ) → n ≤ LONGEST_GIVEN_UNIT → least_size ≤ s → (n + s - 1) / s ≤ most_segments

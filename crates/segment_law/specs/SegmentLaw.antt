@@ -12,8 +12,9 @@ use Rattle.plant_core.specs.declared.answer.Origin.{Origin}
 use Rattle.plant_core.specs.declared.answer.Origin.TheVariants.{User as FromUser}
 use Rattle.plant_core.specs.declared.answer.Rewrite.{Rewrite}
 use Rattle.plant_core.specs.declared.answer.Rewrite.TheVariants.{Set}
-use Rattle.connectionless.specs.declared.outgoing.TheConstants.{SEGMENT_ROOM}
-use Rattle.connectionless.specs.Given.{Given, Outgoing, given_of, outgoing, segment_size, segment_count}
+use Rattle.connectionless.specs.declared.cutting.TheConstants.{SEGMENT_ROOM}
+use Rattle.connectionless.specs.Cutting.{segment_size, segment_count}
+use Rattle.connectionless.specs.Given.{Given, Outgoing, given_of, outgoing, cutting}
 
 -- two addresses of the greatest length that a user may give: 80 octets
 abbrev pub most_of_addresses : ℕ
@@ -34,8 +35,8 @@ longest_translated = 5 + MOST_DIGITS / 2
 -- at most 80 octets of addresses, so at least 171 octets of data in a full segment, and at most 15 segments
 pub record IsWithinFifteen (u : Outgoing) : Type 0 where
   pub addresses : length u.called + length u.given.calling ≤ most_of_addresses
-  pub size : least_size ≤ segment_size u
-  pub count : segment_count u ≤ most_segments
+  pub size : least_size ≤ segment_size (cutting u)
+  pub count : segment_count (cutting u) ≤ most_segments
 
 pub record SegmentsAreFew : Type 0 where
   -- an address that a translation changed has at most 17 octets as it goes on
