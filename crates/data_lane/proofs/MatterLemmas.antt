@@ -15,16 +15,14 @@ use Rattle.plant_core.specs.declared.answer.Answer.{Answer}
 use Rattle.plant_core.specs.declared.terms.LaneHead.{LaneHead}
 use Rattle.q713_codec.specs.Names.{Message}
 use Rattle.connectionless.specs.Unitdata.{Unitdata, unitdata_of}
-use Rattle.connectionless.specs.declared.segment.Next.{Next}
 use Rattle.connectionless.specs.Given.{Given, given_of, given_in, is_unit_request, reference_after}
 use Rattle.connectionless.specs.Calls.{sending_of}
-use Rattle.connectionless.specs.Calls.{outcome_of}
 use Rattle.connectionless.specs.Asking.{from_network, from_user, settled, question_of, matter_by_question, matter_by_unit, matter_by_address, matter_by_given}
 use Rattle.connectionless.specs.Calls.{some_question, unit_question, message_question, user_question_by, request_question, user_question}
+use Rattle.long_interwork.specs.Routed.{routed_message}
 use Rattle.data_lane.specs.declared.effect.Effect.{Effect}
-use Rattle.data_lane.specs.declared.effect.Work.{Work}
 use Rattle.data_lane.specs.declared.effect.Work.TheVariants as work
-use Rattle.data_lane.specs.Legal.{effect_with, work_of, of_outcome, of_sending, effect_by}
+use Rattle.data_lane.specs.Legal.{of_routed, of_sending, effect_by}
 
 -- A message of the connectionless service, by its unit.
 
@@ -112,14 +110,11 @@ matter-user ssn request question e = some-if ssn request (is_unit_request reques
 
 -- What comes of them by the answer.
 
-pub effect-outcome : (head : LaneHead) (number cut opc sls : ℕ) (unit : Option Unitdata) (question : Question) (answer : Answer) (before outs : List Output) (next : Next) (todo : Work) (effect : Effect)
-    → Asks opc sls unit question → before ≡ [] → outs ≡ before ++ (outcome_of head.terms.own opc sls unit answer).outs
-    → next ≡ (outcome_of head.terms.own opc sls unit answer).next → todo ≡ work_of next → effect ≡ effect_with outs todo
+pub effect-routed : (head : LaneHead) (number cut opc sls : ℕ) (unit : Option Unitdata) (question : Question) (answer : Answer) (effect : Effect)
+    → Asks opc sls unit question → effect ≡ of_routed (routed_message head.short head.terms.own opc sls unit answer (reference_after number cut))
     → effect ≡ effect_by head number cut (matter_by_unit opc sls unit) (Some answer)
-effect-outcome head number cut opc sls unit question answer before outs next todo effect asks none put left taken made =
-    let outcome = outcome_of head.terms.own opc sls unit answer in
-    made ∙ ap (λ o. effect_with o todo) (put ∙ ap (λ b. b ++ outcome.outs) none) ∙ ap (λ w. effect_with outcome.outs w) (taken ∙ ap work_of left)
-    ∙ ap (λ u. of_outcome (outcome_of head.terms.own opc sls u answer)) asks.is
+effect-routed head number cut opc sls unit question answer effect asks made =
+    made ∙ ap (λ u. of_routed (routed_message head.short head.terms.own opc sls u answer (reference_after number cut))) asks.is
     ∙ sym (ap (λ m. effect_by head number cut m (Some answer)) asks.matter)
 
 abbrev cut_effect : List Output → Bool → Effect

@@ -23,9 +23,9 @@ use Rattle.connectionless.specs.declared.segment.Segment.{Segment}
 use Rattle.connectionless.specs.declared.segment.Next.{Next}
 use Rattle.connectionless.specs.declared.segment.Next.TheVariants.{Done, Gather}
 use Rattle.connectionless.specs.Returning.{refusal_output, unit_in}
-use Rattle.connectionless.specs.Routed.{Outcome, unit_outcome}
 use Rattle.connectionless.specs.Given.{Sending, given_outcome, reference_after}
 use Rattle.connectionless.specs.Asking.{Matter, from_network, from_user, settled, of_tick, matter_of, question_in}
+use Rattle.long_interwork.specs.Routed.{Routed, routed}
 use Rattle.data_lane.specs.declared.effect.Effect.{Effect}
 use Rattle.data_lane.specs.declared.effect.Work.{Work}
 use Rattle.data_lane.specs.declared.effect.Work.TheVariants as work
@@ -61,15 +61,16 @@ work_of (Gather segment ssn) = work.Segment (piece_of segment ssn)
 abbrev pub effect_with : List Output → Work → Effect
 effect_with outs todo = record { outs = outs; is_cut = false; work = todo }
 
-abbrev pub of_outcome : Outcome → Effect
-of_outcome x = effect_with x.outs (work_of x.next)
+abbrev pub of_routed : Routed → Effect
+of_routed x = record { outs = x.outs; is_cut = x.is_cut; work = work_of x.next }
 
 abbrev pub of_sending : Sending → Effect
 of_sending x = record { outs = x.outs; is_cut = x.is_cut; work = work.Nothing }
 
--- by the answer to what was asked, in the lane of this number after so many users' units that were cut
+-- by the answer to what was asked, in the lane of this number after so many units that were cut
 abbrev pub effect_by : LaneHead → ℕ → ℕ → Matter → Option Answer → Effect
-effect_by head number cut (from_network opc sls x q) (Some answer) = of_outcome (unit_outcome head.terms.own opc sls x answer)
+effect_by head number cut (from_network opc sls x q) (Some answer) =
+    of_routed (routed head.short head.terms.own opc sls x answer (reference_after number cut))
 effect_by head number cut (from_user g q) (Some answer) = of_sending (given_outcome g answer (reference_after number cut))
 effect_by head number cut (settled outs) answer = effect_with outs work.Nothing
 effect_by head number cut of_tick answer = effect_with [] work.Tick
@@ -119,7 +120,7 @@ worked own ticks processes work.Nothing = record { processes = processes; outs =
 worked own ticks processes (work.Segment piece) = of_taken own (takes ticks processes piece)
 worked own ticks processes work.Tick = record { processes = after_tick processes; outs = map (failure own RETURN_SEGMENTATION_FAILURE) (ended_by_tick processes) }
 
--- What the entries before leave: how many of them cut a user's unit into segments, and the reassemblies under way.
+-- What the entries before leave: how many of them cut a unit into segments, and the reassemblies under way.
 pub record State : Type 0 where
   pub cut : ℕ
   pub processes : List Process

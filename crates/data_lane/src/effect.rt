@@ -3,14 +3,18 @@ ghost use Rattle.std.specs.Prelude.{◌≡◌, [], ◌∷◌, IfOk};
 ghost use Rattle.relay_base.specs.declared.words.Output.TheVariants.{Lost as Dropped};
 ghost use Rattle.q713_codec.specs.Reading.{seen};
 ghost use Rattle.connectionless.specs.Asking.{matter_by_unit, matter_by_message, matter_by_given, message_in, question_in, matter_of};
+ghost use Rattle.connectionless.specs.Calls.{IsRoutable, IsOfClass};
 ghost use Rattle.connectionless.specs.Given.{given_of};
 ghost use Rattle.connectionless.specs.Unitdata.{unitdata_of};
 ghost use Rattle.data_lane.specs.declared.effect.Work.TheVariants as work;
 ghost use Rattle.data_lane.specs.Legal.{asked_of, piece_of, work_of, effect_with};
-ghost use Rattle.data_lane.specs.Inner.Lane.{asked_in, effect_in};
+ghost use Rattle.data_lane.specs.Inner.Lane.{asked_in, effect_in, routed_in};
 
-use connectionless::{Next, Segment, message_ask, message_in, unit_outs, user_ask, user_outs};
-use plant_core::{Asked, LaneHead, Plant};
+use connectionless::{
+    Next, Segment, message_ask, message_in, reference_after, user_ask, user_outs,
+};
+use long_interwork::{Sender, routed_outs};
+use plant_core::{Answer, Asked, LaneHead, Plant};
 use q713_codec::View;
 use reassembly::Piece;
 use relay_base::{Event, Lost, Memory, Output, Outs, Pc, Request, Sls, Ssn};
@@ -31,7 +35,7 @@ pub enum Work {
 #[derive(Drop)]
 pub struct Effect {
     pub outs: Outs,
-    /// A user's unit was cut into segments.
+    /// A unit was cut into segments.
     pub is_cut: bool,
     pub work: Work,
 }
@@ -89,7 +93,7 @@ fn piece_of(segment: Segment, ssn: Ssn) -> Piece
     }
 }
 
-/// A lane's head and number, the count of users' units that it cut, and the routing data.
+/// A lane's head and number, the count of units that it cut, and the routing data.
 #[derive(Clone, Copy)]
 pub struct Context<'a> {
     pub alloc: Global,
@@ -100,6 +104,30 @@ pub struct Context<'a> {
 }
 
 impl Context<'_> {
+    /// What comes of a unit or a service message by the answer to it.
+    fn answered(
+        &self,
+        opc: Pc,
+        sls: Sls,
+        view: &View<'_>,
+        answer: &Answer,
+    ) -> Result<Effect, Memory>
+        requires routable { IsRoutable (seen view.now) }
+        requires class { IsOfClass (seen view.now) }
+        ensures { let unit = unitdata_of (seen view.now)
+            in IfOk result (λ effect. effect ≡ routed_in self.now opc sls unit answer.now) }
+    {
+        let sender = Sender {
+            own: self.head.terms.own,
+            short: &self.head.short,
+            reference: reference_after(self.number, self.cut),
+        };
+        let mut outs = outs_of_one(self.alloc)?;
+        let (next, is_cut) = routed_outs(self.alloc, &sender, opc, sls, view, answer, &mut outs)?;
+        let work = work_of(next);
+        Ok(Effect { outs, is_cut, work })
+    }
+
     /// What comes of a message that was read.
     fn read(&self, opc: Pc, sls: Sls, view: &View<'_>) -> Result<(Option<Asked>, Effect), Memory>
         ensures asked { let matter = matter_by_unit opc sls (unitdata_of (seen view.now))
@@ -113,10 +141,8 @@ impl Context<'_> {
             Ok(Some(ask)) => ask,
         };
         let asked = asked(self.plant, &ask);
-        let mut outs = outs_of_one(self.alloc)?;
-        let own = self.head.terms.own;
-        let next = unit_outs(self.alloc, own, opc, sls, view, &asked.answer, &mut outs)?;
-        Ok((Some(asked), Effect::with(outs, work_of(next))))
+        let effect = self.answered(opc, sls, view, &asked.answer)?;
+        Ok((Some(asked), effect))
     }
 
     /// What comes of octets from the network.

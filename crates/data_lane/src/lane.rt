@@ -23,7 +23,7 @@ pub struct DataLane {
     head: LaneHead,
     number: u8,
     journal: EntryList,
-    /// How many users' units were cut into segments, as far as references tell them apart.
+    /// How many units were cut into segments, as far as references tell them apart.
     cut: u32,
     bench: Bench,
 }

@@ -1,4 +1,5 @@
 pub mod Splitting
 pub mod Playing
+pub mod Cutting
 pub mod Counting
 pub mod Owning

@@ -1,7 +1,8 @@
 -- The outputs of an entry are its own, and earlier ones stand first.
-use Rattle.std.proofs.Common.{◌≡◌, ℕ, List, [], ◌∷◌, ◌++◌, refl, sym, subst, ap, ◌∙◌, Option, Some, None, Ok, Err, append-nil, append_assoc, zero-add}
+use Rattle.std.proofs.Common.{◌≡◌, ℕ, List, [], ◌∷◌, ◌++◌, false, refl, sym, subst, ap, ◌∙◌, Option, Some, None, Ok, Err, append-nil, append_assoc, zero-add}
 use Rattle.std.specs.Prelude.{count_by}
 use Rattle.std.specs.declared.result.Result.{Result}
+use Rattle.relay_base.specs.declared.words.Event.{Event}
 use Rattle.relay_base.specs.declared.words.Event.TheVariants.{Message as Arrived}
 use Rattle.relay_base.specs.declared.words.Lost.{Lost}
 use Rattle.relay_base.specs.declared.words.Output.{Output}
@@ -16,14 +17,16 @@ use Rattle.reassembly.specs.declared.process.Process.{Process}
 use Rattle.data_lane.specs.declared.effect.Work.{Work}
 use Rattle.data_lane.specs.declared.effect.Work.TheVariants as work
 use Rattle.data_lane.specs.Legal.{State, at_first, step_of, effect_by, work_of, worked, state_after, IsLegalEntry, IsDataJournal}
-use Rattle.unit_law.specs.OwnOutputs.{IsAlone, StandsAlone, is_cut, own_outputs, outputs_after, outputs_of, OutputsAreOwn, EarlierFirst}
+use Rattle.unit_law.specs.OwnOutputs.{IsAlone, StandsAlone, is_cut_by, is_cut, own_outputs, outputs_after, outputs_of, OutputsAreOwn, EarlierFirst}
+use Rattle.unit_law.proofs.Cutting.{matter_uncut, none_cut, routed_next}
 use Rattle.unit_law.proofs.Counting.{cut_counts}
 use Rattle.unit_law.proofs.Splitting.{parted}
 
 -- what stands alone leaves the reassemblies no work
 no_work : (head : LaneHead) (number cut : ℕ) (matter : Matter) (answer : Option Answer) → IsAlone head.terms.own matter answer
     → (effect_by head number cut matter answer).work ≡ work.Nothing
-no_work head number cut (from_network opc sls x question) (Some answer) alone = ap work_of alone
+no_work head number cut (from_network opc sls x question) (Some answer) alone =
+    ap work_of (routed_next head.short head.terms.own opc sls x answer _ alone)
 no_work head number cut (from_network opc sls x question) None alone = refl
 no_work head number cut (from_user g question) (Some answer) alone = refl
 no_work head number cut (from_user g question) None alone = refl
@@ -48,34 +51,36 @@ own : (head : LaneHead) (number : ℕ) (before : List Entry) (entry : Entry) (af
 own head number before entry after legal alone =
     let s = state_after head number at_first before in
     own_after head number s entry (parted head number at_first before (entry ∷ after) legal).1.0 alone
-    ∙ ap (λ n. own_outputs head number n entry.event (answer_in entry.asked)) (cut_counts head number at_first before ∙ zero-add (count_by is_cut before))
+    ∙ ap (λ n. own_outputs head number n entry.event (answer_in entry.asked)) (cut_counts head number at_first before ∙ zero-add (count_by (is_cut head) before))
 
--- A message from the network.
+alike : (head : LaneHead) (number other cut uncut : ℕ) (event : Event) (answer : Option Answer) → is_cut_by head (matter_of event) answer ≡ false
+    → own_outputs head number cut event answer ≡ own_outputs head other uncut event answer
+alike head number other cut uncut event answer is = matter_uncut head number other cut uncut (matter_of event) answer is
 
-abbrev Uncounted : LaneHead → Matter → Type 0
-Uncounted head matter =
-    (number other cut uncut : ℕ) (answer : Option Answer) → (effect_by head number cut matter answer).outs ≡ (effect_by head other uncut matter answer).outs
+-- A message from the network, where every point takes an LUDT.
 
-question_uncounted : (head : LaneHead) (opc sls : ℕ) (x : Unitdata) (question : Result Question Lost) → Uncounted head (matter_by_question opc sls x question)
-question_uncounted head opc sls x (Ok question) number other cut uncut (Some answer) = refl
-question_uncounted head opc sls x (Ok question) number other cut uncut None = refl
-question_uncounted head opc sls x (Err lost) number other cut uncut answer = refl
+abbrev IsUncut : LaneHead → Matter → Type 0
+IsUncut head matter = (answer : Option Answer) → head.short ≡ [] → is_cut_by head matter answer ≡ false
 
-unit_uncounted : (head : LaneHead) (opc sls : ℕ) (x : Option Unitdata) → Uncounted head (matter_by_unit opc sls x)
-unit_uncounted head opc sls None number other cut uncut answer = refl
-unit_uncounted head opc sls (Some x) number other cut uncut answer = question_uncounted head opc sls x (question_of x) number other cut uncut answer
+question_uncut : (head : LaneHead) (opc sls : ℕ) (x : Unitdata) (question : Result Question Lost) → IsUncut head (matter_by_question opc sls x question)
+question_uncut head opc sls x (Ok question) (Some answer) none = none_cut head.short head.terms.own opc sls x answer 0 none
+question_uncut head opc sls x (Ok question) None none = refl
+question_uncut head opc sls x (Err lost) answer none = refl
 
-message_uncounted : (head : LaneHead) (opc sls : ℕ) (message : Result Message Lost) → Uncounted head (matter_by_message opc sls message)
-message_uncounted head opc sls (Ok message) number other cut uncut answer = unit_uncounted head opc sls (unitdata_of message) number other cut uncut answer
-message_uncounted head opc sls (Err lost) number other cut uncut answer = refl
+unit_uncut : (head : LaneHead) (opc sls : ℕ) (x : Option Unitdata) → IsUncut head (matter_by_unit opc sls x)
+unit_uncut head opc sls None answer none = refl
+unit_uncut head opc sls (Some x) answer none = question_uncut head opc sls x (question_of x) answer none
 
-uncounted : (head : LaneHead) (number other cut uncut opc sls : ℕ) (bytes : List ℕ) (answer : Option Answer)
-    → own_outputs head number cut (Arrived opc sls bytes) answer ≡ own_outputs head other uncut (Arrived opc sls bytes) answer
+message_uncut : (head : LaneHead) (opc sls : ℕ) (message : Result Message Lost) → IsUncut head (matter_by_message opc sls message)
+message_uncut head opc sls (Ok message) answer none = unit_uncut head opc sls (unitdata_of message) answer none
+message_uncut head opc sls (Err lost) answer none = refl
+
+arrived_uncut : (head : LaneHead) (opc sls : ℕ) (bytes : List ℕ) (answer : Option Answer) → head.short ≡ [] → is_cut_by head (matter_of (Arrived opc sls bytes)) answer ≡ false
 unfolding matter_of
-uncounted head number other cut uncut opc sls bytes answer = message_uncounted head opc sls (message_in bytes) number other cut uncut answer
+arrived_uncut head opc sls bytes answer none = message_uncut head opc sls (message_in bytes) answer none
 
 pub are_own : OutputsAreOwn
-are_own = record { own = own; of_message = uncounted }
+are_own = record { own = own; of_uncut = alike; of_message = arrived_uncut }
 
 -- Two entries.
 

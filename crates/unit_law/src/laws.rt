@@ -3,7 +3,8 @@ ghost use Rattle.unit_law.specs.OwnOutputs.{EarlierFirst, OutputsAreOwn};
 ghost use Rattle.unit_law.specs.Played.{JournalSplits, LegalIsPlayed};
 
 /// The outputs of an entry that is neither a tick nor a segment handed to a reassembly are those of its own event, its own answer and the
-/// count of users' units that were cut into segments before it; those of a message from the network are of its event and its answer alone.
+/// count of units that were cut into segments before it; those of an event by which nothing is cut are of it and its answer alone.
+/// Nothing from the network is cut where every point takes an LUDT.
 #[tactic(auto, using(crate::proofs::Owning::are_own))]
 pub fn outputs_are_own()
     ensures { OutputsAreOwn }

@@ -11,7 +11,7 @@ use Rattle.connectionless.specs.Asking.{Matter, settled, matter_by_unit, questio
 use Rattle.data_lane.specs.declared.effect.Work.TheVariants as work
 use Rattle.data_lane.specs.Legal.{effect_with}
 use Rattle.data_lane.specs.Inner.Lane.{asked_in, effect_in}
-use Rattle.data_lane.proofs.MatterLemmas.{Asks, matter-lost, matter-none, matter-asked, effect-outcome}
+use Rattle.data_lane.proofs.MatterLemmas.{Asks, matter-lost, matter-none, matter-asked, effect-routed}
 use Rattle.data_lane.proofs.effect.Context.read.Goals as goal
 
 abbrev told : Option Ask → Result (Option Question) Lost
@@ -36,7 +36,7 @@ pub returns-in-Ok-None-clause-effect : goal.returns-in-Ok-None-clause-effect
 returns-in-Ok-None-clause-effect c =
     c.with.ensures ∙ ap (λ outs. effect_with outs work.Nothing) c.new.ensures ∙ sym (ap (λ (m : Matter). effect_in c.args.self.now m None) (none c))
 
-asks : (c : goal.After-with-2) → Asks c.args.opc c.args.sls (unitdata_of (seen c.args.view.now)) (seen_ask c.in-Ok-Some.ask)
+asks : (c : goal.In_ok-effect) → Asks c.args.opc c.args.sls (unitdata_of (seen c.args.view.now)) (seen_ask c.in-Ok-Some.ask)
 asks c = matter-asked c.args.opc c.args.sls (seen c.args.view.now) (seen_ask c.in-Ok-Some.ask) (c.in-Ok-Some.ensures.value ∙ ap told c.in-Ok-Some.field-0-is)
 
 pub returns-clause-asked : goal.returns-clause-asked
@@ -46,5 +46,5 @@ returns-clause-asked c =
 
 pub returns-clause-effect : goal.returns-clause-effect
 returns-clause-effect c =
-    effect-outcome c.args.self.now.head.now c.args.self.now.number c.args.self.now.cut c.args.opc c.args.sls _ (seen_ask c.in-Ok-Some.ask) c.asked-asked.result.answer
-    c.in_ok-outs.outs c.unit_outs.new.outs c.in_ok-next.next c.work_of.result c.with-2.result (asks c) c.in_ok-outs.ensures c.in_ok-next.ensures.ok c.in_ok-next.ensures.next c.work_of.ensures c.with-2.ensures
+    effect-routed c.args.self.now.head.now c.args.self.now.number c.args.self.now.cut c.args.opc c.args.sls _ (seen_ask c.in-Ok-Some.ask) c.asked-asked.result.answer
+    c.in_ok-effect.effect (asks c) c.in_ok-effect.ensures

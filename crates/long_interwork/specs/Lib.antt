@@ -1,0 +1,3 @@
+pub mod Shortening
+pub mod Routed
+pub mod Inner
