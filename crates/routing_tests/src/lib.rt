@@ -12,6 +12,8 @@ mod routing_data;
 #[cfg(test)]
 mod segments;
 #[cfg(test)]
+mod short;
+#[cfg(test)]
 mod translation;
 #[cfg(test)]
 mod unit_lane;
