@@ -5,7 +5,7 @@ use Rattle.std.proofs.lemmas.Bool.{both_ways, not-true, not_from_false, eq-eqb, 
 use Rattle.std.proofs.lemmas.List.Folds.{list_any-append}
 use Rattle.relay_base.specs.declared.words.Event.{Event}
 use Rattle.section_model.specs.Step.{end_is_gone}
-use Rattle.relay_base.specs.References.{slot_of}
+use Rattle.section_model.specs.References.{slot_of}
 use Rattle.section_model.specs.Lane.{fed}
 use Rattle.conn_lane.specs.Inner.Remnants.{Live, Seat, Remnant, ticks_in, left_after, seat_after, remnant_after, is_frozen_out, sits, takes_slot}
 use Rattle.conn_lane.specs.Inner.Seated.{AreApart}

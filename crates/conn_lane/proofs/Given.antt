@@ -2,17 +2,17 @@
 use Rattle.std.proofs.Common.{◌≡◌, ℕ, ◌+◌, ◌==◌, ◌<◌, ◌≤◌, not, Bool, true, false, List, length, get_or, set, Option, Some, None, if◌then◌else◌, refl, sym, subst, ap, ◌∙◌, arith}
 use Rattle.std.proofs.lemmas.Bool.{both_ways, eq-eqb, eqb-true, or_left, or_right, and_parts, and_from, false_from_ne_true}
 use Rattle.std.proofs.lemmas.List.{set-get_or}
-use Rattle.relay_base.specs.References.{slot_of, reference_of_slot}
-use Rattle.relay_base.specs.declared.limits.TheConstants.{SLOTS}
+use Rattle.section_model.specs.References.{slot_of, lane_number_of}
 use Rattle.local_refs.specs.Slots.{LaneSlots, frozen_for}
 use Rattle.local_refs.specs.declared.state.SlotState.TheVariants.{Free}
 use Rattle.conn_lane.specs.Inner.Remnants.{Live, Seat, Remnant, is_frozen_out, sits, takes_slot}
-use Rattle.conn_lane.specs.Inner.Seated.{AreApart, IsInLane}
+use Rattle.conn_lane.specs.Inner.Seated.{AreApart}
 use Rattle.conn_lane.specs.Inner.Stands.{IsOfLane}
 use Rattle.conn_lane.specs.Inner.Changes.{given_up, owned, CanGiveUp}
 use Rattle.conn_lane.specs.Inner.Ticking.{nothing, frozen_if, HasHeld}
 use Rattle.conn_lane.specs.Inner.Uses.{use_by, first_use, use_at, use_of, state_of, owner_of, AreUsed}
 use Rattle.conn_lane.proofs.Used.{EndsApart, unused, first_none, use_there, use_alike, seat_state}
+use Rattle.section_model.proofs.References.{slot_below}
 use Rattle.conn_lane.proofs.Slotted.{used_at, used_alike, is_held}
 
 abbrev pub kept_as : Option Live → Option Seat → Option Seat → Remnant
@@ -50,9 +50,8 @@ pub record IsGiver (keeps : List Remnant) (number lane m : ℕ) : Type 0 where
   pub within : number < length keeps
   pub apart : AreApart keeps
   pub takes : takes_slot (slot_of m) (get_or keeps number nothing) ≡ true
-  pub reference : m ≡ reference_of_slot lane (slot_of m)
+  pub reference : lane_number_of m ≡ lane
   pub some : 1 ≤ slot_of m
-  pub below : slot_of m < SLOTS + 1
 
 -- One end gives its reference up, by which the opening `k` becomes `l`.
 gives_one : (keeps : List Remnant) (number m : ℕ) (k l : Remnant) (slots : LaneSlots) (owners : List (Option ℕ)) → IsGiver keeps number slots.lane m
@@ -60,8 +59,8 @@ gives_one : (keeps : List Remnant) (number m : ℕ) (k l : Remnant) (slots : Lan
     → ((slot : ℕ) → (slot ≡ slot_of m → ⊥) → use_at number slot l ≡ use_at number slot k) → AreUsed (use_of (set keeps number k)) slots owners
     → CanGiveUp (Some m) slots × AreUsed (use_of (set keeps number l)) (given_up (Some m) slots) (owned (Some m) None owners)
 gives_one keeps number m k l slots owners giver has frozen_now others used = (
-  (is_held (use_of (set keeps number k)) slots owners m number used giver.reference giver.some giver.below (there k ∙ has), giver.below),
-  used_at (use_of (set keeps number k)) (use_of (set keeps number l)) slots owners (slot_of m) (frozen_for slots.freeze) None giver.some giver.below
+  is_held (use_of (set keeps number k)) slots owners m number used giver.reference giver.some (there k ∙ has),
+  used_at (use_of (set keeps number k)) (use_of (set keeps number l)) slots owners (slot_of m) (frozen_for slots.freeze) None giver.some (slot_below m)
       (ap state_of (there l ∙ frozen_now) ∙ frozen_state number slots.freeze m)
       (ap owner_of (there l ∙ frozen_now) ∙ frozen_owner number slots.freeze m (slot_of m))
       (λ slot apart. use_alike 0 slot number keeps l k (ap (λ n. use_at n slot l) first ∙ (others slot apart ∙ ap (λ n. use_at n slot k) (sym first))))
@@ -102,8 +101,6 @@ pub record IsThere (keeps : List Remnant) (number lane : ℕ) (live : Option Liv
   pub is : get_or keeps number nothing ≡ kept_as live this that
   pub lane_this : IsOfLane lane this
   pub lane_that : IsOfLane lane that
-  pub in_this : IsInLane this
-  pub in_that : IsInLane that
   pub ends : EndsApart (kept_as live this that)
 
 giver_this : (keeps : List Remnant) (number lane m : ℕ) (live : Option Live) (that : Option Seat) → IsThere keeps number lane live (held m) that → IsGiver keeps number lane m
@@ -114,7 +111,6 @@ giver_this keeps number lane m live that there =
       takes = ap (takes_slot (slot_of m)) there.is ∙ or_left (sits (slot_of m) (held m)) (sits (slot_of m) that) (held_sits m);
       reference = there.lane_this.1;
       some = there.lane_this.0;
-      below = there.in_this;
     }
 
 giver_that : (keeps : List Remnant) (number lane m : ℕ) (live : Option Live) (this : Option Seat) → IsThere keeps number lane live this (held m) → IsGiver keeps number lane m
@@ -125,7 +121,6 @@ giver_that keeps number lane m live this there =
       takes = ap (takes_slot (slot_of m)) there.is ∙ or_right (sits (slot_of m) this) (sits (slot_of m) (held m)) (held_sits m);
       reference = there.lane_that.1;
       some = there.lane_that.0;
-      below = there.in_that;
     }
 
 this_gives : (g : Option ℕ) (keeps : List Remnant) (number : ℕ) (live later : Option Live) (this that : Option Seat) (slots : LaneSlots) (owners : List (Option ℕ)) → IsThere keeps number slots.lane live this that

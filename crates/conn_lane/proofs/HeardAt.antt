@@ -1,5 +1,5 @@
 -- The one opening that may hear an event is the one that has the slot of the reference that the event names.
-use Rattle.std.proofs.Common.{◌+◌, ◌≡◌, ℕ, zero, suc, ◌-◌, ◌==◌, ◌<◌, ◌≤◌, nat_lt, not, Bool, true, false, List, [], ◌∷◌, length, cond, map, set, get_or, position, slice_index_or, slice_set, All, Option, Some, None, is_some, if◌then◌else◌, refl, sym, ap, ap₂, ◌∙◌, subst, ⊎_elim, arith, eqb-true}
+use Rattle.std.proofs.Common.{◌≡◌, ℕ, zero, suc, ◌-◌, ◌==◌, ◌<◌, nat_lt, not, Bool, true, false, List, [], ◌∷◌, length, cond, map, set, get_or, position, slice_index_or, slice_set, All, Option, Some, None, is_some, if◌then◌else◌, refl, sym, ap, ap₂, ◌∙◌, subst, ⊎_elim, arith, eqb-true}
 use Rattle.std.specs.List.{list_any, position_or_len}
 use Rattle.std.proofs.lemmas.Bool.{both_ways, not-true, eq-eqb, ltb-false, and_parts, and_from, or_cases, or_parts, or_left, or_right, or_from, false_from_ne_true}
 use Rattle.std.proofs.lemmas.Option.{same_Some}
@@ -7,16 +7,15 @@ use Rattle.std.proofs.lemmas.List.Elements.{All-head, All-tail}
 use Rattle.std.proofs.lemmas.List.Folds.{list_any_none}
 use Rattle.std.proofs.lemmas.List.Quantifiers.{position-Some}
 use Rattle.std.proofs.lemmas.List.Sums.{prefix_len_passes}
-use Rattle.relay_base.specs.declared.limits.TheConstants.{SLOTS}
 use Rattle.relay_base.specs.declared.words.Event.{Event}
 use Rattle.relay_base.specs.declared.words.Event.TheVariants.{Message as Arrived, Asked as Requested, Tick}
 use Rattle.relay_base.specs.declared.words.Output.{Output}
 use Rattle.section_model.specs.Ends.{End, wire, owner, Connection, is_gone}
 use Rattle.section_model.specs.Step.{connection_step, hears, names, named, is_named, is_in_range, end_is_gone}
-use Rattle.relay_base.specs.References.{slot_of}
+use Rattle.section_model.specs.References.{slot_of}
 use Rattle.section_model.specs.Lane.{fed, next, is_tick}
 use Rattle.conn_lane.specs.Inner.Remnants.{Live, Seat, Remnant, live_of, ticks_in, left_after, seat_after, remnant_after, part_at, first_of, first_part, is_frozen_out, sits, takes_slot, has, has_slot}
-use Rattle.conn_lane.specs.Inner.Seated.{SeatIs, AreSeated, IsOn, IsInLane, IsSeated, AreApart, AreOrderly, reference_in}
+use Rattle.conn_lane.specs.Inner.Seated.{SeatIs, AreSeated, IsOn, IsSeated, AreApart, AreOrderly, reference_in}
 use Rattle.conn_lane.proofs.Seated.{kept_as}
 
 -- What has a slot takes it.
@@ -54,7 +53,6 @@ pub record NamesSlot (event : Event) (k : Remnant) : Type 0 where
   pub reference : ℕ
   pub named : reference_in event ≡ Some reference
   pub taken : has_slot (slot_of reference) k ≡ true
-  pub in_lane : slot_of reference < SLOTS + 1
 
 names_end : (c : Connection) (event : Event) → is_tick event ≡ false → hears c event ≡ true → names (reference_in event) c ≡ true
 unfolding hears
@@ -63,34 +61,29 @@ names_end c (Requested ssn r) untimed heard = (and_parts (is_in_range r) (names 
 names_end c Tick untimed heard = absurd (cc)
 
 -- an end that a reference names has its slot
-named_sits : (reference : ℕ) (end : End) (seat : Option Seat) → SeatIs end seat → IsInLane seat → is_named reference end ≡ true
-    → (has (slot_of reference) seat ≡ true) × (slot_of reference < SLOTS + 1)
-named_sits reference (wire x) None is within names = absurd (cc)
-named_sits reference (wire x) (Some s) is within names =
+named_sits : (reference : ℕ) (end : End) (seat : Option Seat) → SeatIs end seat → is_named reference end ≡ true → has (slot_of reference) seat ≡ true
+named_sits reference (wire x) None is names = absurd (cc)
+named_sits reference (wire x) (Some s) is names =
     let parts = and_parts (x.head.mine == reference) (not (is_gone x.head.state)) names in
     let same : s.mine ≡ reference = same_Some s.mine x.head.mine is.0 ∙ eqb-true x.head.mine reference parts.0 in
-    let held : is_some s.left ≡ false = is.1 ∙ not-true (is_gone x.head.state) parts.1 in (
-      and_from (slot_of s.mine == slot_of reference) (not (is_some s.left)) (eq-eqb (slot_of s.mine) (slot_of reference) (ap slot_of same)) (ap not held),
-      subst (λ mine. slot_of mine < SLOTS + 1) same within,
-    )
-named_sits reference (owner u) seat is within names = absurd (cc)
+    let held : is_some s.left ≡ false = is.1 ∙ not-true (is_gone x.head.state) parts.1 in
+    and_from (slot_of s.mine == slot_of reference) (not (is_some s.left)) (eq-eqb (slot_of s.mine) (slot_of reference) (ap slot_of same)) (ap not held)
+named_sits reference (owner u) seat is names = absurd (cc)
 
-names_slot : (event : Event) (k : Remnant) (l : Live) (reference : Option ℕ) → IsSeated k → AreSeated (Some l) k.this k.that → reference_in event ≡ reference
+names_slot : (event : Event) (k : Remnant) (l : Live) (reference : Option ℕ) → AreSeated (Some l) k.this k.that → reference_in event ≡ reference
     → names reference l.connection ≡ true → NamesSlot event k
-names_slot event k l None seated are is names = absurd (cc)
-names_slot event k l (Some reference) seated are is names =
+names_slot event k l None are is names = absurd (cc)
+names_slot event k l (Some reference) are is names =
     ⊎_elim
     (λ (e : is_named reference l.connection.this ≡ true).
-    let found = named_sits reference l.connection.this k.this are.0 seated.this e in
-    record { reference = reference; named = is; taken = or_left (has (slot_of reference) k.this) (has (slot_of reference) k.that) found.0; in_lane = found.1 })
+    record { reference = reference; named = is; taken = or_left (has (slot_of reference) k.this) (has (slot_of reference) k.that) (named_sits reference l.connection.this k.this are.0 e) })
     (λ (e : is_named reference l.connection.that ≡ true).
-    let found = named_sits reference l.connection.that k.that are.1 seated.that e in
-    record { reference = reference; named = is; taken = or_right (has (slot_of reference) k.this) (has (slot_of reference) k.that) found.0; in_lane = found.1 })
+    record { reference = reference; named = is; taken = or_right (has (slot_of reference) k.this) (has (slot_of reference) k.that) (named_sits reference l.connection.that k.that are.1 e) })
     (or_cases (is_named reference l.connection.this) (is_named reference l.connection.that) names)
 
 pub hears_takes : (event : Event) (k : Remnant) (l : Live) → is_tick event ≡ false → IsSeated k → k.live ≡ Some l → hears l.connection event ≡ true → NamesSlot event k
 hears_takes event k l untimed seated live heard =
-    names_slot event k l (reference_in event) seated (subst (λ x. AreSeated x k.this k.that) live seated.live) refl (names_end l.connection event untimed heard)
+    names_slot event k l (reference_in event) (subst (λ x. AreSeated x k.this k.that) live seated.live) refl (names_end l.connection event untimed heard)
 
 -- Who doesn't hear an event, which is no tick, is as before.
 
@@ -167,12 +160,12 @@ others_more event k keeps untimed seated none later =
 
 -- each slot that the event names is free
 abbrev IsFreeAt : Event → List Remnant → Type 0
-IsFreeAt event keeps = (r : ℕ) → reference_in event ≡ Some r → slot_of r < SLOTS + 1 → list_any (has_slot (slot_of r)) keeps ≡ false
+IsFreeAt event keeps = (r : ℕ) → reference_in event ≡ Some r → list_any (has_slot (slot_of r)) keeps ≡ false
 
 free_first : (event : Event) (k : Remnant) (keeps : List Remnant) → IsFreeAt event (k ∷ keeps) → NamesSlot event k → ⊥
 free_first event k keeps free names =
     both_ways (has_slot (slot_of names.reference) k)
-    (or_parts (has_slot (slot_of names.reference) k) (list_any (has_slot (slot_of names.reference)) keeps) (free names.reference names.named names.in_lane)).0
+    (or_parts (has_slot (slot_of names.reference) k) (list_any (has_slot (slot_of names.reference)) keeps) (free names.reference names.named)).0
     names.taken
 
 none_hear : (event : Event) (keeps : List Remnant) → is_tick event ≡ false → All IsSeated keeps → IsFreeAt event keeps → OthersStay event keeps
@@ -182,7 +175,7 @@ none_hear event (k ∷ keeps) untimed seated free =
     others_more event k keeps untimed this
     (no_part_at event k k.live untimed this refl (free_first event k keeps free))
     (none_hear event keeps untimed (All-tail IsSeated k keeps seated)
-    (λ r named within. (or_parts (has_slot (slot_of r) k) (list_any (has_slot (slot_of r)) keeps) (free r named within)).1))
+    (λ r named. (or_parts (has_slot (slot_of r) k) (list_any (has_slot (slot_of r)) keeps) (free r named)).1))
 
 -- a test that finds no place passes nowhere
 none_passes : {X : Type 0} (p : X → Bool) (xs : List X) → position p xs ≡ None → list_any p xs ≡ false
@@ -196,27 +189,21 @@ none_passes p xs none =
 
 -- a reference whose slot nobody has
 pub nobody : (event : Event) (keeps : List Remnant) → is_tick event ≡ false → All IsSeated keeps
-    → ((r : ℕ) → reference_in event ≡ Some r → slot_of r < SLOTS + 1 → position (has_slot (slot_of r)) keeps ≡ None)
+    → ((r : ℕ) → reference_in event ≡ Some r → position (has_slot (slot_of r)) keeps ≡ None)
     → (first_part event keeps ≡ None) × (map (remnant_after event) keeps ≡ keeps)
 nobody event keeps untimed seated nowhere =
-    none_hear event keeps untimed seated (λ r named within. none_passes (has_slot (slot_of r)) keeps (nowhere r named within))
+    none_hear event keeps untimed seated (λ r named. none_passes (has_slot (slot_of r)) keeps (nowhere r named))
 
 -- no reference
 pub nobody_named : (event : Event) (keeps : List Remnant) → is_tick event ≡ false → All IsSeated keeps → reference_in event ≡ None
     → (first_part event keeps ≡ None) × (map (remnant_after event) keeps ≡ keeps)
-nobody_named event keeps untimed seated unnamed = nobody event keeps untimed seated (λ r named within. absurd (cc))
-
--- a reference of no slot of the lane
-pub nobody_past : (event : Event) (keeps : List Remnant) (r : ℕ) → is_tick event ≡ false → All IsSeated keeps → reference_in event ≡ Some r → SLOTS + 1 ≤ slot_of r
-    → (first_part event keeps ≡ None) × (map (remnant_after event) keeps ≡ keeps)
-nobody_past event keeps r untimed seated is past =
-    nobody event keeps untimed seated (λ q named within. absurd (omega (arith, past, within, ap slot_of (same_Some r q (sym is ∙ named)))))
+nobody_named event keeps untimed seated unnamed = nobody event keeps untimed seated (λ r named. absurd (cc))
 
 -- a reference whose slot is free
 pub nobody_there : (event : Event) (keeps : List Remnant) (r : ℕ) → is_tick event ≡ false → All IsSeated keeps → reference_in event ≡ Some r → position (has_slot (slot_of r)) keeps ≡ None
     → (first_part event keeps ≡ None) × (map (remnant_after event) keeps ≡ keeps)
 nobody_there event keeps r untimed seated is none =
-    nobody event keeps untimed seated (λ q named within. ap (λ x. position (has_slot (slot_of x)) keeps) (sym (same_Some r q (sym is ∙ named))) ∙ none)
+    nobody event keeps untimed seated (λ q named. ap (λ x. position (has_slot (slot_of x)) keeps) (sym (same_Some r q (sym is ∙ named))) ∙ none)
 
 -- Somebody has the slot.
 
@@ -233,7 +220,7 @@ other_names event k r is free names =
 
 others_stay : (event : Event) (keeps : List Remnant) (r : ℕ) → reference_in event ≡ Some r → All IsSeated keeps → list_any (has_slot (slot_of r)) keeps ≡ false → OthersStay event keeps
 others_stay event keeps r is seated free =
-    none_hear event keeps (named_untimed event r is) seated (λ q named within. ap (λ x. list_any (has_slot (slot_of x)) keeps) (sym (same_Some r q (sym is ∙ named))) ∙ free)
+    none_hear event keeps (named_untimed event r is) seated (λ q named. ap (λ x. list_any (has_slot (slot_of x)) keeps) (sym (same_Some r q (sym is ∙ named))) ∙ free)
 
 first_or_none : (part later : Option (List Output)) → later ≡ None → first_of part later ≡ part
 first_or_none None later none = none

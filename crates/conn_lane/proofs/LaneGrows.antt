@@ -47,6 +47,7 @@ use Rattle.conn_lane.specs.Inner.Changes.{changed, Fits, Makes, Opens}
 use Rattle.conn_lane.specs.Inner.Lowest.{lowest_of}
 use Rattle.conn_lane.specs.Inner.Stands.{IsPlaced, Stands, IsStanding}
 use Rattle.conn_lane.proofs.Opened.{TakesFirst, takes_first, Before, lowest_before, makes_opened}
+use Rattle.conn_lane.proofs.Counted.{counted_none}
 use Rattle.conn_lane.proofs.Slotted.{lowest_are, unused_none}
 use Rattle.conn_lane.proofs.Standing.{count_is, makes_nothing}
 use Rattle.relay_base.specs.declared.words.Request.{Request}
@@ -162,12 +163,12 @@ lane_grows plant head number journal before after entry lane grows =
 
 -- a lane before its first event
 pub lane_begins : (head : LaneHead) (number : ℕ) → number < MOST_LANES → IsCredit head.terms.credit
-    → IsConnLane head number [] (record { taken = 0; kept = []; slots = record { lane = number; freeze = head.terms.ticks.freeze; states = replicate SLOTS Free }; owners = replicate (SLOTS + 1) None })
+    → IsConnLane head number [] (record { taken = 0; kept = []; slots = record { lane = number; freeze = head.terms.ticks.freeze; states = replicate SLOTS Free; generations = replicate SLOTS 0 }; owners = replicate (SLOTS + 1) None })
 lane_begins head number lanes credit =
     record {
       legal = tt;
       keeps = record {
-        stands = record { lives = refl; orderly = orderly_none; placed = All-nil (IsPlaced number head.terms.ticks.freeze); uses = unused_none number head.terms.ticks.freeze };
+        stands = record { lives = refl; orderly = orderly_none; placed = All-nil (IsPlaced number head.terms.ticks.freeze); uses = unused_none number head.terms.ticks.freeze; turns = counted_none number head.terms.ticks.freeze };
         lane = refl;
         freeze = refl;
         few = omega arith;
@@ -283,7 +284,7 @@ open_unheard terms event keeps wish orderly = (nobody_named event keeps (open_un
 opened_of : (head : LaneHead) (number : ℕ) (keeps : List Remnant) (o : OpeningsState) (wish : Wish) (answer : Option Answer) → StandsIn head number keeps o
     → opened head.terms wish answer (lowest_of o.slots (slots_needed wish answer)) ≡ opened_in (lane_of head number) keeps wish answer
 opened_of head number keeps o wish answer at =
-    ap (opened head.terms wish answer) (lowest_are (lane_of head number) keeps o.slots o.owners (slots_needed wish answer) at.lane at.stands.uses)
+    ap (opened head.terms wish answer) (lowest_are (lane_of head number) keeps o.slots o.owners (slots_needed wish answer) at.lane at.stands.uses at.stands.turns)
 
 -- what a new connection changes
 opened_makes : (head : LaneHead) (number : ℕ) (event : Event) (keeps : List Remnant) (o : OpeningsState) (answer : Option Answer) (duo : Option DuoState) (outputs : List Output) (change : Change)
@@ -303,7 +304,7 @@ opened_makes head number event keeps o answer (Some d) outputs (Opened new) with
     let count : ℕ = slots_needed w answer in
     let c : Connection = duo_at o.taken d in
     let some : (opened_in lane keeps w answer).connection ≡ Some c = ap (λ x. x.connection) opens in
-    let same : lowest_of o.slots count ≡ lowest_in lane keeps count = lowest_are lane keeps o.slots o.owners count at.lane at.stands.uses in
+    let same : lowest_of o.slots count ≡ lowest_in lane keeps count = lowest_are lane keeps o.slots o.owners count at.lane at.stands.uses at.stands.turns in
     let first : TakesFirst (lowest_in lane keeps count) c = subst (λ x. IfSome x (TakesFirst (lowest_in lane keeps count))) some (takes_first head.terms w answer (lowest_in lane keeps count)) in
     let are : EndsAre (IsFree o.slots.lane keeps) c = subst (λ n. EndsAre (IsFree n keeps) c) (sym at.lane) (subst (AreAmong (IsFree number keeps)) some (among_free lane keeps w answer within)) in
     let all : keeps_in lane keeps event w answer ≡ keeps ++ remnant_of head.terms.ticks (record { first = c; since = [] }) ∷ [] =

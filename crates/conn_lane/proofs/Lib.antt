@@ -26,3 +26,4 @@ mod Quiet
 mod Wakings
 mod Reached
 pub mod Sent
+mod Counted

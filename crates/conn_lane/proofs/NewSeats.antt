@@ -1,21 +1,21 @@
 -- A new opening takes free slots of the lane alone.
-use Rattle.std.proofs.Common.{◌≡◌, ℕ, zero, suc, ◌+◌, ◌==◌, ◌<◌, ◌≤◌, not, Bool, true, false, List, [], ◌++◌, length, map, take, get_or, All, Option, Some, None, is_some, IfSome, if◌then◌else◌, refl, sym, subst, ap, ⊎_elim, arith, append-nil, eqb-true}
-use Rattle.std.specs.List.{list_any, range_with_len}
-use Rattle.std.proofs.lemmas.Bool.{not-true, and_parts, or_cases}
-use Rattle.std.proofs.lemmas.Nat.{div-mul-add}
-use Rattle.std.proofs.lemmas.List.Elements.{All-nil, All-cons, All-push, All-map, All-take, All-weaker, All-filter, filter_passes}
-use Rattle.relay_base.specs.declared.limits.TheConstants.{MOST_LANES, SLOTS}
+use Rattle.std.proofs.Common.{◌≡◌, ℕ, ◌==◌, ◌<◌, ◌≤◌, not, Bool, true, false, List, [], ◌++◌, map, All, Option, Some, None, is_some, IfSome, if◌then◌else◌, refl, sym, subst, ⊎_elim, append-nil, eqb-true}
+use Rattle.std.specs.List.{list_any}
+use Rattle.std.proofs.lemmas.Bool.{and_parts, or_cases}
+use Rattle.std.proofs.lemmas.List.Elements.{All-nil, All-push}
+use Rattle.relay_base.specs.declared.limits.TheConstants.{MOST_LANES}
 use Rattle.relay_base.specs.declared.words.Event.{Event}
 use Rattle.plant_core.specs.declared.answer.Answer.{Answer}
 use Rattle.plant_core.specs.declared.terms.Ticks.{Ticks}
 use Rattle.section_model.specs.Ends.{End, Connection}
 use Rattle.section_model.specs.Opening.{Wish, slots_needed}
 use Rattle.section_model.specs.Step.{end_is_gone}
-use Rattle.relay_base.specs.References.{slot_of, reference_of_slot}
-use Rattle.section_model.specs.Lane.{Lane, heard, follow, gone_for, reference_of}
-use Rattle.hearing_law.proofs.Opened.{EndsAre, AreAmong, opened_among}
-use Rattle.conn_lane.specs.Inner.Remnants.{Remnant, frozen_by, seat_by, remnant_of, remnant_after, sits, takes_slot, is_frozen_out, free_in, lowest_in}
-use Rattle.conn_lane.specs.Inner.Seated.{SeatIs, IsInLane, IsSeated, AreOrderly}
+use Rattle.section_model.specs.References.{slot_of, generation_after, lane_number_of}
+use Rattle.section_model.specs.Lane.{Lane, heard, follow, gone_for, reference_of, reference_at}
+use Rattle.section_model.proofs.References.{slot_read, lane_read}
+use Rattle.hearing_law.proofs.Opened.{EndsAre, AreAmong, opened_among, IsSlotWithout, enough_are}
+use Rattle.conn_lane.specs.Inner.Remnants.{Remnant, frozen_by, seat_by, remnant_of, remnant_after, sits, takes_slot, is_frozen_out, times_in, lowest_in}
+use Rattle.conn_lane.specs.Inner.Seated.{SeatIs, IsSeated, AreOrderly}
 use Rattle.conn_lane.specs.Inner.Turns.{opened_in, new_remnant, keeps_in}
 use Rattle.conn_lane.proofs.Seated.{seated_live, all_seated_after}
 use Rattle.conn_lane.proofs.Apart.{free_after, apart_after, apart_with}
@@ -25,50 +25,23 @@ use Rattle.conn_lane.proofs.Apart.{free_after, apart_after, apart_with}
 -- a reference of a slot of the lane that nobody takes
 pub record IsFree (lane : ℕ) (keeps : List Remnant) (mine : ℕ) : Type 0 where
   pub some : 1 ≤ slot_of mine
-  pub in_lane : slot_of mine < SLOTS + 1
-  pub reference : mine ≡ reference_of_slot lane (slot_of mine)
+  pub reference : lane_number_of mine ≡ lane
   pub free : list_any (takes_slot (slot_of mine)) keeps ≡ false
 
-below_end : (a n last : ℕ) → a + n ≤ last → All (λ slot. slot < last) (range_with_len a n)
-below_end a zero last within = All-nil (λ slot. slot < last)
-below_end a (suc n) last within =
-    All-cons (λ slot. slot < last) a (range_with_len (a + 1) n) (omega (arith, within)) (below_end (a + 1) n last (omega (arith, within)))
-
-above_start : (first a n : ℕ) → first ≤ a → All (λ slot. first ≤ slot) (range_with_len a n)
-above_start first a zero within = All-nil (λ slot. first ≤ slot)
-above_start first a (suc n) within =
-    All-cons (λ slot. first ≤ slot) a (range_with_len (a + 1) n) within (above_start first (a + 1) n (omega (arith, within)))
-
-record IsFreeSlot (keeps : List Remnant) (slot : ℕ) : Type 0 where
-  some : 1 ≤ slot
-  below : slot < SLOTS + 1
-  free : list_any (takes_slot slot) keeps ≡ false
-
-free_slots : (keeps : List Remnant) → All (IsFreeSlot keeps) (free_in keeps)
-free_slots keeps = λ k d within.
+free_reference : (lane : Lane) (keeps : List Remnant) (slot : ℕ) → lane.number < MOST_LANES → IsSlotWithout (λ s. list_any (takes_slot s) keeps) slot
+    → IsFree lane.number keeps (reference_at lane (times_in keeps) slot)
+free_reference lane keeps slot within is =
+    let generation : ℕ = generation_after (times_in keeps slot) in
+    let same : slot ≡ slot_of (reference_at lane (times_in keeps) slot) = sym (slot_read lane.number generation slot within is.below) in
     record {
-      some = All-filter (λ slot. not (list_any (takes_slot slot) keeps)) (λ slot. 1 ≤ slot) (range_with_len 1 SLOTS) (above_start 1 1 SLOTS (omega arith)) k d within;
-      below = All-filter (λ slot. not (list_any (takes_slot slot) keeps)) (λ slot. slot < SLOTS + 1) (range_with_len 1 SLOTS) (below_end 1 SLOTS (SLOTS + 1) (omega arith)) k d within;
-      free = not-true (list_any (takes_slot (get_or (free_in keeps) k d)) keeps) (filter_passes (λ slot. not (list_any (takes_slot slot) keeps)) (range_with_len 1 SLOTS) k d within);
+      some = subst (λ s. 1 ≤ s) same is.some;
+      reference = lane_read lane.number generation slot within;
+      free = subst (λ s. list_any (takes_slot s) keeps ≡ false) same is.free;
     }
 
-free_reference : (lane : Lane) (keeps : List Remnant) (slot : ℕ) → lane.number < MOST_LANES → IsFreeSlot keeps slot → IsFree lane.number keeps (reference_of_slot lane.number slot)
-free_reference lane keeps slot within is =
-    let same : slot ≡ slot_of (reference_of_slot lane.number slot) = sym (div-mul-add slot MOST_LANES lane.number within) in
-    record { some = subst (λ s. 1 ≤ s) same is.some; in_lane = subst (λ s. s < SLOTS + 1) same is.below; reference = ap (reference_of_slot lane.number) same; free = subst (λ s. list_any (takes_slot s) keeps ≡ false) same is.free }
-
-pub lowest_free : (lane : Lane) (keeps : List Remnant) (count : ℕ) → lane.number < MOST_LANES → All (IsFree lane.number keeps) (lowest_in lane keeps count)
-lowest_free lane keeps count within = by_test (length free == count)
-  where
-    free : List ℕ
-    free = take count (free_in keeps)
-
-    by_test : (b : Bool) → All (IsFree lane.number keeps) (if b then map (reference_of_slot lane.number) free else [])
-    by_test true =
-        All-map (IsFree lane.number keeps) (reference_of_slot lane.number) free
-        (All-weaker (IsFreeSlot keeps) (λ slot. IsFree lane.number keeps (reference_of_slot lane.number slot)) (λ slot is. free_reference lane keeps slot within is) free
-        (All-take (IsFreeSlot keeps) count (free_in keeps) (free_slots keeps)))
-    by_test false = All-nil (IsFree lane.number keeps)
+lowest_free : (lane : Lane) (keeps : List Remnant) (count : ℕ) → lane.number < MOST_LANES → All (IsFree lane.number keeps) (lowest_in lane keeps count)
+lowest_free lane keeps count within =
+    enough_are (IsFree lane.number keeps) (λ slot. list_any (takes_slot slot) keeps) lane (times_in keeps) count (λ slot is. free_reference lane keeps slot within is)
 
 -- The seats of a new opening.
 
@@ -81,10 +54,6 @@ seat_begins : (freeze : ℕ) (end : End) (mine : Option ℕ) → reference_of en
 seat_begins freeze end None is = (sym is, tt)
 seat_begins freeze end (Some m) is = (sym is, begun freeze (end_is_gone end))
 
-seat_in_lane : (lane : ℕ) (keeps : List Remnant) (freeze : ℕ) (count mine : Option ℕ) → IfSome mine (IsFree lane keeps) → IsInLane (seat_by freeze count mine)
-seat_in_lane lane keeps freeze count None is = tt
-seat_in_lane lane keeps freeze count (Some m) is = is.in_lane
-
 seat_is_free : (lane : ℕ) (keeps : List Remnant) (freeze slot : ℕ) (count mine : Option ℕ) → IfSome mine (IsFree lane keeps) → sits slot (seat_by freeze count mine) ≡ true
     → list_any (takes_slot slot) keeps ≡ false
 seat_is_free lane keeps freeze slot count None is takes = absurd (cc)
@@ -95,15 +64,13 @@ seat_is_free lane keeps freeze slot count (Some m) is takes =
 abbrev new_of : Ticks → Connection → Remnant
 new_of ticks c = remnant_of ticks (record { first = c; since = [] })
 
-new_is_seated : (lane : ℕ) (keeps : List Remnant) (ticks : Ticks) (c : Connection) → EndsAre (IsFree lane keeps) c → IsSeated (new_of ticks c)
+new_is_seated : (ticks : Ticks) (c : Connection) → IsSeated (new_of ticks c)
 unfolding heard follow gone_for
-new_is_seated lane keeps ticks c are =
+new_is_seated ticks c =
     seated_live ticks c
     (seat_by ticks.freeze (if end_is_gone c.this then Some 0 else None) (reference_of c.this))
     (seat_by ticks.freeze (if end_is_gone c.that then Some 0 else None) (reference_of c.that))
     (seat_begins ticks.freeze c.this (reference_of c.this) refl) (seat_begins ticks.freeze c.that (reference_of c.that) refl)
-    (seat_in_lane lane keeps ticks.freeze (if end_is_gone c.this then Some 0 else None) (reference_of c.this) are.0)
-    (seat_in_lane lane keeps ticks.freeze (if end_is_gone c.that then Some 0 else None) (reference_of c.that) are.1)
 
 new_is_apart : (lane : ℕ) (keeps : List Remnant) (ticks : Ticks) (c : Connection) (slot : ℕ) → EndsAre (IsFree lane keeps) c → takes_slot slot (new_of ticks c) ≡ true
     → list_any (takes_slot slot) keeps ≡ false
@@ -126,7 +93,7 @@ orderly_with : (lane : ℕ) (event : Event) (keeps : List Remnant) (ticks : Tick
 orderly_with lane event keeps ticks None are orderly = subst AreOrderly (sym (append-nil (map (remnant_after event) keeps))) orderly
 orderly_with lane event keeps ticks (Some c) are orderly =
     record {
-      seated = All-push IsSeated (map (remnant_after event) keeps) (new_of ticks c) orderly.seated (new_is_seated lane keeps ticks c are);
+      seated = All-push IsSeated (map (remnant_after event) keeps) (new_of ticks c) orderly.seated (new_is_seated ticks c);
       apart = apart_with (map (remnant_after event) keeps) (new_of ticks c) orderly.apart
           (λ slot takes. free_after slot event keeps (new_is_apart lane keeps ticks c slot are takes));
     }

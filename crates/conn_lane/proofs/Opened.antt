@@ -3,13 +3,12 @@ use Rattle.std.proofs.Common.{◌≡◌, ℕ, zero, suc, ◌+◌, ◌==◌, ◌<
 use Rattle.std.specs.Prelude.{IfSome, option_map}
 use Rattle.std.proofs.lemmas.Bool.{both_ways}
 use Rattle.std.proofs.lemmas.List.{map-append}
-use Rattle.std.proofs.lemmas.List.Elements.{All-push}
-use Rattle.std.proofs.lemmas.Nat.{div-mul-add}
-use Rattle.relay_base.specs.References.{slot_of, reference_of_slot}
+use Rattle.std.proofs.lemmas.List.Elements.{All-nil, All-cons, All-head, All-tail, All-push}
+use Rattle.section_model.specs.References.{slot_of}
+use Rattle.section_model.proofs.References.{slot_read, slot_below}
 use Rattle.relay_base.specs.declared.limits.TheConstants.{MOST_LANES, SLOTS}
-use Rattle.local_refs.specs.Slots.{LaneSlots, is_free, free_from, free_references}
+use Rattle.local_refs.specs.Slots.{LaneSlots, is_free, free_from, generation_at, next_reference, free_references}
 use Rattle.local_refs.specs.declared.state.SlotState.{SlotState}
-use Rattle.local_refs.specs.declared.state.SlotState.TheVariants.{Held}
 use Rattle.plant_core.specs.declared.answer.Rewrite.{Rewrite}
 use Rattle.plant_core.specs.declared.answer.Answer.{Answer}
 use Rattle.plant_core.specs.declared.answer.Answer.TheVariants.{Local, Forward, Refused}
@@ -25,14 +24,15 @@ use Rattle.conn_lane.specs.declared.change.NewConnection.{NewConnection}
 use Rattle.conn_lane.specs.declared.change.Change.TheVariants.{Opened}
 use Rattle.conn_lane.specs.Inner.Changes.{taken, owned, listed, Makes}
 use Rattle.conn_lane.specs.Inner.Lowest.{lowest_of}
-use Rattle.conn_lane.specs.Inner.Remnants.{Live, Seat, Remnant, remnant_of, seat_of, seat_by, sits}
+use Rattle.conn_lane.specs.Inner.Remnants.{Live, Seat, Remnant, remnant_of, seat_of, seat_by, sits, times_in}
 use Rattle.conn_lane.specs.Inner.Seated.{AreOrderly}
 use Rattle.conn_lane.specs.Inner.Stands.{IsOfLane, IsPlaced, Stands}
-use Rattle.conn_lane.specs.Inner.Uses.{use_by, first_use, use_at, use_of, state_of, owner_of, AreUsed}
+use Rattle.conn_lane.specs.Inner.Uses.{use_by, first_use, use_at, use_of, state_of, owner_of, AreUsed, AreCounted}
 use Rattle.conn_lane.specs.Inner.Views.{OpeningsState, IsAlive, live_at}
+use Rattle.conn_lane.proofs.Counted.{seat_new, counted_opened}
 use Rattle.conn_lane.proofs.Given.{kept_as, held_use, elsewhere}
 use Rattle.conn_lane.proofs.NewSeats.{IsFree}
-use Rattle.conn_lane.proofs.Slotted.{used_at, used_alike}
+use Rattle.conn_lane.proofs.Slotted.{used_taken, used_alike}
 use Rattle.conn_lane.proofs.Standing.{count_is}
 use Rattle.conn_lane.proofs.Ticked.{over_alike}
 use Rattle.conn_lane.proofs.Used.{unused, unused_by_all, use_more, first_none}
@@ -129,25 +129,44 @@ free_rises (state ∷ states) slot a b more is = by_test (is_free state) is (fre
         omega (arith, same, free_above states (slot + 1) b more rest)
     by_test false e later = later e
 
-pub two_apart : (slots : LaneSlots) (a b : ℕ) (more : List ℕ) → slots.lane < MOST_LANES → free_references slots ≡ a ∷ b ∷ more → slot_of a < slot_of b
-two_apart slots a b more within is = by_free (free_from 1 slots.states) refl is
+-- and are of the lane
+free_within : (states : List SlotState) (slot : ℕ) → All (λ s. s < slot + length states) (free_from slot states)
+unfolding free_from
+free_within [] slot = All-nil (λ s. s < slot + 0)
+free_within (state ∷ states) slot =
+    let next : slot + 1 + length states ≡ slot + suc (length states) = omega arith in
+    by_test (is_free state) (subst (λ n. All (λ s. s < n) (free_from (slot + 1) states)) next (free_within states (slot + 1)))
   where
-    by_free : (xs : List ℕ) → free_from 1 slots.states ≡ xs → map (reference_of_slot slots.lane) xs ≡ a ∷ b ∷ more → slot_of a < slot_of b
+    by_test : (b : Bool) → All (λ s. s < slot + suc (length states)) (free_from (slot + 1) states)
+        → All (λ s. s < slot + suc (length states)) (cond b (slot ∷ free_from (slot + 1) states) (free_from (slot + 1) states))
+    by_test true rest = All-cons (λ s. s < slot + suc (length states)) slot (free_from (slot + 1) states) (omega arith) rest
+    by_test false rest = rest
+
+pub two_apart : (slots : LaneSlots) (a b : ℕ) (more : List ℕ) → slots.lane < MOST_LANES → length slots.states ≡ SLOTS → free_references slots ≡ a ∷ b ∷ more → slot_of a < slot_of b
+two_apart slots a b more within count is = by_free (free_from 1 slots.states) refl is
+  where
+    by_free : (xs : List ℕ) → free_from 1 slots.states ≡ xs → map (next_reference slots) xs ≡ a ∷ b ∷ more → slot_of a < slot_of b
     by_free [] e f = absurd (cc)
     by_free (x ∷ []) e f = absurd (cc)
     by_free (x ∷ y ∷ xs) e f =
-        let first : reference_of_slot slots.lane x ≡ a = cc in
-        let second : reference_of_slot slots.lane y ≡ b = cc in
-        omega (arith, free_rises slots.states 1 x y xs e, ap slot_of first, ap slot_of second, div-mul-add x MOST_LANES slots.lane within, div-mul-add y MOST_LANES slots.lane within)
+        let first : next_reference slots x ≡ a = cc in
+        let second : next_reference slots y ≡ b = cc in
+        let all : All (λ s. s < 1 + length slots.states) (x ∷ y ∷ xs) = subst (All (λ s. s < 1 + length slots.states)) e (free_within slots.states 1) in
+        let later : y < 1 + length slots.states =
+        All-head (λ s. s < 1 + length slots.states) y xs (All-tail (λ s. s < 1 + length slots.states) x (y ∷ xs) all) in
+        let rises : x < y = free_rises slots.states 1 x y xs e in
+        let one : slot_of (next_reference slots x) ≡ x = slot_read slots.lane (generation_at slots x) x within (omega (arith, rises, later, count)) in
+        let two : slot_of (next_reference slots y) ≡ y = slot_read slots.lane (generation_at slots y) y within (omega (arith, later, count)) in
+        omega (arith, rises, ap slot_of first, ap slot_of second, one, two)
 
 -- The slots and the index.
 
 -- an end of a new opening takes a reference, by which the opening `k` becomes `l`
-takes_one : (keeps : List Remnant) (number m : ℕ) (k l : Remnant) (slots : LaneSlots) (owners : List (Option ℕ)) → number ≡ 0 + length keeps → 1 ≤ slot_of m → slot_of m < SLOTS + 1 → use_of keeps (slot_of m) ≡ None
+takes_one : (keeps : List Remnant) (number m : ℕ) (k l : Remnant) (slots : LaneSlots) (owners : List (Option ℕ)) → number ≡ 0 + length keeps → 1 ≤ slot_of m → use_of keeps (slot_of m) ≡ None
     → use_at number (slot_of m) l ≡ Some (record { number = number; left = None }) → ((slot : ℕ) → (slot ≡ slot_of m → ⊥) → use_at number slot l ≡ use_at number slot k)
     → AreUsed (use_of (keeps ++ k ∷ [])) slots owners → AreUsed (use_of (keeps ++ l ∷ [])) (taken (Some m) slots) (owned (Some m) (Some number) owners)
-takes_one keeps number m k l slots owners last some below free has others used =
-    used_at (use_of (keeps ++ k ∷ [])) (use_of (keeps ++ l ∷ [])) slots owners (slot_of m) Held (Some number) some below
+takes_one keeps number m k l slots owners last some free has others used =
+    used_taken (use_of (keeps ++ k ∷ [])) (use_of (keeps ++ l ∷ [])) slots owners (slot_of m) (Some number) some (slot_below m)
     (ap state_of here) (ap owner_of here)
     (λ slot apart. at slot l ∙ (ap (first_use (use_of keeps slot)) (others slot apart) ∙ sym (at slot k))) used
   where
@@ -160,18 +179,15 @@ takes_one keeps number m k l slots owners last some below free has others used =
 abbrev held_by : ℕ → Option Seat
 held_by m = Some (record { mine = m; left = None })
 
-abbrev seat_new : Option ℕ → Option Seat
-seat_new mine = option_map (λ m. record { mine = m; left = None }) mine
-
 -- a reference that nobody takes
 record IsNew (keeps : List Remnant) (mine : Option ℕ) : Type 0 where
-  new : IfSome mine (λ m. (1 ≤ slot_of m) × (slot_of m < SLOTS + 1) × (use_of keeps (slot_of m) ≡ None))
+  new : IfSome mine (λ m. (1 ≤ slot_of m) × (use_of keeps (slot_of m) ≡ None))
 
 takes_this : (g : Option ℕ) (keeps : List Remnant) (number : ℕ) (live : Option Live) (slots : LaneSlots) (owners : List (Option ℕ)) → number ≡ 0 + length keeps → IsNew keeps g
     → AreUsed (use_of (keeps ++ kept_as live None None ∷ [])) slots owners → AreUsed (use_of (keeps ++ kept_as live (seat_new g) None ∷ [])) (taken g slots) (owned g (Some number) owners)
 takes_this None keeps number live slots owners last new used = used
 takes_this (Some m) keeps number live slots owners last is used =
-    takes_one keeps number m (kept_as live None None) (kept_as live (held_by m) None) slots owners last is.new.0 is.new.1 is.new.2
+    takes_one keeps number m (kept_as live None None) (kept_as live (held_by m) None) slots owners last is.new.0 is.new.1
     (ap (λ u. first_use u None) (held_use number m))
     (λ slot apart. ap (λ u. first_use u None) (unused number slot (held_by m) (elsewhere m slot None apart))) used
 
@@ -179,7 +195,7 @@ takes_that : (g : Option ℕ) (this : Option Seat) (keeps : List Remnant) (numbe
     → AreUsed (use_of (keeps ++ kept_as live this None ∷ [])) slots owners → AreUsed (use_of (keeps ++ kept_as live this (seat_new g) ∷ [])) (taken g slots) (owned g (Some number) owners)
 takes_that None this keeps number live slots owners last new free used = used
 takes_that (Some m) this keeps number live slots owners last is free used =
-    takes_one keeps number m (kept_as live this None) (kept_as live this (held_by m)) slots owners last is.new.0 is.new.1 is.new.2
+    takes_one keeps number m (kept_as live this None) (kept_as live this (held_by m)) slots owners last is.new.0 is.new.1
     (ap (λ u. first_use u (use_by number (slot_of m) (held_by m))) (unused number (slot_of m) this free) ∙ held_use number m)
     (λ slot apart. ap (first_use (use_by number slot this)) (unused number slot (held_by m) (elsewhere m slot None apart))) used
 
@@ -196,21 +212,21 @@ kept_lane (Some m) slots = (refl, refl)
 
 new_slot : (lane : ℕ) (keeps : List Remnant) (mine : Option ℕ) → IfSome mine (IsFree lane keeps) → IsNew keeps mine
 new_slot lane keeps None is = record { new = tt }
-new_slot lane keeps (Some m) is = record { new = (is.some, is.in_lane, unused_by_all 0 (slot_of m) keeps is.free) }
+new_slot lane keeps (Some m) is = record { new = (is.some, unused_by_all 0 (slot_of m) keeps is.free) }
 
 new_of_lane : (lane : ℕ) (keeps : List Remnant) (mine : Option ℕ) → IfSome mine (IsFree lane keeps) → IsOfLane lane (seat_new mine)
 new_of_lane lane keeps None is = tt
 new_of_lane lane keeps (Some m) is = (is.some, is.reference)
 
-new_below : (lane : ℕ) (keeps : List Remnant) (mine : Option ℕ) → IfSome mine (IsFree lane keeps) → IfSome mine (λ m. slot_of m < SLOTS + 1)
-new_below lane keeps None is = tt
-new_below lane keeps (Some m) is = is.in_lane
+new_some : (lane : ℕ) (keeps : List Remnant) (mine : Option ℕ) → IfSome mine (IsFree lane keeps) → IfSome mine (λ m. 1 ≤ slot_of m)
+new_some lane keeps None is = tt
+new_some lane keeps (Some m) is = is.some
 
 -- the ends of a new opening take different slots
-new_ends : (g h : Option ℕ) (slots : LaneSlots) (rest : List ℕ) → slots.lane < MOST_LANES → free_references slots ≡ listed g ++ (listed h ++ rest) → IfSome h (λ m. sits (slot_of m) (seat_new g) ≡ false)
-new_ends g None slots rest within is = tt
-new_ends None (Some m) slots rest within is = refl
-new_ends (Some n) (Some m) slots rest within is = elsewhere n (slot_of m) None (λ e. let less = two_apart slots n m rest within is in omega (arith, less, e))
+new_ends : (g h : Option ℕ) (slots : LaneSlots) (rest : List ℕ) → slots.lane < MOST_LANES → length slots.states ≡ SLOTS → free_references slots ≡ listed g ++ (listed h ++ rest) → IfSome h (λ m. sits (slot_of m) (seat_new g) ≡ false)
+new_ends g None slots rest within count is = tt
+new_ends None (Some m) slots rest within count is = refl
+new_ends (Some n) (Some m) slots rest within count is = elsewhere n (slot_of m) None (λ e. let less = two_apart slots n m rest within count is in omega (arith, less, e))
 
 ends_of : (g h : Option ℕ) → IfSome h (λ m. sits (slot_of m) (seat_new g) ≡ false) → (slot : ℕ) → sits slot (seat_new g) ≡ true → sits slot (seat_new h) ≡ false
 ends_of g None free slot takes = refl
@@ -253,7 +269,7 @@ makes_opened o keeps ticks d new refs within stands before first are same freeze
     before.is
     ∙ (ap (λ xs. xs ++ before.rest) (first.is ∙ ap₂ (λ a b. listed a ++ (listed b ++ first.rest)) (sym this) (sym that))
     ∙ (append_assoc (listed g) (listed h ++ first.rest) before.rest ∙ ap (λ xs. listed g ++ xs) (append_assoc (listed h) first.rest before.rest))) in
-    let apart : IfSome h (λ m. sits (slot_of m) (seat_new g) ≡ false) = new_ends g h o.slots rest within free in
+    let apart : IfSome h (λ m. sits (slot_of m) (seat_new g) ≡ false) = new_ends g h o.slots rest within stands.uses.count free in
     let number : length o.kept ≡ 0 + length keeps = omega (arith, count_is keeps o stands.lives) in
     let slots : LaneSlots = taken h (taken g o.slots) in
     let owners : List (Option ℕ) = owned h (Some (length o.kept)) (owned g (Some (length o.kept)) o.owners) in
@@ -266,7 +282,7 @@ makes_opened o keeps ticks d new refs within stands before first are same freeze
     record { this = new_of_lane o.slots.lane keeps g free_this; that = new_of_lane o.slots.lane keeps h free_that; ends = ends_of g h apart; freezes = freezes } in
     let seen : live_at o.taken new.one ≡ record { ticks = ticks; connection = c } = ap (live_at o.taken) one ∙ ap (λ t. record { ticks = t; connection = c }) same in
     record {
-      fits = record { rest = rest; free = free; on_this = new_below o.slots.lane keeps g free_this; on_that = new_below o.slots.lane keeps h free_that };
+      fits = record { rest = rest; free = free };
       taken = refl;
       lane = lane;
       freeze = freeze;
@@ -279,5 +295,7 @@ makes_opened o keeps ticks d new refs within stands before first are same freeze
             (subst (λ l. All (IsPlaced l slots.freeze) (keeps ++ k ∷ [])) (sym lane)
             (subst (λ f. All (IsPlaced o.slots.lane f) (keeps ++ k ∷ [])) (sym freeze) (All-push (IsPlaced o.slots.lane o.slots.freeze) keeps k stands.placed placed)));
         uses = subst (λ r. AreUsed (use_of (keeps ++ r ∷ [])) slots owners) (sym is) used;
+        turns = subst (λ r. AreCounted (times_in (keeps ++ r ∷ [])) slots) (sym is)
+            (counted_opened keeps live g h o.slots (new_some o.slots.lane keeps g free_this) (new_some o.slots.lane keeps h free_that) apart stands.turns);
       };
     }

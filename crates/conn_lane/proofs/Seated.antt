@@ -9,7 +9,7 @@ use Rattle.section_model.specs.Lane.{fed}
 use Rattle.connection_law.specs.ReferenceLaw.{Stays, BothStay}
 use Rattle.connection_law.proofs.Reference.Following.{fed_stays}
 use Rattle.conn_lane.specs.Inner.Remnants.{Live, Seat, Remnant, live_of, left_after, seat_after, remnant_after}
-use Rattle.conn_lane.specs.Inner.Seated.{SeatIs, AreSeated, IsInLane, IsSeated}
+use Rattle.conn_lane.specs.Inner.Seated.{SeatIs, AreSeated, IsSeated}
 
 -- A seat.
 
@@ -27,10 +27,6 @@ seat_later : (freeze : ℕ) (event : Event) (before after : End) (seat : Option 
 seat_later freeze event before after None stays is = (is.0 ∙ sym stays.reference, tt)
 seat_later freeze event before after (Some s) stays is = (is.0 ∙ sym stays.reference, left_later freeze event before after s.left stays is.1)
 
-lane_later : (freeze : ℕ) (event : Event) (is_gone : Bool) (seat : Option Seat) → IsInLane seat → IsInLane (seat_after freeze event is_gone seat)
-lane_later freeze event is_gone None within = tt
-lane_later freeze event is_gone (Some s) within = within
-
 -- An opening.
 
 abbrev pub kept_as : Option Live → Option Seat → Option Seat → Remnant
@@ -38,18 +34,17 @@ kept_as live this that = record { live = live; this = this; that = that }
 
 -- a connection with its seats, whether it is over or not
 pub seated_live : (ticks : Ticks) (c : Connection) (this that : Option Seat)
-    → SeatIs c.this this → SeatIs c.that that → IsInLane this → IsInLane that → IsSeated (record { live = live_of ticks c; this = this; that = that })
-seated_live ticks c this that is_this is_that in_this in_that = by_test (is_over c) refl
+    → SeatIs c.this this → SeatIs c.that that → IsSeated (record { live = live_of ticks c; this = this; that = that })
+seated_live ticks c this that is_this is_that = by_test (is_over c) refl
   where
     by_test : (b : Bool) → is_over c ≡ b → IsSeated (kept_as (if b then None else Some (record { ticks = ticks; connection = c })) this that)
-    by_test true over = record { on = tt; live = tt; this = in_this; that = in_that }
-    by_test false on = record { on = on; live = (is_this, is_that); this = in_this; that = in_that }
+    by_test true over = record { on = tt; live = tt }
+    by_test false on = record { on = on; live = (is_this, is_that) }
 
 seated_parts : (event : Event) (live : Option Live) (this that : Option Seat)
-    → AreSeated live this that → IsInLane this → IsInLane that → IsSeated (remnant_after event (kept_as live this that))
-seated_parts event None this that are in_this in_that =
-    record { on = tt; live = tt; this = lane_later 0 event false this in_this; that = lane_later 0 event false that in_that }
-seated_parts event (Some l) this that are in_this in_that =
+    → AreSeated live this that → IsSeated (remnant_after event (kept_as live this that))
+seated_parts event None this that are = record { on = tt; live = tt }
+seated_parts event (Some l) this that are =
     let c : Connection = fed l.ticks l.connection event in
     let both : BothStay l.connection c = fed_stays l.ticks l.connection event in
     seated_live l.ticks c
@@ -57,12 +52,10 @@ seated_parts event (Some l) this that are in_this in_that =
     (seat_after l.ticks.freeze event (end_is_gone c.that) that)
     (seat_later l.ticks.freeze event l.connection.this c.this this both.this are.0)
     (seat_later l.ticks.freeze event l.connection.that c.that that both.that are.1)
-    (lane_later l.ticks.freeze event (end_is_gone c.this) this in_this)
-    (lane_later l.ticks.freeze event (end_is_gone c.that) that in_that)
 
 -- one more event
 pub seated_after : (event : Event) (k : Remnant) → IsSeated k → IsSeated (remnant_after event k)
-seated_after event k seated = seated_parts event k.live k.this k.that seated.live seated.this seated.that
+seated_after event k seated = seated_parts event k.live k.this k.that seated.live
 
 -- All openings.
 

@@ -13,7 +13,7 @@ use Rattle.connection_law.specs.ReferenceLaw.{Stays, BothStay}
 use Rattle.connection_law.proofs.Reference.Following.{fed_stays}
 use Rattle.conn_lane.specs.Inner.Hearing.{gives}
 use Rattle.conn_lane.specs.Inner.Remnants.{Live, Seat, Remnant, live_of, sits, seat_after, live_after, over_after, remnant_after}
-use Rattle.conn_lane.specs.Inner.Seated.{SeatIs, AreSeated, IsInLane, IsSeated, AreApart}
+use Rattle.conn_lane.specs.Inner.Seated.{SeatIs, AreSeated, IsSeated, AreApart}
 use Rattle.conn_lane.specs.Inner.Stands.{IsOfLane, IsPlaced}
 use Rattle.conn_lane.specs.Inner.Ticking.{nothing, frozen_if, HasHeld, waited}
 use Rattle.conn_lane.proofs.Apart.{sits_before}
@@ -119,40 +119,18 @@ pub all_placed_after : (lane freeze : ℕ) (event : Event) (keeps : List Remnant
 all_placed_after lane freeze event keeps placed =
     All-map (IsPlaced lane freeze) (remnant_after event) keeps (All-weaker (IsPlaced lane freeze) (λ k. IsPlaced lane freeze (remnant_after event k)) (placed_after lane freeze event) keeps placed)
 
--- an opening that is kept with its freezes lowered, and what it has
-pub record IsSet (lane freeze : ℕ) (k : Remnant) : Type 0 where
-  pub placed : IsPlaced lane freeze k
-  pub in_this : IsInLane k.this
-  pub in_that : IsInLane k.that
-
-in_later : (freeze : ℕ) (event : Event) (gone : Bool) (seat : Option Seat) → IsInLane seat → IsInLane (seat_after freeze event gone seat)
-in_later freeze event gone None within = tt
-in_later freeze event gone (Some s) within = within
-
-pub set_waited : (lane freeze : ℕ) (k : Remnant) → IsSeated k → IsPlaced lane freeze k → IsSet lane freeze (waited k)
-set_waited lane freeze k seated placed =
+-- its freezes are lowered
+pub placed_waited : (lane freeze : ℕ) (k : Remnant) → IsPlaced lane freeze k → IsPlaced lane freeze (waited k)
+placed_waited lane freeze k placed =
     record {
-      placed = record {
-        this = lane_later lane 0 Tick false k.this placed.this;
-        that = lane_later lane 0 Tick false k.that placed.that;
-        ends = ends_later 0 Tick false false k.this k.that placed.ends;
-        freezes = (placed_after lane freeze Tick k placed).freezes;
-      };
-      in_this = in_later 0 Tick false k.this seated.this;
-      in_that = in_later 0 Tick false k.that seated.that;
+      this = lane_later lane 0 Tick false k.this placed.this;
+      that = lane_later lane 0 Tick false k.that placed.that;
+      ends = ends_later 0 Tick false false k.this k.that placed.ends;
+      freezes = (placed_after lane freeze Tick k placed).freezes;
     }
 
-pub there_set : (lane freeze number : ℕ) (keeps : List Remnant) → number < length keeps → AreApart keeps → All (IsSet lane freeze) keeps
+pub there_placed : (lane freeze number : ℕ) (keeps : List Remnant) → number < length keeps → AreApart keeps → All (IsPlaced lane freeze) keeps
     → IsThere keeps number lane (get_or keeps number nothing).live (get_or keeps number nothing).this (get_or keeps number nothing).that
-there_set lane freeze number keeps within apart set =
-    let at : IsSet lane freeze (get_or keeps number nothing) = All-get_or (IsSet lane freeze) keeps number nothing within set in
-    record {
-      within = within;
-      apart = apart;
-      is = refl;
-      lane_this = at.placed.this;
-      lane_that = at.placed.that;
-      in_this = at.in_this;
-      in_that = at.in_that;
-      ends = at.placed.ends;
-    }
+there_placed lane freeze number keeps within apart placed =
+    let at : IsPlaced lane freeze (get_or keeps number nothing) = All-get_or (IsPlaced lane freeze) keeps number nothing within placed in
+    record { within = within; apart = apart; is = refl; lane_this = at.this; lane_that = at.that; ends = at.ends }

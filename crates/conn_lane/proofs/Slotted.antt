@@ -4,18 +4,21 @@ use Rattle.std.specs.Prelude.{slice_get, slice_set}
 use Rattle.std.specs.List.{list_any, range_with_len}
 use Rattle.std.proofs.lemmas.Bool.{cases_Bool, eqb-true, eqb-false}
 use Rattle.std.proofs.lemmas.Option.{slice_get-get_or, get_or_from_slice_get}
+use Rattle.std.proofs.lemmas.List.Elements.{All-head, All-tail, All-take}
 use Rattle.std.proofs.lemmas.List.{get_or-set_same, get_or-set_other, get_or-map, get_or-replicate, length-set, length-map, length-replicate}
-use Rattle.relay_base.specs.References.{slot_of, reference_of_slot}
+use Rattle.section_model.specs.References.{slot_of, lane_number_of, reference_of_slot}
 use Rattle.relay_base.specs.declared.limits.TheConstants.{SLOTS}
-use Rattle.local_refs.specs.Slots.{LaneSlots, is_free, free_from, free_references, lowered, with_state, after_tick, IsHeld}
+use Rattle.local_refs.specs.Slots.{LaneSlots, is_free, free_from, next_reference, free_references, lowered, with_state, with_taken, after_tick, IsHeld}
 use Rattle.local_refs.specs.declared.state.SlotState.{SlotState}
 use Rattle.local_refs.specs.declared.state.SlotState.TheVariants.{Free, Held}
-use Rattle.section_model.specs.Lane.{Lane}
-use Rattle.conn_lane.specs.Inner.Remnants.{Remnant, takes_slot, free_in, lowest_in}
+use Rattle.section_model.specs.Lane.{Lane, reference_at}
+use Rattle.section_model.proofs.References.{slot_below}
+use Rattle.hearing_law.proofs.Opened.{IsSlotWithout, slots_without}
+use Rattle.conn_lane.specs.Inner.Remnants.{Remnant, takes_slot, free_in, times_in, lowest_in}
 use Rattle.conn_lane.specs.Inner.Seated.{AreApart}
 use Rattle.conn_lane.specs.Inner.Lowest.{lowest_of}
 use Rattle.conn_lane.specs.Inner.Ticking.{waited}
-use Rattle.conn_lane.specs.Inner.Uses.{Use, use_from, use_of, state_of, owner_of, owner_at, AreUsed}
+use Rattle.conn_lane.specs.Inner.Uses.{Use, use_from, use_of, state_of, owner_of, owner_at, AreUsed, AreCounted}
 use Rattle.conn_lane.proofs.Used.{EndsApart, all_use, use_lowered}
 
 same_slot : (m n : ℕ) → (m ≡ n) ⊎ (m ≡ n → ⊥)
@@ -50,6 +53,14 @@ used_at before after slots owners slot state owner some within is has others use
         ap (λ n. get_or (set owners slot owner) n None) e ∙ (get_or-set_same owners slot owner None (omega (arith, within, used.many)) ∙ (sym has ∙ ap (λ n. owner_of (after n)) (sym e)))
     owner_here other below (inr e) = get_or-set_other owners slot other owner None e ∙ (used.owners other below ∙ ap owner_of (sym (others other e)))
 
+-- it is taken
+pub used_taken : (before after : ℕ → Option Use) (slots : LaneSlots) (owners : List (Option ℕ)) (slot : ℕ) (owner : Option ℕ) → 1 ≤ slot → slot < SLOTS + 1
+    → state_of (after slot) ≡ Held → owner_of (after slot) ≡ owner → ((other : ℕ) → (other ≡ slot → ⊥) → after other ≡ before other)
+    → AreUsed before slots owners → AreUsed after (with_taken slots slot) (slice_set owners slot owner)
+used_taken before after slots owners slot owner some within is has others used =
+    let at = used_at before after slots owners slot Held owner some within is has others used in
+    record { count = at.count; states = at.states; many = at.many; owners = at.owners }
+
 -- the same uses
 pub used_alike : (before after : ℕ → Option Use) (slots : LaneSlots) (owners : List (Option ℕ)) → ((slot : ℕ) → after slot ≡ before slot) → AreUsed before slots owners → AreUsed after slots owners
 used_alike before after slots owners same used =
@@ -61,9 +72,10 @@ used_alike before after slots owners same used =
     }
 
 -- a slot that an end has, of a reference of the lane
-pub is_held : (uses : ℕ → Option Use) (slots : LaneSlots) (owners : List (Option ℕ)) (mine number : ℕ) → AreUsed uses slots owners → mine ≡ reference_of_slot slots.lane (slot_of mine)
-    → 1 ≤ slot_of mine → slot_of mine < SLOTS + 1 → uses (slot_of mine) ≡ Some (record { number = number; left = None }) → IsHeld slots mine
-is_held uses slots owners mine number used reference some within has =
+pub is_held : (uses : ℕ → Option Use) (slots : LaneSlots) (owners : List (Option ℕ)) (mine number : ℕ) → AreUsed uses slots owners → lane_number_of mine ≡ slots.lane
+    → 1 ≤ slot_of mine → uses (slot_of mine) ≡ Some (record { number = number; left = None }) → IsHeld slots mine
+is_held uses slots owners mine number used reference some has =
+    let within : slot_of mine < SLOTS + 1 = slot_below mine in
     let next : (slot_of mine - 1) + 1 ≡ slot_of mine = omega (arith, some) in
     (reference, (some, used.states (slot_of mine - 1) (omega (arith, some, within)) ∙ ap Some (ap (λ n. state_of (uses n)) next ∙ ap state_of has)))
 
@@ -110,17 +122,29 @@ take_mapped f zero xs = refl
 take_mapped f (suc n) [] = refl
 take_mapped f (suc n) (x ∷ xs) = ap (λ ys. f x ∷ ys) (take_mapped f n xs)
 
+-- the references of these slots are those of the next turns
+mapped_next : (lane : Lane) (keeps : List Remnant) (slots : LaneSlots) → slots.lane ≡ lane.number → AreCounted (times_in keeps) slots
+    → (free : List ℕ) → All (IsSlotWithout (λ slot. list_any (takes_slot slot) keeps)) free → map (next_reference slots) free ≡ map (reference_at lane (times_in keeps)) free
+mapped_next lane keeps slots same counted [] are = refl
+mapped_next lane keeps slots same counted (slot ∷ free) are =
+    let is = All-head (IsSlotWithout (λ s. list_any (takes_slot s) keeps)) slot free are in
+    ap₂ (λ x xs. x ∷ xs) (ap₂ (λ l g. reference_of_slot l g slot) same (counted.each slot is.some is.below))
+    (mapped_next lane keeps slots same counted free (All-tail (IsSlotWithout (λ s. list_any (takes_slot s) keeps)) slot free are))
+
 pub lowest_are : (lane : Lane) (keeps : List Remnant) (slots : LaneSlots) (owners : List (Option ℕ)) (count : ℕ) → slots.lane ≡ lane.number → AreUsed (use_of keeps) slots owners
-    → lowest_of slots count ≡ lowest_in lane keeps count
-lowest_are lane keeps slots owners count same used =
-    let few : take count (free_references slots) ≡ map (reference_of_slot lane.number) (take count (free_in keeps)) =
-    take_mapped (reference_of_slot slots.lane) count (free_from 1 slots.states) ∙ ap₂ (λ l xs. map (reference_of_slot l) (take count xs)) same (free_slots_are keeps slots owners used) in
+    → AreCounted (times_in keeps) slots → lowest_of slots count ≡ lowest_in lane keeps count
+lowest_are lane keeps slots owners count same used counted =
+    let free : List ℕ = take count (free_in keeps) in
+    let few : take count (free_references slots) ≡ map (reference_at lane (times_in keeps)) free =
+    take_mapped (next_reference slots) count (free_from 1 slots.states) ∙ ap (λ xs. map (next_reference slots) (take count xs)) (free_slots_are keeps slots owners used)
+    ∙ mapped_next lane keeps slots same counted free
+    (All-take (IsSlotWithout (λ slot. list_any (takes_slot slot) keeps)) count (free_in keeps) (slots_without (λ slot. list_any (takes_slot slot) keeps))) in
     ap (λ xs. if length xs == count then xs else []) few
-    ∙ ap (λ n. if n == count then map (reference_of_slot lane.number) (take count (free_in keeps)) else []) (length-map (take count (free_in keeps)) (reference_of_slot lane.number))
+    ∙ ap (λ n. if n == count then map (reference_at lane (times_in keeps)) free else []) (length-map free (reference_at lane (times_in keeps)))
 
 -- No opening yet.
 
-pub unused_none : (lane freeze : ℕ) → AreUsed (use_of []) (record { lane = lane; freeze = freeze; states = replicate SLOTS Free }) (replicate (SLOTS + 1) None)
+pub unused_none : (lane freeze : ℕ) → AreUsed (use_of []) (record { lane = lane; freeze = freeze; states = replicate SLOTS Free; generations = replicate SLOTS 0 }) (replicate (SLOTS + 1) None)
 unfolding use_from
 unused_none lane freeze =
     record {

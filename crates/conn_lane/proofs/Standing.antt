@@ -5,7 +5,7 @@ use Rattle.std.specs.Global.{Global}
 use Rattle.std.specs.List.{list_any}
 use Rattle.std.proofs.lemmas.Bool.{both_ways, false_from_ne_true, or_cases, or_left, or_right, or_parts, or_from}
 use Rattle.std.proofs.lemmas.List.{get_or-map, length-map, length-set, map-set}
-use Rattle.std.proofs.lemmas.List.Elements.{All-set, All-get_or, All-map, All-weaker, All-from_get_or}
+use Rattle.std.proofs.lemmas.List.Elements.{All-set, All-get_or, All-map, All-weaker}
 use Rattle.relay_base.specs.declared.words.Event.{Event}
 use Rattle.relay_base.specs.declared.words.Event.TheVariants.{Tick}
 use Rattle.section_model.specs.Lane.{is_tick}
@@ -17,7 +17,7 @@ use Rattle.conn_lane.specs.Inner.Changes.{given_up, owned, put, put_all, ticked,
 use Rattle.conn_lane.specs.Inner.Finding.{IsForPlace}
 use Rattle.conn_lane.specs.Inner.Hearing.{Becomes}
 use Rattle.conn_lane.specs.Inner.Remnants.{Seat, Remnant, sits, takes_slot, remnant_after}
-use Rattle.conn_lane.specs.Inner.Seated.{IsSeated, IsInLane, AreApart, AreOrderly}
+use Rattle.conn_lane.specs.Inner.Seated.{IsSeated, AreApart}
 use Rattle.conn_lane.specs.Inner.Stands.{IsOfLane, IsPlaced, Stands}
 use Rattle.conn_lane.specs.Inner.Ticking.{nothing, waited, live_ticked, frozen_if, given, put_seat, put_seats, put_lives, AllAreKept, HasHeld, MayGive, AllMayGive}
 use Rattle.conn_lane.specs.Inner.Uses.{use_of, AreUsed}
@@ -26,15 +26,10 @@ use Rattle.conn_lane.proofs.Apart.{takes_later}
 use Rattle.conn_lane.proofs.Given.{kept_as, IsThere, both_give, both_lane, both_freeze, frozen_sits}
 use Rattle.conn_lane.proofs.HeardAt.{seat_waits}
 use Rattle.conn_lane.proofs.NewSeats.{orderly_after}
-use Rattle.conn_lane.proofs.Sides.{OpeningGives, gives_by, after_live, all_placed_after, IsSet, set_waited, there_set}
+use Rattle.conn_lane.proofs.Sides.{OpeningGives, gives_by, after_live, all_placed_after, placed_waited, there_placed}
 use Rattle.conn_lane.proofs.Slotted.{used_waited}
+use Rattle.conn_lane.proofs.Counted.{counted_after, counted_given, counted_ticked, counted_put}
 use Rattle.conn_lane.proofs.Used.{EndsApart}
-
-all_set : (lane freeze : ℕ) (keeps : List Remnant) → AreOrderly keeps → All (IsPlaced lane freeze) keeps → All (IsSet lane freeze) keeps
-all_set lane freeze keeps orderly placed =
-    All-from_get_or (IsSet lane freeze) keeps nothing (λ i within.
-    let seated : IsSeated (get_or keeps i nothing) = All-get_or IsSeated keeps i nothing within orderly.seated in
-    record { placed = All-get_or (IsPlaced lane freeze) keeps i nothing within placed; in_this = seated.this; in_that = seated.that })
 
 pub count_is : (keeps : List Remnant) (o : OpeningsState) → lives_at o.taken o.kept ≡ map (λ k. k.live) keeps → length o.kept ≡ length keeps
 count_is keeps o lives = omega (arith, ap (λ xs. length xs) lives, length-map o.kept (option_map (live_at o.taken)), length-map keeps (λ (k : Remnant). k.live))
@@ -72,7 +67,7 @@ makes_heard event o keeps number d h untimed still stands for here becomes =
     let gives : OpeningGives event d.ticks.freeze h.this h.that k = gives_by event k (live_at o.taken d) h.this h.that seated live becomes.this becomes.that in
     let placed : IsPlaced o.slots.lane o.slots.freeze k = All-get_or (IsPlaced o.slots.lane o.slots.freeze) keeps number nothing for.within stands.placed in
     let freezes : d.ticks.freeze ≡ o.slots.freeze = subst (λ x. IfSome x (λ l. l.ticks.freeze ≡ o.slots.freeze)) live placed.freezes in
-    let there : IsThere keeps number o.slots.lane k.live k.this k.that = there_set o.slots.lane o.slots.freeze number keeps for.within stands.orderly.apart (all_set o.slots.lane o.slots.freeze keeps stands.orderly stands.placed) in
+    let there : IsThere keeps number o.slots.lane k.live k.this k.that = there_placed o.slots.lane o.slots.freeze number keeps for.within stands.orderly.apart stands.placed in
     let has_this : HasHeld h.this k.this = subst (HasHeld h.this) (seat_waits event k.this untimed) gives.held_this in
     let has_that : HasHeld h.that k.that = subst (HasHeld h.that) (seat_waits event k.that untimed) gives.held_that in
     let later : Remnant = remnant_after event k in
@@ -102,6 +97,7 @@ makes_heard event o keeps number d h untimed still stands for here becomes =
             (subst (λ freeze. All (IsPlaced o.slots.lane freeze) (map (remnant_after event) keeps)) (sym (both_freeze h.this h.that o.slots))
             (all_placed_after o.slots.lane o.slots.freeze event keeps stands.placed));
         uses = subst (λ ks. AreUsed (use_of ks) (given_up h.that (given_up h.this o.slots)) (owned h.that None (owned h.this None o.owners))) all both.used;
+        turns = counted_given h.that (given_up h.this o.slots) (counted_given h.this o.slots (counted_after event keeps o.slots stands.turns));
       };
     }
 
@@ -127,7 +123,7 @@ apart_set (x ∷ keeps) (suc number) k fewer apart = (λ slot takes. free_set sl
 record AreSet (lane freeze : ℕ) (keeps : List Remnant) (o : OpeningsState) : Type 0 where
   count : length o.kept ≡ length keeps
   apart : AreApart keeps
-  set : All (IsSet lane freeze) keeps
+  placed : All (IsPlaced lane freeze) keeps
   used : AreUsed (use_of keeps) o.slots o.owners
   in_lane : o.slots.lane ≡ lane
   freezes : o.slots.freeze ≡ freeze
@@ -137,11 +133,6 @@ given_lane lane freeze None seat of = of
 given_lane lane freeze (Some m) None of = tt
 given_lane lane freeze (Some m) (Some s) of = of
 
-given_in : (freeze : ℕ) (g : Option ℕ) (seat : Option Seat) → IsInLane seat → IsInLane (frozen_if freeze g seat)
-given_in freeze None seat within = within
-given_in freeze (Some m) None within = tt
-given_in freeze (Some m) (Some s) within = within
-
 given_takes : (freeze slot : ℕ) (next : Next) (k : Remnant) → HasHeld next.this k.this → HasHeld next.that k.that → takes_slot slot (given freeze next k) ≡ true → takes_slot slot k ≡ true
 given_takes freeze slot next k this that e =
     ⊎_elim
@@ -149,32 +140,28 @@ given_takes freeze slot next k this that e =
     (λ (f : sits slot (frozen_if freeze next.that k.that) ≡ true). or_right (sits slot k.this) (sits slot k.that) (frozen_sits next.that freeze slot k.that that f))
     (or_cases (sits slot (frozen_if freeze next.this k.this)) (sits slot (frozen_if freeze next.that k.that)) e)
 
-set_given : (lane freeze : ℕ) (next : Next) (k : Remnant) → HasHeld next.this k.this → HasHeld next.that k.that → IsSet lane freeze k → IsSet lane freeze (given freeze next k)
-set_given lane freeze next k this that at =
+placed_given : (lane freeze : ℕ) (next : Next) (k : Remnant) → HasHeld next.this k.this → HasHeld next.that k.that → IsPlaced lane freeze k → IsPlaced lane freeze (given freeze next k)
+placed_given lane freeze next k this that at =
     record {
-      placed = record {
-        this = given_lane lane freeze next.this k.this at.placed.this;
-        that = given_lane lane freeze next.that k.that at.placed.that;
-        ends = λ slot e.
-            false_from_ne_true (sits slot (frozen_if freeze next.that k.that))
-            (λ f. both_ways (sits slot k.that) (at.placed.ends slot (frozen_sits next.this freeze slot k.this this e)) (frozen_sits next.that freeze slot k.that that f));
-        freezes = at.placed.freezes;
-      };
-      in_this = given_in freeze next.this k.this at.in_this;
-      in_that = given_in freeze next.that k.that at.in_that;
+      this = given_lane lane freeze next.this k.this at.this;
+      that = given_lane lane freeze next.that k.that at.that;
+      ends = λ slot e.
+          false_from_ne_true (sits slot (frozen_if freeze next.that k.that))
+          (λ f. both_ways (sits slot k.that) (at.ends slot (frozen_sits next.this freeze slot k.this this e)) (frozen_sits next.that freeze slot k.that that f));
+      freezes = at.freezes;
     }
 
 put_one : (lane freeze : ℕ) (next : Next) (keeps : List Remnant) (o : OpeningsState) → MayGive next keeps → is_some (get_or o.kept next.number None) ≡ true → AreSet lane freeze keeps o → CanBePut next o × AreSet lane freeze (put_seat freeze next keeps) (put next o)
 put_one lane freeze next keeps o may alive are =
     let number : ℕ = next.number in
     let k : Remnant = get_or keeps number nothing in
-    let there : IsThere keeps number o.slots.lane k.live k.this k.that = subst (λ l. IsThere keeps number l k.live k.this k.that) (sym are.in_lane) (there_set lane freeze number keeps may.number are.apart are.set) in
+    let there : IsThere keeps number o.slots.lane k.live k.this k.that = subst (λ l. IsThere keeps number l k.live k.this k.that) (sym are.in_lane) (there_placed lane freeze number keeps may.number are.apart are.placed) in
     let both = both_give next.this next.that keeps number k.live k.live k.this k.that o.slots o.owners there may.this may.that are.used in (
       record { number = omega (arith, may.number, are.count); alive = alive; this = both.this; that = both.that },
       record {
         count = length-set o.kept number next.one ∙ (are.count ∙ sym (length-set keeps number (given freeze next k)));
         apart = apart_set keeps number (given freeze next k) (λ slot e. given_takes freeze slot next k may.this may.that e) are.apart;
-        set = All-set (IsSet lane freeze) keeps number (given freeze next k) (set_given lane freeze next k may.this may.that (All-get_or (IsSet lane freeze) keeps number nothing may.number are.set)) are.set;
+        placed = All-set (IsPlaced lane freeze) keeps number (given freeze next k) (placed_given lane freeze next k may.this may.that (All-get_or (IsPlaced lane freeze) keeps number nothing may.number are.placed)) are.placed;
         used = subst (λ f. AreUsed (use_of (set keeps number (kept_as k.live (frozen_if f next.this k.this) (frozen_if f next.that k.that)))) (put next o).slots (put next o).owners) are.freezes both.used;
         in_lane = both_lane next.this next.that o.slots ∙ are.in_lane;
         freezes = both_freeze next.this next.that o.slots ∙ are.freezes;
@@ -216,15 +203,13 @@ pub makes_ticked : (o : OpeningsState) (keeps : List Remnant) (nexts : Vec Next 
 makes_ticked o keeps nexts stands lives seats gives alive =
     let lane : ℕ = o.slots.lane in
     let freeze : ℕ = o.slots.freeze in
-    let sets : All (IsSet lane freeze) keeps = all_set lane freeze keeps stands.orderly stands.placed in
-    let ends : All EndsApart keeps = All-weaker (IsSet lane freeze) EndsApart (λ k at. at.placed.ends) keeps sets in
+    let ends : All EndsApart keeps = All-weaker (IsPlaced lane freeze) EndsApart (λ k at. at.ends) keeps stands.placed in
     let before : AreSet lane freeze (map waited keeps) (ticked o) =
     record {
       count = count_is keeps o stands.lives ∙ sym (length-map keeps waited);
       apart = apart_waited keeps stands.orderly.apart;
-      set = All-map (IsSet lane freeze) waited keeps
-          (All-from_get_or (λ k. IsSet lane freeze (waited k)) keeps nothing (λ i within.
-          set_waited lane freeze (get_or keeps i nothing) (All-get_or IsSeated keeps i nothing within stands.orderly.seated) (All-get_or (IsPlaced lane freeze) keeps i nothing within stands.placed)));
+      placed = All-map (IsPlaced lane freeze) waited keeps
+          (All-weaker (IsPlaced lane freeze) (λ k. IsPlaced lane freeze (waited k)) (placed_waited lane freeze) keeps stands.placed);
       used = used_waited keeps o.slots o.owners stands.orderly.apart ends stands.uses;
       in_lane = refl;
       freezes = refl;
@@ -242,6 +227,7 @@ makes_ticked o keeps nexts stands lives seats gives alive =
         placed = subst (λ l. All (IsPlaced l (put_all nexts.items (ticked o)).slots.freeze) (map (remnant_after Tick) keeps)) (sym after.1.in_lane)
             (subst (λ f. All (IsPlaced lane f) (map (remnant_after Tick) keeps)) (sym after.1.freezes) (all_placed_after lane freeze Tick keeps stands.placed));
         uses = subst (λ ks. AreUsed (use_of ks) (put_all nexts.items (ticked o)).slots (put_all nexts.items (ticked o)).owners) seats after.1.used;
+        turns = counted_put nexts.items (ticked o) (counted_ticked o.slots (counted_after Tick keeps o.slots stands.turns));
       };
     }
   where

@@ -4,7 +4,7 @@ use Rattle.std.specs.List.{list_any, position, position_from}
 use Rattle.std.proofs.lemmas.List.Elements.{All-head, All-tail}
 use Rattle.std.proofs.lemmas.Bool.{both_ways, eq-eqb, eqb-true, and_parts, or_parts, false_from_ne_true}
 use Rattle.std.proofs.lemmas.Iterator.Adapters.{position_from-zero}
-use Rattle.relay_base.specs.References.{slot_of}
+use Rattle.section_model.specs.References.{slot_of}
 use Rattle.relay_base.specs.declared.words.Event.TheVariants.{Tick}
 use Rattle.local_refs.specs.Slots.{is_free, frozen_for, lowered}
 use Rattle.local_refs.specs.declared.state.SlotState.TheVariants.{Free}

@@ -1,6 +1,6 @@
 //! The index of the local references of a lane (Q.714, 3.3.2).
-ghost use Rattle.std.specs.Prelude.{◌≡◌, ◌<◌, ◌+◌, replicate, None, Some, IfOk, IfSome};
-ghost use Rattle.relay_base.specs.References.{slot_of};
+ghost use Rattle.std.specs.Prelude.{◌≡◌, ◌<◌, ◌+◌, replicate, None, Some, IfOk};
+ghost use Rattle.section_model.specs.References.{slot_of};
 ghost use Rattle.relay_base.specs.declared.limits.TheConstants.{SLOTS};
 ghost use Rattle.conn_lane.specs.Inner.Uses.{owner_at};
 ghost use Rattle.conn_lane.specs.Inner.Changes.{owned};
@@ -30,11 +30,12 @@ impl Model for Index {
     ghost invariant = { λ i. length i.owners.items ≡ SLOTS + 1 };
 }
 
-/// The slot of a local reference.
+/// The slot of a local reference, whatever its generation.
 fn slot_of(reference: Ref24) -> usize
-    ensures { result ≡ slot_of reference }
+    ensures value { result ≡ slot_of reference }
+    ensures within { result < SLOTS + 1 }
 {
-    (reference.number() / u32::from(MOST_LANES)) as usize
+    (reference.number() / u32::from(MOST_LANES)) as usize % SLOT_COUNT
 }
 
 impl Index {
@@ -49,20 +50,13 @@ impl Index {
 
     /// The number of the connection an end of which has the slot of a reference.
     pub fn owner(&self, mine: Ref24) -> Option<usize>
-        ensures value { result ≡ owner_at self.now (slot_of mine) }
-        ensures within { IfSome result (λ _. slot_of mine < SLOTS + 1) }
+        ensures { result ≡ owner_at self.now (slot_of mine) }
     {
-        let slot = slot_of(mine);
-        if slot < SLOT_COUNT {
-            self.owners[slot]
-        } else {
-            None
-        }
+        self.owners[slot_of(mine)]
     }
 
     /// An end of the connection of this number takes a reference, if it is one, or it gives it up and nobody has it.
     pub fn note(&mut self, mine: Option<Ref24>, number: Option<usize>)
-        requires { IfSome mine (λ m. slot_of m < SLOTS + 1) }
         ensures { self.new ≡ owned mine number self.old }
     {
         if let Some(mine) = mine {

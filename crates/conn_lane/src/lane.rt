@@ -315,9 +315,10 @@ impl ConnLane {
             record { head = head.now; number = number; journal = [] }) }
     {
         let openings = Openings::new(alloc, number, head.terms.ticks.freeze)?;
+        let head = head.copy(alloc)?;
         Ok(ConnLane {
             alloc,
-            head: head.copy(alloc)?,
+            head,
             number,
             journal: EntryList::new(alloc),
             openings,

@@ -4,7 +4,6 @@ ghost use Rattle.relay_base.specs.declared.words.Event.TheVariants.{Tick};
 ghost use Rattle.relay_base.specs.declared.limits.TheConstants.{MOST_LANES, SLOTS};
 ghost use Rattle.std.specs.Option.{option_map};
 ghost use Rattle.section_model.specs.Lane.{is_tick};
-ghost use Rattle.relay_base.specs.References.{slot_of};
 ghost use Rattle.local_refs.specs.Slots.{free_references};
 ghost use Rattle.local_refs.specs.declared.state.SlotState.TheVariants.{Free};
 ghost use Rattle.conn_lane.specs.Inner.Remnants.{Remnant, remnant_after, first_part, all_parts};
@@ -151,7 +150,12 @@ impl Openings {
             record {
               taken = 0;
               kept = [];
-              slots = record { lane = number; freeze = freeze; states = states };
+              slots = record {
+                lane = number;
+                freeze = freeze;
+                states = states;
+                generations = replicate SLOTS 0;
+              };
               owners = replicate (SLOTS + 1) None;
             }) }
     {
@@ -173,7 +177,8 @@ impl Openings {
         self.taken
     }
 
-    /// The number of the connection an end of which has the reference that an event names.
+    /// The number of the connection an end of which has the slot of the reference that an event names. Whether it hears the event, it tells by the
+    /// whole reference.
     fn number_of(&self, event: &Event) -> Option<usize>
         requires standing { IsStanding self.now }
         ensures place { (keeps : List Remnant) → Stands keeps self.now →
@@ -380,7 +385,6 @@ impl Openings {
     /// An end of the connection of this number takes the lowest free reference, if it takes one.
     fn take(&mut self, mine: Option<Ref24>, number: usize)
         requires free { IfSome mine (λ m. slice_get (free_references self.old.slots) 0 ≡ Some m) }
-        requires within { IfSome mine (λ m. slot_of m < SLOTS + 1) }
         ensures value { self.new ≡ taking mine number self.old }
         ensures rest { (rest : List ℕ) →
             free_references self.old.slots ≡ listed mine ++ rest →

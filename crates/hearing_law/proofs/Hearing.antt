@@ -7,7 +7,7 @@ use Rattle.plant_core.specs.declared.terms.Ticks.{Ticks}
 use Rattle.section_model.specs.Ends.{End, wire, owner, Connection, is_gone}
 use Rattle.section_model.specs.Parameters.{arrival_in}
 use Rattle.section_model.specs.Step.{hears, names, named, is_named, is_in_range, destination_of, end_is_gone}
-use Rattle.relay_base.specs.References.{slot_of}
+use Rattle.section_model.specs.References.{slot_of}
 use Rattle.section_model.specs.Lane.{Opening, next, fed, heard, follow, connection_of, gone_for, is_tick, is_at, is_kept_by, reference_of, holds, holds_by}
 use Rattle.section_model.specs.Laws.{openings_from}
 use Rattle.connection_law.specs.ReferenceLaw.{Stays}

@@ -2,3 +2,4 @@ pub mod Opened
 pub mod Held
 pub mod Standing
 pub mod Hearing
+pub mod Turns

@@ -1,9 +1,8 @@
--- A new opening has its references among those that are free.
-use Rattle.std.proofs.Common.{◌≡◌, ℕ, ◌==◌, ◌<◌, not, Bool, true, false, List, [], ◌∷◌, length, map, take, get_or, All, Option, Some, None, IfSome, if◌then◌else◌, sym, subst}
+-- A new opening has its references among those that are free, each in the next turn of its slot.
+use Rattle.std.proofs.Common.{◌≡◌, ℕ, zero, suc, ◌+◌, ◌==◌, ◌<◌, ◌≤◌, not, Bool, true, false, List, [], ◌∷◌, length, map, take, filter, get_or, All, Option, Some, None, IfSome, if◌then◌else◌, sym, subst, ap, arith}
 use Rattle.std.specs.List.{range_with_len}
 use Rattle.std.proofs.lemmas.Bool.{not-true}
-use Rattle.std.proofs.lemmas.Nat.{div-mul-add}
-use Rattle.std.proofs.lemmas.List.Elements.{All-nil, All-head, All-tail, All-map, All-take, All-weaker, filter_passes}
+use Rattle.std.proofs.lemmas.List.Elements.{All-nil, All-cons, All-head, All-tail, All-map, All-take, All-weaker, All-filter, filter_passes}
 use Rattle.relay_base.specs.declared.causes.TheConstants.{REFUSAL_UNQUALIFIED}
 use Rattle.plant_core.specs.declared.answer.Rewrite.{Rewrite}
 use Rattle.plant_core.specs.declared.answer.Answer.{Answer}
@@ -13,8 +12,10 @@ use Rattle.plant_core.specs.declared.terms.Ticks.{Ticks}
 use Rattle.section_model.specs.Ends.{Connection}
 use Rattle.section_model.specs.Opening.{Wanted, Wish, by_cr, by_user, no_wish, fits, slots_needed, opened_by_cr, opened_by_user, opened, opened_through, not_opened, cref_to}
 use Rattle.relay_base.specs.declared.limits.TheConstants.{MOST_LANES, SLOTS}
-use Rattle.relay_base.specs.References.{slot_of, reference_of_slot}
-use Rattle.section_model.specs.Lane.{Lane, Opening, reference_of, is_held, free_slots, lowest_free, opening_of}
+use Rattle.section_model.specs.References.{slot_of, generation_after}
+use Rattle.section_model.specs.Lane.{Lane, Opening, reference_of, reference_at, times_taken, is_held, enough, lowest_free, opening_of}
+use Rattle.section_model.proofs.References.{slot_read}
+use Rattle.hearing_law.specs.TurnLaw.{IsInTurn}
 
 -- What is opened has its references among those that are given.
 
@@ -63,41 +64,70 @@ opened_among P terms no_wish answer refs good = tt
 abbrev pub IsFreeSlot : Ticks → List Opening → ℕ → Type 0
 IsFreeSlot ticks openings slot = is_held ticks openings slot ≡ false
 
--- a reference of a slot that nobody holds
-abbrev pub IsFree : Ticks → List Opening → ℕ → Type 0
-IsFree ticks openings reference = IsFreeSlot ticks openings (slot_of reference)
+-- the reference that an opening after these has for a slot that nobody holds
+pub record IsNext (lane : Lane) (openings : List Opening) (mine : ℕ) : Type 0 where
+  pub some : 1 ≤ slot_of mine
+  pub free : IsFreeSlot lane.terms.ticks openings (slot_of mine)
+  pub turn : IsInTurn lane openings mine
 
-slots_are_free : (ticks : Ticks) (openings : List Opening) → All (IsFreeSlot ticks openings) (free_slots ticks openings)
-slots_are_free ticks openings = λ k d within.
-    not-true (is_held ticks openings (get_or (free_slots ticks openings) k d))
-    (filter_passes (λ slot. not (is_held ticks openings slot)) (range_with_len 1 SLOTS) k d within)
+pub below_end : (a n last : ℕ) → a + n ≤ last → All (λ slot. slot < last) (range_with_len a n)
+below_end a zero last within = All-nil (λ slot. slot < last)
+below_end a (suc n) last within =
+    All-cons (λ slot. slot < last) a (range_with_len (a + 1) n) (omega (arith, within)) (below_end (a + 1) n last (omega (arith, within)))
 
-reference_is_free : (lane : Lane) (openings : List Opening) (slot : ℕ) → lane.number < MOST_LANES
-    → IsFreeSlot lane.terms.ticks openings slot → IsFree lane.terms.ticks openings (reference_of_slot lane.number slot)
-reference_is_free lane openings slot within free =
-    subst (IsFreeSlot lane.terms.ticks openings) (sym (div-mul-add slot MOST_LANES lane.number within)) free
+pub above_start : (first a n : ℕ) → first ≤ a → All (λ slot. first ≤ slot) (range_with_len a n)
+above_start first a zero within = All-nil (λ slot. first ≤ slot)
+above_start first a (suc n) within =
+    All-cons (λ slot. first ≤ slot) a (range_with_len (a + 1) n) within (above_start first (a + 1) n (omega (arith, within)))
 
-lowest_are_free : (lane : Lane) (openings : List Opening) (count : ℕ) → lane.number < MOST_LANES
-    → All (IsFree lane.terms.ticks openings) (lowest_free lane openings count)
-unfolding lowest_free
-lowest_are_free lane openings count within = by_test (length free == count)
+-- the slots of a lane of which this isn't said
+pub record IsSlotWithout (held : ℕ → Bool) (slot : ℕ) : Type 0 where
+  pub some : 1 ≤ slot
+  pub below : slot < SLOTS + 1
+  pub free : held slot ≡ false
+
+pub slots_without : (held : ℕ → Bool) → All (IsSlotWithout held) (filter (λ slot. not (held slot)) (range_with_len 1 SLOTS))
+slots_without held = λ k d within.
+    record {
+      some = All-filter (λ slot. not (held slot)) (λ slot. 1 ≤ slot) (range_with_len 1 SLOTS) (above_start 1 1 SLOTS (omega arith)) k d within;
+      below = All-filter (λ slot. not (held slot)) (λ slot. slot < SLOTS + 1) (range_with_len 1 SLOTS) (below_end 1 SLOTS (SLOTS + 1) (omega arith)) k d within;
+      free = not-true (held (get_or (filter (λ slot. not (held slot)) (range_with_len 1 SLOTS)) k d)) (filter_passes (λ slot. not (held slot)) (range_with_len 1 SLOTS) k d within);
+    }
+
+-- the references of some of these slots, or none
+pub enough_are : (P : ℕ → Type 0) (held : ℕ → Bool) (lane : Lane) (times : ℕ → ℕ) (count : ℕ) → ((slot : ℕ) → IsSlotWithout held slot → P (reference_at lane times slot))
+    → All P (enough lane times count (take count (filter (λ slot. not (held slot)) (range_with_len 1 SLOTS))))
+enough_are P held lane times count is = by_test (length free == count)
   where
-    ticks : Ticks
-    ticks = lane.terms.ticks
+    slots : List ℕ
+    slots = filter (λ slot. not (held slot)) (range_with_len 1 SLOTS)
 
     free : List ℕ
-    free = take count (free_slots ticks openings)
+    free = take count slots
 
-    by_test : (b : Bool) → All (IsFree ticks openings) (if b then map (reference_of_slot lane.number) free else [])
+    by_test : (b : Bool) → All P (if b then map (reference_at lane times) free else [])
     by_test true =
-        All-map (IsFree ticks openings) (reference_of_slot lane.number) free
-        (All-weaker (IsFreeSlot ticks openings) (λ slot. IsFree ticks openings (reference_of_slot lane.number slot)) (λ slot is. reference_is_free lane openings slot within is) free
-        (All-take (IsFreeSlot ticks openings) count (free_slots ticks openings) (slots_are_free ticks openings)))
-    by_test false = All-nil (IsFree ticks openings)
+        All-map P (reference_at lane times) free
+        (All-weaker (IsSlotWithout held) (λ slot. P (reference_at lane times slot)) is free
+        (All-take (IsSlotWithout held) count slots (slots_without held)))
+    by_test false = All-nil P
 
--- what an event opens has free references
-pub opens_free : (lane : Lane) (openings : List Opening) (wish : Wish) (answer : Option Answer) → lane.number < MOST_LANES
-    → AreAmong (IsFree lane.terms.ticks openings) (opening_of lane openings wish answer).connection
-opens_free lane openings wish answer within =
-    opened_among (IsFree lane.terms.ticks openings) lane.terms wish answer (lowest_free lane openings (slots_needed wish answer))
-    (lowest_are_free lane openings (slots_needed wish answer) within)
+reference_is_next : (lane : Lane) (openings : List Opening) (slot : ℕ) → lane.number < MOST_LANES
+    → IsSlotWithout (is_held lane.terms.ticks openings) slot → IsNext lane openings (reference_at lane (times_taken openings) slot)
+reference_is_next lane openings slot within is =
+    let same : slot ≡ slot_of (reference_at lane (times_taken openings) slot) =
+    sym (slot_read lane.number (generation_after (times_taken openings slot)) slot within is.below) in
+    record {
+      some = subst (λ s. 1 ≤ s) same is.some;
+      free = subst (IsFreeSlot lane.terms.ticks openings) same is.free;
+      turn = ap (reference_at lane (times_taken openings)) same;
+    }
+
+-- what an event opens has free references, in the next turns of their slots
+pub opens_next : (lane : Lane) (openings : List Opening) (wish : Wish) (answer : Option Answer) → lane.number < MOST_LANES
+    → AreAmong (IsNext lane openings) (opening_of lane openings wish answer).connection
+unfolding lowest_free
+opens_next lane openings wish answer within =
+    opened_among (IsNext lane openings) lane.terms wish answer (lowest_free lane openings (slots_needed wish answer))
+    (enough_are (IsNext lane openings) (is_held lane.terms.ticks openings) lane (times_taken openings) (slots_needed wish answer)
+    (λ slot is. reference_is_next lane openings slot within is))

@@ -10,11 +10,11 @@ use Rattle.plant_core.specs.declared.terms.Ticks.{Ticks}
 use Rattle.section_model.specs.Ends.{End, Connection}
 use Rattle.section_model.specs.Opening.{wish_of}
 use Rattle.relay_base.specs.declared.limits.TheConstants.{MOST_LANES}
-use Rattle.relay_base.specs.References.{slot_of}
+use Rattle.section_model.specs.References.{slot_of}
 use Rattle.section_model.specs.Lane.{Lane, Opening, reference_of, is_at, is_kept_by, gone_for, holds, holds_by, is_held, with_event, opening_of, opening_list, openings_after, answer_of}
 use Rattle.section_model.specs.Laws.{openings_from}
 use Rattle.hearing_law.specs.HearingLaw.{OneHolds}
-use Rattle.hearing_law.proofs.Opened.{EndsAre, AreAmong, IsFree, opens_free}
+use Rattle.hearing_law.proofs.Opened.{EndsAre, AreAmong, IsNext, opens_next}
 use Rattle.hearing_law.proofs.Held.{holds_before, free_after}
 
 abbrev pub AreApart : Ticks → List Opening → Type 0
@@ -51,28 +51,29 @@ apart_with ticks (x ∷ openings) o apart new = (
 
 -- What an event opens.
 
-end_is_free : (ticks : Ticks) (openings : List Opening) (slot : ℕ) (mine : Option ℕ) → IfSome mine (IsFree ticks openings) → is_at slot mine ≡ true
-    → is_held ticks openings slot ≡ false
-end_is_free ticks openings slot None free at = absurd (cc)
-end_is_free ticks openings slot (Some m) free at = subst (λ s. is_held ticks openings s ≡ false) (eqb-true (slot_of m) slot at) free
+end_is_free : (lane : Lane) (openings : List Opening) (slot : ℕ) (mine : Option ℕ) → IfSome mine (IsNext lane openings) → is_at slot mine ≡ true
+    → is_held lane.terms.ticks openings slot ≡ false
+end_is_free lane openings slot None next at = absurd (cc)
+end_is_free lane openings slot (Some m) next at = subst (λ s. is_held lane.terms.ticks openings s ≡ false) (eqb-true (slot_of m) slot at) next.free
 
-abbrev new_of : Connection → Opening
+abbrev pub new_of : Connection → Opening
 new_of c = record { first = c; since = [] }
 
-new_is_apart : (ticks : Ticks) (openings : List Opening) (c : Connection) → EndsAre (IsFree ticks openings) c → HoldsNew ticks openings (new_of c)
-new_is_apart ticks openings c free = λ slot held.
-    let part : (end : Connection → End) → IfSome (reference_of (end c)) (IsFree ticks openings) → holds_by ticks slot end (new_of c) ≡ true → is_held ticks openings slot ≡ false =
-    λ end is e. end_is_free ticks openings slot (reference_of (end c)) is (and_parts (is_at slot (reference_of (end c))) (is_kept_by ticks.freeze (gone_for ticks end c [])) e).0 in
-    ⊎_elim (part (λ d. d.this) free.0) (part (λ d. d.that) free.1)
+new_is_apart : (lane : Lane) (openings : List Opening) (c : Connection) → EndsAre (IsNext lane openings) c → HoldsNew lane.terms.ticks openings (new_of c)
+new_is_apart lane openings c next = λ slot held.
+    let ticks : Ticks = lane.terms.ticks in
+    let part : (end : Connection → End) → IfSome (reference_of (end c)) (IsNext lane openings) → holds_by ticks slot end (new_of c) ≡ true → is_held ticks openings slot ≡ false =
+    λ end is e. end_is_free lane openings slot (reference_of (end c)) is (and_parts (is_at slot (reference_of (end c))) (is_kept_by ticks.freeze (gone_for ticks end c [])) e).0 in
+    ⊎_elim (part (λ d. d.this) next.0) (part (λ d. d.that) next.1)
     (or_cases (holds_by ticks slot (λ d. d.this) (new_of c)) (holds_by ticks slot (λ d. d.that) (new_of c)) held)
 
-apart_opened : (ticks : Ticks) (event : Event) (openings : List Opening) (connection : Option Connection) → AreAmong (IsFree ticks openings) connection
-    → AreApart ticks openings → AreApart ticks (map (with_event event) openings ++ opening_list connection)
-apart_opened ticks event openings None free apart =
-    subst (AreApart ticks) (sym (append-nil (map (with_event event) openings))) (apart_after ticks event openings apart)
-apart_opened ticks event openings (Some c) free apart =
-    apart_with ticks (map (with_event event) openings) (new_of c) (apart_after ticks event openings apart)
-    (λ slot held. free_after ticks slot event openings (new_is_apart ticks openings c free slot held))
+apart_opened : (lane : Lane) (event : Event) (openings : List Opening) (connection : Option Connection) → AreAmong (IsNext lane openings) connection
+    → AreApart lane.terms.ticks openings → AreApart lane.terms.ticks (map (with_event event) openings ++ opening_list connection)
+apart_opened lane event openings None next apart =
+    subst (AreApart lane.terms.ticks) (sym (append-nil (map (with_event event) openings))) (apart_after lane.terms.ticks event openings apart)
+apart_opened lane event openings (Some c) next apart =
+    apart_with lane.terms.ticks (map (with_event event) openings) (new_of c) (apart_after lane.terms.ticks event openings apart)
+    (λ slot held. free_after lane.terms.ticks slot event openings (new_is_apart lane openings c next slot held))
 
 -- All entries.
 
@@ -81,7 +82,7 @@ apart_next : (lane : Lane) (openings : List Opening) (event : Event) (answer : O
 unfolding openings_after
 apart_next lane openings event answer within apart =
     let wish = wish_of lane.terms event in
-    apart_opened lane.terms.ticks event openings (opening_of lane openings wish answer).connection (opens_free lane openings wish answer within) apart
+    apart_opened lane event openings (opening_of lane openings wish answer).connection (opens_next lane openings wish answer within) apart
 
 pub apart_from : (lane : Lane) (openings : List Opening) (journal : List Entry) → lane.number < MOST_LANES
     → AreApart lane.terms.ticks openings → AreApart lane.terms.ticks (openings_from lane openings journal)

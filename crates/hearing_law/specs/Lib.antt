@@ -1,1 +1,2 @@
 pub mod HearingLaw
+pub mod TurnLaw

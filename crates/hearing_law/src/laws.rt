@@ -1,5 +1,6 @@
 //! Laws of the definitions, each as the contract of a function.
 ghost use Rattle.hearing_law.specs.HearingLaw.{OneHears, OneHolds};
+ghost use Rattle.hearing_law.specs.TurnLaw.{EachInTurn, SameGeneration};
 
 /// No local reference of a lane is held by two connections.
 #[tactic(auto, using(crate::proofs::Standing::one_holds))]
@@ -11,4 +12,14 @@ pub fn one_holds()
 #[tactic(auto, using(crate::proofs::Hearing::one_hears))]
 pub fn one_hears()
     ensures { OneHears }
+{}
+
+/// Each opening has the references of its slots' turns, which follow each other.
+pub fn each_in_turn()
+    ensures { EachInTurn }
+{}
+
+/// A reference that two openings took was given in two turns of its slot that differ by a multiple of 255.
+pub fn same_generation()
+    ensures { SameGeneration }
 {}

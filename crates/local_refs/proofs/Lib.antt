@@ -1,3 +1,4 @@
 mod Sweeps
 mod Frees
 mod Firsts
+mod Taking

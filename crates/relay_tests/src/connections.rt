@@ -320,7 +320,8 @@ fn inactivity(rt: HostRuntime) -> Result<(), Fail> {
     Ok(())
 }
 
-/// A release that nobody confirms is sent again, then the reference is freed and frozen.
+/// A release that nobody confirms is sent again, then the reference is freed and frozen. What comes late for it isn't heard by the next owner of its
+/// slot.
 #[test]
 fn a_release_is_repeated(rt: HostRuntime) -> Result<(), Fail> {
     let alloc = rt.alloc();
@@ -336,12 +337,12 @@ fn a_release_is_repeated(rt: HostRuntime) -> Result<(), Fail> {
     )?;
     let conn = format!(in alloc;
         "{COUPLED_PRINTED}{released}3.1.151 e0 local 8
- < 8 conn 32 2 0 4208 - -
+ < 8 conn 65568 2 0 4208 - -
 4.0.153
 5.1.155 e0 local 8
- < 8 conn 16 2 0 4208 - -
+ < 8 conn 65552 2 0 4208 - -
 5.1.156
- . state
+ . stray
 "
     )?;
     let opening = "w\nm 1 200 3 01010000020200024208\n";

@@ -64,15 +64,43 @@ fn count_after<R: Threads + Wait + Sync + Abort>(
     Ok(count_of(ran.out.as_slice(), start.as_bytes()))
 }
 
-/// The reference of a connection that was refused is given to the next one after 60 ticks, and not before.
+/// The slot of a connection that was refused is given to the next one after 60 ticks, and not before.
 #[test]
 fn a_frozen_reference(rt: HostRuntime) -> Result<(), Fail> {
     let alloc = rt.alloc();
     let refused = "m 1 200 3 01010000020200024208\nu 1 8 refuse 16 3 -\n";
     let next = "m 1 200 3 01020000020200024208\n";
-    for (ticks, count) in [(59, 1), (60, 2)] {
-        let found = count_after(&rt, alloc, ticks, (refused, next), " < 8 conn 16 ")?;
+    for (ticks, count) in [(59, 0), (60, 1)] {
+        let found = count_after(&rt, alloc, ticks, (refused, next), " < 8 conn 65552 ")?;
         assert_eq!(rt; found, count, "{ticks}");
+    }
+    Ok(())
+}
+
+/// A slot that is taken again and again has 255 references one after another, and then the first again.
+#[test]
+fn the_turns_of_a_slot(rt: HostRuntime) -> Result<(), Fail> {
+    let alloc = rt.alloc();
+    let head = "point = 100\nusers = [8]\n[timers]\nfreeze = 1\n%%\n";
+    let mut text = String::from_str(alloc, head)?;
+    for turn in 0..256 {
+        let reference = turn % 255 * 65_536 + 16;
+        writeln!(text, "m 1 200 3 01010000020200024208")?;
+        writeln!(text, "u 1 8 refuse {reference} 3 -\nw\nt\nw")?;
+    }
+    let ran = call(&rt, alloc, &["run"], text.as_bytes(), [SOUND; 3])?;
+    assert_eq!(rt; ran.status, 0);
+    for (start, count) in [
+        (" < 8 conn 16 ", 2),
+        (" < 8 conn 65552 ", 1),
+        (" < 8 conn 16646160 ", 1),
+        (" > 200 3 030100000300", 256),
+    ] {
+        assert_eq!(rt;
+            count_of(ran.out.as_slice(), start.as_bytes()),
+            count,
+            "{start}"
+        );
     }
     Ok(())
 }

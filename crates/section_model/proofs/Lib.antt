@@ -1,3 +1,4 @@
+pub mod References
 pub mod Following
 pub mod Handing
 pub mod ReadLengths

@@ -3,7 +3,6 @@ use Rattle.std.specs.Prelude.{◌≡◌, ℕ, ◌==◌, ◌&&◌, ◌||◌, nat_
 use Rattle.std.specs.List.{list_any, range_with_len}
 use Rattle.relay_base.specs.declared.causes.TheConstants.{ERROR_UNASSIGNED_REFERENCE}
 use Rattle.relay_base.specs.declared.limits.TheConstants.{SLOTS}
-use Rattle.relay_base.specs.References.{slot_of, reference_of_slot}
 use Rattle.relay_base.specs.declared.words.Output.{Output}
 use Rattle.relay_base.specs.declared.words.Output.TheVariants.{Sent, Told, Lost as Dropped}
 use Rattle.relay_base.specs.declared.words.Lost.TheVariants as lost
@@ -21,6 +20,7 @@ use Rattle.q713_codec.specs.Writing.{spelling_of}
 use Rattle.section_model.specs.declared.cell.Occasion.{Occasion}
 use Rattle.section_model.specs.declared.cell.Occasion.TheVariants as on
 use Rattle.section_model.specs.Parameters.{Parameters, Arrival, arrival_in}
+use Rattle.section_model.specs.References.{slot_of, generation_after, reference_of_slot}
 use Rattle.section_model.specs.Ends.{End, wire, owner, Connection}
 use Rattle.section_model.specs.Step.{connection_step, hears, is_in_range, end_is_gone}
 use Rattle.section_model.specs.Opening.{Wish, by_cr, by_user, no_wish, wish_of, question_of, slots_needed, opened, Opened}
@@ -90,6 +90,14 @@ abbrev pub is_at : ℕ → Option ℕ → Bool
 is_at slot None = false
 is_at slot (Some mine) = slot_of mine == slot
 
+-- an opening took the slot for one of its ends
+abbrev pub took : ℕ → Opening → Bool
+took slot o = is_at slot (reference_of o.first.this) || is_at slot (reference_of o.first.that)
+
+-- how many of these openings took the slot
+abbrev pub times_taken : List Opening → ℕ → ℕ
+times_taken openings slot = count_by (took slot) openings
+
 -- an opening took the slot for one of its ends, and that end has it still
 abbrev pub holds_by : Ticks → ℕ → (Connection → End) → Opening → Bool
 holds_by ticks slot end o =
@@ -104,12 +112,16 @@ is_held ticks openings slot = list_any (holds ticks slot) openings
 abbrev pub free_slots : Ticks → List Opening → List ℕ
 free_slots ticks openings = filter (λ slot. not (is_held ticks openings slot)) (range_with_len 1 SLOTS)
 
+-- the reference that an opening has for a slot which those before it took so many times
+abbrev pub reference_at : Lane → (ℕ → ℕ) → ℕ → ℕ
+reference_at lane times slot = reference_of_slot lane.number (generation_after (times slot)) slot
+
 -- the references of the lowest free slots, or none where there are too few
-abbrev pub enough : Lane → ℕ → List ℕ → List ℕ
-enough lane count free = if length free == count then map (reference_of_slot lane.number) free else []
+abbrev pub enough : Lane → (ℕ → ℕ) → ℕ → List ℕ → List ℕ
+enough lane times count free = if length free == count then map (reference_at lane times) free else []
 
 unfoldable pub lowest_free : Lane → List Opening → ℕ → List ℕ
-lowest_free lane openings count = enough lane count (take count (free_slots lane.terms.ticks openings))
+lowest_free lane openings count = enough lane (times_taken openings) count (take count (free_slots lane.terms.ticks openings))
 
 -- What nobody hears (Q.714, messages for an unassigned local reference): CC, RSR and IT are answered by ERR, RLSD by RLC, and another message
 -- for a connection is lost. CR, and a message of the connectionless service, are none.

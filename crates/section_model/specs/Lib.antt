@@ -10,6 +10,7 @@ pub mod Acting
 pub mod Coupling
 pub mod Step
 pub mod Opening
+pub mod References
 pub mod Lane
 pub mod Lengths
 pub mod Laws

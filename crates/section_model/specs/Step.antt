@@ -247,7 +247,8 @@ event_step ticks c Tick = ticks_by ticks c
 unfoldable pub connection_step : Ticks → Connection → Event → Connection × List Output
 connection_step ticks c event = after_event ticks (event_step ticks c event)
 
--- What a connection hears: a tick unless it is over, and a message or a request that names a reference of it.
+-- What a connection hears: a tick unless it is over, and a message or a request that names a reference of it, as a whole number, of an end that
+-- isn't gone.
 abbrev pub names : Option ℕ → Connection → Bool
 names None c = false
 names (Some reference) c = is_named reference c.this || is_named reference c.that

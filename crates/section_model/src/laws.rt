@@ -1,6 +1,7 @@
 //! Laws of the definitions, each as the contract of a function.
 ghost use Rattle.section_model.specs.Laws.{StepByStep, TwoWorlds, NoHandIsLost};
 ghost use Rattle.section_model.specs.Lengths.{ArrivesWithin, ReadsWithin, WritesWithin};
+ghost use Rattle.section_model.specs.References.{ReferencesAreRead};
 
 /// What a connection is after one more event hangs on what it was alone.
 #[tactic(auto, using(crate::proofs::Following::one_more))]
@@ -36,4 +37,10 @@ pub fn arrives_within()
 #[tactic(auto, using(crate::proofs::InRanges::writes_within))]
 pub fn writes_within()
     ensures { WritesWithin }
+{}
+
+/// The slot of a local reference that is given is its slot, and no reference is all ones.
+#[tactic(auto, using(crate::proofs::References::references_are_read))]
+pub fn references_are_read()
+    ensures { ReferencesAreRead }
 {}

@@ -9,3 +9,6 @@ pub const LONGEST_ADDRESS: usize = LONGEST_PARAMETER;
 
 /// The most octets of data in DT1 and DT2 (Q.713, 4.7 and 4.8).
 pub const LONGEST_UNIT: usize = LONGEST_PARAMETER;
+
+/// How many generations of a local reference there are, 0 to 254: with one more, a reference could be all ones.
+pub const GENERATIONS: u32 = 255;

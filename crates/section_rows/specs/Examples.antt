@@ -63,13 +63,17 @@ asks request = Asks 8 request
 abbrev pub sent : ℕ → ℕ → String → Output
 sent point sls text = Sent point sls (hex text)
 
--- the opening by an event where these slots are free
+-- the opening by an event where these slots are free, and weren't taken yet
 abbrev pub opening_in : List ℕ → Event → Opened
 opening_in slots event =
     let wish = wish_of first_lane.terms event in
     let answer = answer_to (question_of wish) in
     let count = slots_needed wish answer in
-    opened first_lane.terms wish answer (enough first_lane count (take count slots))
+    opened first_lane.terms wish answer (enough first_lane (λ _. 0) count (take count slots))
+
+-- the reference of the lowest slot, where it was taken so many times
+abbrev pub references_after : ℕ → List ℕ
+references_after times = enough first_lane (λ _. times) 1 (1 ∷ [])
 
 -- a CR for subsystem 8
 abbrev pub cr : Event

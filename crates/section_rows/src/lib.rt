@@ -18,5 +18,6 @@ pub use opening::{
 };
 pub use relay::{frozen_half, relays, repeats, strays};
 pub use release::{
-    frozen_references, late_message, silence, unknown_reference, user_disconnects, wrong_reference,
+    frozen_references, generations, late_message, silence, unknown_reference, user_disconnects,
+    wrong_reference,
 };

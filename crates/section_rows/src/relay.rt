@@ -25,23 +25,24 @@ pub fn strays()
         ∷ (dropped lost.Stray ∷ []) ∷ (sent 301 4 "05090000200000" ∷ []) ∷ [] ∷ []) }
 {}
 
-/// A reference is frozen for 60 ticks from when its half is gone: at tick 59 a new connection gets another one, and at tick 60 that one.
+/// A reference is frozen for 60 ticks from when its half is gone: at tick 59 a new connection gets another slot, and at tick 60 that one, with the
+/// next generation.
 pub fn frozen_half()
     ensures { Shows first_lane (relayed ++ replicate 59 tick ++ cr ∷ tick ∷ cr ∷ [])
         (relayed_outs ++ replicate 14 [] ++ (sent 200 4 "040700001000000000" ∷ [])
         ∷ replicate 14 [] ++ (sent 200 4 "040700001000000000" ∷ [])
         ∷ replicate 14 [] ++ (sent 200 4 "040700001000000000" ∷ [])
         ∷ replicate 14 [] ++ offers 48
-        ∷ (sent 200 4 "040700001000000000" ∷ []) ∷ offers 32 ∷ []) }
+        ∷ (sent 200 4 "040700001000000000" ∷ []) ∷ offers 65568 ∷ []) }
 {}
 
-/// RLSD is repeated until the section is given up, and references come back once they were frozen.
+/// RLSD is repeated until the section is given up, and slots come back once their references were frozen.
 pub fn repeats()
     ensures { Shows first_lane (relayed ++ replicate 134 tick ++ cr ∷ tick ∷ cr ∷ [])
         (relayed_outs ++ replicate 14 [] ++ (sent 200 4 "040700001000000000" ∷ [])
         ∷ replicate 14 [] ++ (sent 200 4 "040700001000000000" ∷ [])
         ∷ replicate 14 [] ++ (sent 200 4 "040700001000000000" ∷ [])
         ∷ replicate 14 [] ++ (sent 200 4 "040700001000000000" ∷ [])
-        ∷ replicate 74 [] ++ offers 32
-        ∷ [] ∷ offers 16 ∷ []) }
+        ∷ replicate 74 [] ++ offers 65568
+        ∷ [] ∷ offers 65552 ∷ []) }
 {}

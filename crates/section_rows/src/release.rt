@@ -8,7 +8,7 @@ ghost use Rattle.relay_base.specs.declared.words.Lost.TheVariants as lost;
 ghost use Rattle.relay_base.specs.declared.words.Reason.TheVariants as reason;
 ghost use Rattle.section_rows.specs.Text.{hex};
 ghost use Rattle.section_rows.specs.Played.{Shows};
-ghost use Rattle.section_rows.specs.Examples.{first_lane, quick_lane, arrives, asks, sent, cr, local, local_outs, refused_at, refused_outs, offers};
+ghost use Rattle.section_rows.specs.Examples.{first_lane, quick_lane, arrives, asks, sent, cr, local, local_outs, refused_at, refused_outs, references_after, offers};
 
 /// Data, and a release by the user, whose RLC comes twice.
 pub fn user_disconnects()
@@ -49,17 +49,25 @@ pub fn silence()
         ++ (sent 200 3 "040100001000000d00" ∷ told 8 (tell.Disc 16 13 None) ∷ []) ∷ []) }
 {}
 
-/// A reference is free again as soon as it was frozen for its ticks.
+/// A slot is free again as soon as its reference was frozen for its ticks, and then has the reference of the next generation.
 #[tactic(auto, using(crate::proofs::Showing::shows), unfolding(crate::specs::Played::played))]
 pub fn frozen_references()
-    ensures { Shows quick_lane (refused_at 16 ++ refused_at 16)
-        (refused_outs 16 ++ refused_outs 16) }
+    ensures { Shows quick_lane (refused_at 16 ++ refused_at 65552)
+        (refused_outs 16 ++ refused_outs 65552) }
 {}
 
-/// A late message for the former owner of a reference is lost by the state of the next one.
+/// A late message for the former owner of a slot isn't heard by the next one.
 #[tactic(auto, using(crate::proofs::Showing::shows), unfolding(crate::specs::Played::played))]
 pub fn late_message()
     ensures { Shows quick_lane
         (refused_at 16 ++ cr ∷ arrives 200 3 "0610000000010161" ∷ [])
-        (refused_outs 16 ++ offers 16 ∷ (dropped lost.State ∷ []) ∷ []) }
+        (refused_outs 16 ++ offers 65552 ∷ (dropped lost.Stray ∷ []) ∷ []) }
+{}
+
+/// The references of a slot, one after another: the 256th is the first again.
+pub fn generations()
+    ensures first { references_after 0 ≡ 16 ∷ [] }
+    ensures second { references_after 1 ≡ 65552 ∷ [] }
+    ensures last { references_after 254 ≡ 16646160 ∷ [] }
+    ensures again { references_after 255 ≡ 16 ∷ [] }
 {}

@@ -30,7 +30,7 @@ fn lowest_slots_are_taken_and_freeze(rt: HostRuntime) -> Result<(), Fail> {
     assert_same(
         &rt,
         &(slots.free(), number(slots.peek(0))),
-        &(4_095, Some(19)),
+        &(4_095, Some(65_555)),
     );
     Ok(())
 }

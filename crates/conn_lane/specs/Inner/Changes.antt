@@ -1,9 +1,7 @@
 -- What an event changes in what a lane keeps.
 use Rattle.std.specs.Prelude.{◌≡◌, ℕ, ◌+◌, ◌<◌, true, List, [], ◌∷◌, ◌++◌, length, get_or, slice_set, Option, Some, None, is_some, IfSome}
-use Rattle.relay_base.specs.References.{slot_of}
-use Rattle.relay_base.specs.declared.limits.TheConstants.{SLOTS}
-use Rattle.local_refs.specs.Slots.{LaneSlots, free_references, with_state, frozen_for, after_tick, IsHeld}
-use Rattle.local_refs.specs.declared.state.SlotState.TheVariants.{Held}
+use Rattle.local_refs.specs.Slots.{LaneSlots, free_references, with_state, with_taken, frozen_for, after_tick, IsHeld}
+use Rattle.section_model.specs.References.{slot_of}
 use Rattle.section_model.specs.Lane.{reference_of}
 use Rattle.section_coupling.specs.Duos.{DuoState, duo_at}
 use Rattle.conn_lane.specs.declared.change.Next.{Next}
@@ -22,7 +20,7 @@ given_up (Some mine) slots = with_state slots (slot_of mine) (frozen_for slots.f
 
 abbrev pub taken : Option ℕ → LaneSlots → LaneSlots
 taken None slots = slots
-taken (Some mine) slots = with_state slots (slot_of mine) Held
+taken (Some mine) slots = with_taken slots (slot_of mine)
 
 abbrev pub owned : Option ℕ → Option ℕ → List (Option ℕ) → List (Option ℕ)
 owned None number owners = owners
@@ -74,9 +72,9 @@ changed (Ticked nexts) o = put_all nexts.items (ticked o)
 
 -- What can be changed.
 
--- a reference that is held, of a slot of the lane
+-- a reference that is held
 abbrev pub CanGiveUp : Option ℕ → LaneSlots → Type 0
-CanGiveUp mine slots = IfSome mine (λ m. IsHeld slots m × (slot_of m < SLOTS + 1))
+CanGiveUp mine slots = IfSome mine (IsHeld slots)
 
 pub record CanBePut (next : Next) (o : OpeningsState) : Type 0 where
   pub number : next.number < length o.kept
@@ -96,8 +94,6 @@ listed (Some mine) = mine ∷ []
 pub record CanTake (this that : Option ℕ) (o : OpeningsState) : Type 0 where
   pub rest : List ℕ
   pub free : free_references o.slots ≡ listed this ++ (listed that ++ rest)
-  pub on_this : IfSome this (λ m. slot_of m < SLOTS + 1)
-  pub on_that : IfSome that (λ m. slot_of m < SLOTS + 1)
 
 -- a change that can be made
 abbrev pub Fits : Change → OpeningsState → Type 0

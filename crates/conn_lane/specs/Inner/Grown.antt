@@ -42,6 +42,6 @@ Grows plant head number before after entry =
 
 -- what comes of an event in a lane, as the code has it: a change that can be made
 pub record TurnsInto (plant : PlantState) (lane : Context) (event : Event) (before : OpeningsState) (turn : Turn) : Type 0 where
-  pub comes : (keeps : List Remnant) → StandsIn lane.head lane.number keeps before
+  pub comes : (keeps : List Remnant) → StandsIn lane.head.now lane.number keeps before
       → Fits turn.change before
-      × Comes plant lane.head lane.number event keeps before (changed turn.change before) turn.asked turn.outs
+      × Comes plant lane.head.now lane.number event keeps before (changed turn.change before) turn.asked turn.outs

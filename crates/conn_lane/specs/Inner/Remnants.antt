@@ -1,15 +1,15 @@
 -- What a connection lane keeps of each of its openings: the connection while it isn't over, and the local references that it took, which
 -- stay frozen for a while once their ends are gone (Q.714, 3.3.2).
-use Rattle.std.specs.Prelude.{ℕ, ◌-◌, ◌==◌, ◌&&◌, ◌||◌, not, Bool, true, false, List, [], ◌∷◌, take, filter, if◌then◌else◌, Option, Some, None, option_map, is_some}
+use Rattle.std.specs.Prelude.{ℕ, ◌-◌, ◌==◌, ◌&&◌, ◌||◌, not, Bool, true, false, List, [], ◌∷◌, take, filter, if◌then◌else◌, count_by, Option, Some, None, option_map, is_some}
 use Rattle.std.specs.List.{list_any, range_with_len, flat_map}
 use Rattle.relay_base.specs.declared.words.Event.{Event}
 use Rattle.relay_base.specs.declared.words.Output.{Output}
 use Rattle.plant_core.specs.declared.terms.Ticks.{Ticks}
 use Rattle.section_model.specs.Ends.{End, Connection}
 use Rattle.section_model.specs.Step.{connection_step, hears, end_is_gone, is_over}
-use Rattle.relay_base.specs.References.{slot_of}
 use Rattle.relay_base.specs.declared.limits.TheConstants.{SLOTS}
-use Rattle.section_model.specs.Lane.{Lane, Opening, connection_of, fed, gone_for, reference_of, enough, is_tick}
+use Rattle.section_model.specs.References.{slot_of}
+use Rattle.section_model.specs.Lane.{Lane, Opening, connection_of, fed, gone_for, reference_of, is_at, enough, is_tick}
 
 -- a connection that isn't over, with the ticks of its timers
 pub record Live : Type 0 where
@@ -118,9 +118,17 @@ takes_slot slot k = sits slot k.this || sits slot k.that
 abbrev pub free_in : List Remnant → List ℕ
 free_in keeps = filter (λ slot. not (list_any (takes_slot slot) keeps)) (range_with_len 1 SLOTS)
 
+-- an opening took the slot
+abbrev pub took_slot : ℕ → Remnant → Bool
+took_slot slot k = is_at slot (option_map (λ s. s.mine) k.this) || is_at slot (option_map (λ s. s.mine) k.that)
+
+-- how many openings took it
+abbrev pub times_in : List Remnant → ℕ → ℕ
+times_in keeps slot = count_by (took_slot slot) keeps
+
 -- the references of so many lowest free slots, or none where there are too few
 abbrev pub lowest_in : Lane → List Remnant → ℕ → List ℕ
-lowest_in lane keeps count = enough lane count (take count (free_in keeps))
+lowest_in lane keeps count = enough lane (times_in keeps) count (take count (free_in keeps))
 
 -- an end has the slot, and isn't gone
 abbrev pub has : ℕ → Option Seat → Bool

@@ -1,13 +1,11 @@
 -- What holds at all times of what a connection lane keeps: an end has its reference until it is gone, and no two openings take one slot.
-use Rattle.std.specs.Prelude.{◌≡◌, ℕ, ◌+◌, ◌<◌, true, false, List, [], ◌∷◌, All, Option, Some, None, option_map, is_some, IfSome}
+use Rattle.std.specs.Prelude.{◌≡◌, ℕ, true, false, List, [], ◌∷◌, All, Option, Some, None, option_map, is_some, IfSome}
 use Rattle.std.specs.List.{list_any}
 use Rattle.relay_base.specs.declared.words.Event.{Event}
 use Rattle.relay_base.specs.declared.words.Event.TheVariants.{Message as Arrived, Asked as Requested, Tick}
 use Rattle.section_model.specs.Ends.{End}
 use Rattle.section_model.specs.Parameters.{arrival_in}
 use Rattle.section_model.specs.Step.{destination_of, named, end_is_gone, is_over}
-use Rattle.relay_base.specs.References.{slot_of}
-use Rattle.relay_base.specs.declared.limits.TheConstants.{SLOTS}
 use Rattle.section_model.specs.Lane.{reference_of}
 use Rattle.conn_lane.specs.Inner.Remnants.{Live, Seat, Remnant, takes_slot}
 
@@ -23,15 +21,9 @@ AreSeated (Some l) this that = SeatIs l.connection.this this × SeatIs l.connect
 abbrev pub IsOn : Option Live → Type 0
 IsOn live = IfSome live (λ l. is_over l.connection ≡ false)
 
--- a slot of the lane
-abbrev pub IsInLane : Option Seat → Type 0
-IsInLane seat = IfSome seat (λ s. slot_of s.mine < SLOTS + 1)
-
 pub record IsSeated (k : Remnant) : Type 0 where
   pub on : IsOn k.live
   pub live : AreSeated k.live k.this k.that
-  pub this : IsInLane k.this
-  pub that : IsInLane k.that
 
 -- no slot is taken by two openings
 abbrev pub AreApart : List Remnant → Type 0

@@ -1,9 +1,10 @@
 -- What the openings of a lane make of a slot (Q.714, 3.3.2): an end has it, or it is frozen for some ticks after its use, or it is free.
-use Rattle.std.specs.Prelude.{◌≡◌, ℕ, ◌+◌, ◌<◌, if◌then◌else◌, List, [], ◌∷◌, length, get_or, slice_get, Option, Some, None}
+use Rattle.std.specs.Prelude.{◌≡◌, ℕ, ◌+◌, ◌<◌, ◌≤◌, if◌then◌else◌, List, [], ◌∷◌, length, get_or, slice_get, Option, Some, None}
 use Rattle.relay_base.specs.declared.limits.TheConstants.{SLOTS}
-use Rattle.local_refs.specs.Slots.{LaneSlots, frozen_for}
+use Rattle.local_refs.specs.Slots.{LaneSlots, frozen_for, generation_at}
 use Rattle.local_refs.specs.declared.state.SlotState.{SlotState}
 use Rattle.local_refs.specs.declared.state.SlotState.TheVariants.{Free, Held}
+use Rattle.section_model.specs.References.{generation_after}
 use Rattle.conn_lane.specs.Inner.Remnants.{Seat, Remnant, sits}
 
 -- the number of the opening that uses a slot, and the ticks for which it is frozen yet, once the end is gone
@@ -57,3 +58,8 @@ pub record AreUsed (uses : ℕ → Option Use) (slots : LaneSlots) (index : List
   pub states : (place : ℕ) → place < SLOTS → slice_get slots.states place ≡ Some (state_of (uses (place + 1)))
   pub many : length index ≡ SLOTS + 1
   pub owners : (slot : ℕ) → slot < SLOTS + 1 → owner_at index slot ≡ owner_of (uses slot)
+
+-- each slot has the generation that it has when it is taken next, where it was taken so many times
+pub record AreCounted (times : ℕ → ℕ) (slots : LaneSlots) : Type 0 where
+  pub count : length slots.generations ≡ SLOTS
+  pub each : (slot : ℕ) → 1 ≤ slot → slot < SLOTS + 1 → generation_at slots slot ≡ generation_after (times slot)

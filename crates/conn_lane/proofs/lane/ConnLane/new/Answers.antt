@@ -8,8 +8,9 @@ use Rattle.conn_lane.proofs.lane.ConnLane.new.Goals as goal
 
 pub invariant_of-result : goal.invariant_of-result
 invariant_of-result c = (
-  subst (λ journal. IsConnLane c.args.head.now c.args.number journal c.in_ok-openings.openings) (sym c.new-2.ensures)
-      (subst (IsConnLane c.args.head.now c.args.number []) (sym c.in_ok-openings.ensures) (lane_begins c.args.head.now c.args.number c.requires.number c.requires.credit)),
+  subst (λ head. IsConnLane head c.args.number c.new-2.result c.in_ok-openings.openings) (sym c.in_ok-head.ensures)
+      (subst (λ journal. IsConnLane c.args.head.now c.args.number journal c.in_ok-openings.openings) (sym c.new-2.ensures)
+      (subst (IsConnLane c.args.head.now c.args.number []) (sym c.in_ok-openings.ensures) (lane_begins c.args.head.now c.args.number c.requires.number c.requires.credit))),
   subst (λ v. IsTimed c.in_ok-openings.openings.taken c.in_ok-openings.openings.kept v.armed) (sym c.new-3.ensures)
       (subst (λ (o : OpeningsState). IsTimed o.taken o.kept []) (sym c.in_ok-openings.ensures) none_wakes),
 )

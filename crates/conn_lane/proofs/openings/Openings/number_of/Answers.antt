@@ -1,5 +1,5 @@
 use Rattle.std.proofs.Common.{sym, subst, ap, ◌∙◌}
-use Rattle.relay_base.specs.References.{slot_of}
+use Rattle.section_model.specs.References.{slot_of}
 use Rattle.conn_lane.specs.Inner.Finding.{IsPlaceIn}
 use Rattle.conn_lane.specs.Inner.Uses.{owner_at}
 use Rattle.conn_lane.proofs.Found.{found_unnamed, found_place_in, found_within}
@@ -15,11 +15,11 @@ pub returns-clause-place : goal.returns-clause-place
 returns-clause-place c =
     λ keeps stands.
     found_place_in c.args.event.now keeps c.args.self.now c.in_ok-mine.mine c.owner.result stands (sym c.reference_in.ensures ∙ c.in_ok-mine.was)
-    (c.owner.ensures.value ∙ ap (λ v. owner_at v.owners (slot_of c.in_ok-mine.mine)) c.self.view_is) c.owner.ensures.within
+    (c.owner.ensures ∙ ap (λ v. owner_at v.owners (slot_of c.in_ok-mine.mine)) c.self.view_is)
 
 pub returns-clause-within : goal.returns-clause-within
 returns-clause-within c =
     let s = c.requires.standing in
     found_within c.args.event.now c.args.self.now c.owner.result s
     (found_place_in c.args.event.now s.keeps c.args.self.now c.in_ok-mine.mine c.owner.result s.stands (sym c.reference_in.ensures ∙ c.in_ok-mine.was)
-    (c.owner.ensures.value ∙ ap (λ v. owner_at v.owners (slot_of c.in_ok-mine.mine)) c.self.view_is) c.owner.ensures.within)
+    (c.owner.ensures ∙ ap (λ v. owner_at v.owners (slot_of c.in_ok-mine.mine)) c.self.view_is))

@@ -1,7 +1,6 @@
 use Rattle.std.proofs.Common.{◌≡◌, ◌+◌, length, sym, ap, ◌∙◌, arith}
 use Rattle.std.proofs.lemmas.List.{length-map}
-use Rattle.relay_base.specs.References.{reference_of_slot}
-use Rattle.local_refs.specs.Slots.{free_from}
+use Rattle.local_refs.specs.Slots.{free_from, next_reference}
 use Rattle.local_refs.proofs.Frees.{seen_free, free_here, free_past, free_none}
 use Rattle.local_refs.proofs.slots.Slots.free.Goals as goal
 use Rattle.local_refs.proofs.slots.Slots.free.Goals.{then-is_free, else-is_free}
@@ -28,4 +27,4 @@ returns c =
     all
     ∙ ap (λ xs. length xs)
     (seen_free c.self.inside.states.items items c.args.self.now.states c.self.inside.passed c.self.inside.soonest (ap (λ s. s.states) c.self.view_is) c.deref-state-items.ensures.value c.self.invariant.2 c.self.invariant.4)
-    ∙ sym (length-map (free_from 1 c.args.self.now.states) (reference_of_slot c.args.self.now.lane))
+    ∙ sym (length-map (free_from 1 c.args.self.now.states) (next_reference c.args.self.now))

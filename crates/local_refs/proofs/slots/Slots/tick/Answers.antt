@@ -8,7 +8,7 @@ use Rattle.local_refs.proofs.slots.Slots.tick.Goals as goal
 
 pub returns-then-self : goal.returns-then-self
 returns-then-self c =
-    ap (λ xs. record { lane = c.self.inside.lane; freeze = c.self.inside.freeze; states = xs }) (swept_more c.self.inside.states.items c.self.inside.passed)
+    ap (λ xs. record { lane = c.self.inside.lane; freeze = c.self.inside.freeze; states = xs; generations = c.self.inside.generations.items }) (swept_more c.self.inside.states.items c.self.inside.passed)
     ∙ ap after_tick c.self.view_is
 
 pub invariant_of-self-2 : goal.invariant_of-self-2
@@ -27,6 +27,7 @@ invariant_of-self-2 c =
       omega (arith, found, soonest_bound (swept_all ticks items)),
       omega (arith, c.soonest_in-self-inside.ensures, ap soonest_in c.deref.ensures.value),
       taken_none _,
+      c.self.invariant.6,
     )
 
 pub returns : goal.returns
@@ -38,6 +39,6 @@ returns c =
     let long : length items ≡ c.self.inside.states.len = ap (λ xs. length xs) (sym c.deref_mut.ensures.value) ∙ c.deref_mut.ensures.len in
     let whole : take c.self.inside.states.len (c.sweep.new.states ++ drop (length c.sweep.new.states) items) ≡ swept_all ticks items =
     with_all items c.sweep.new.states c.self.inside.states.len counted long ∙ swept_now in
-    ap (λ xs. record { lane = c.self.inside.lane; freeze = c.self.inside.freeze; states = xs })
+    ap (λ xs. record { lane = c.self.inside.lane; freeze = c.self.inside.freeze; states = xs; generations = c.self.inside.generations.items })
     (ap (swept_all 0) whole ∙ swept_none items ticks ∙ swept_more items c.self.inside.passed)
     ∙ ap after_tick c.self.view_is
