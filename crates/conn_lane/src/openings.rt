@@ -125,6 +125,28 @@ fn make_room(kept: &mut Connections, wheel: &mut Wheel, change: &Change) -> Resu
     kept.reserve()
 }
 
+/// Takes memory for what an event changes, and puts an entry at the end of the journal. After `Memory` the journal is as before.
+fn enter(
+    kept: &mut Connections,
+    wheel: &mut Wheel,
+    change: &Change,
+    journal: &mut EntryList,
+    entry: Entry,
+) -> Result<(), Memory>
+    ensures kept { kept.new.kept ≡ kept.old.kept }
+    ensures armed { wheel.new.armed ≡ wheel.old.armed }
+    ensures room { OnOk result (1 ≤ kept.new.room) }
+    ensures timers { let timers = length wheel.new.armed + timers_of change.now in
+        OnOk result (timers ≤ wheel.new.room) }
+    ensures journal { OnOk result (journal.new ≡ journal.old ++ entry ∷ []) }
+    ensures err { OnErr result (journal.new ≡ journal.old) }
+{
+    // Room for a connection and for timers is taken here, so that the journal grows last of what may lack memory.
+    make_room(kept, wheel, change)?;
+    journal.push(entry)?;
+    Ok(())
+}
+
 /// Keeps a connection that was just opened, and starts its timers. Its number is given.
 fn keep(kept: &mut Connections, wheel: &mut Wheel, taken: u64, one: Kept) -> usize
     requires room { 1 ≤ kept.old.room }
@@ -289,9 +311,7 @@ impl Openings {
         ensures err { OnErr result ((journal.new ≡ journal.old) × (self.new ≡ self.old)
             × (wheel.new.armed ≡ wheel.old.armed)) }
     {
-        // Room for a connection and for timers is taken here, so that the journal grows last of what may lack memory.
-        make_room(&mut self.kept, wheel, &change)?;
-        journal.push(entry)?;
+        enter(&mut self.kept, wheel, &change, journal, entry)?;
         match change {
             Change::Nothing => {}
             Change::Heard(next) => self.put_heard(wheel, next),
