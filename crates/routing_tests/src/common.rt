@@ -1,9 +1,10 @@
 //! The points, titles and octets of the tests.
 ghost use Rattle.plant_core.specs.Terms.{AreTicks};
 
+use data_lane::DataLane;
 use gtt_table::{Entity, Row};
-use plant_core::{Ticks, USUAL_TICKS};
-use relay_base::{Digit, Digits, Octets, Pc, Sls, Ssn};
+use plant_core::{LaneHead, Plant, Terms, Ticks, USUAL_TICKS};
+use relay_base::{Digit, Digits, Event, Octets, Outs, Pc, PcList, Sls, Ssn, Stamp};
 use sccp_address::Selector;
 use std::alloc::Global;
 use std::process::Abort;
@@ -71,5 +72,38 @@ pub fn ticks() -> Ticks
         status_max: 5,
         coord: 3,
         ..USUAL_TICKS
+    }
+}
+
+/// A lane of point 100, where a reassembly has 15 ticks, which knows the points that can't take LUDT.
+pub fn lane(rt: &impl Abort, alloc: Global, number: u8, short: &[Pc]) -> DataLane {
+    let terms = Terms {
+        own: point(rt, 100),
+        credit: 7,
+        ticks: ticks(),
+    };
+    let head = LaneHead {
+        terms,
+        reassembly: 15,
+        short: PcList::from_slice(alloc, short).expect(rt, "memory"),
+    };
+    DataLane::new(alloc, &head, number).expect(rt, "memory")
+}
+
+/// Gives a lane an event.
+pub fn step(rt: &impl Abort, lane: &mut DataLane, plant: &Plant, event: &Event) {
+    let stamp = Stamp {
+        phase: 1,
+        link: 1,
+        line: 4,
+    };
+    lane.step(plant, stamp, event).expect(rt, "memory");
+}
+
+/// Asserts the outputs of a lane's last entry.
+pub fn assert_gave(rt: &impl Abort, lane: &DataLane, wanted: &Outs) {
+    match lane.journal().as_slice().last() {
+        Some(entry) => assert!(rt; entry.outs == *wanted),
+        None => panic!(rt; "no entry"),
     }
 }

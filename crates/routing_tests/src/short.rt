@@ -1,25 +1,9 @@
 //! LUDT and LUDTS for a point that can't take them, octet for octet.
-use crate::common::{point, row, selection, ticks};
-use data_lane::DataLane;
-use plant_core::{LaneHead, Plant, Terms};
-use relay_base::{Event, Lost, Memory, Octets, Output, Outs, PcList, Ssn, Stamp};
+use crate::common::{assert_gave, lane, point, row, selection, step};
+use plant_core::Plant;
+use relay_base::{Event, Lost, Memory, Octets, Output, Outs, Ssn};
 use std::alloc::Global;
 use std::process::Abort;
-
-/// A lane of point 100 that knows that point 300 can't take LUDT.
-fn lane(rt: &impl Abort, alloc: Global) -> DataLane {
-    let terms = Terms {
-        own: point(rt, 100),
-        credit: 7,
-        ticks: ticks(),
-    };
-    let head = LaneHead {
-        terms,
-        reassembly: 15,
-        short: PcList::from_slice(alloc, &[point(rt, 300)]).expect(rt, "memory"),
-    };
-    DataLane::new(alloc, &head, 0).expect(rt, "memory")
-}
 
 /// Point 100 with subsystem 8, where titles that begin with 49 lead to point 300.
 fn plant(rt: &impl Abort, alloc: Global) -> Plant {
@@ -83,23 +67,6 @@ fn lost(rt: &impl Abort, alloc: Global) -> Outs {
     outs
 }
 
-fn step(rt: &impl Abort, lane: &mut DataLane, plant: &Plant, event: &Event) {
-    let stamp = Stamp {
-        phase: 1,
-        link: 1,
-        line: 4,
-    };
-    lane.step(plant, stamp, event).expect(rt, "memory");
-}
-
-/// Asserts the outputs of the last entry.
-fn assert_gave(rt: &impl Abort, lane: &DataLane, wanted: &Outs) {
-    match lane.journal().as_slice().last() {
-        Some(entry) => assert!(rt; entry.outs == *wanted),
-        None => panic!(rt; "no entry"),
-    }
-}
-
 /// LUDTs of class 0 from subsystem 6, up to their data: 300 octets, 3,824 and 3,825.
 const OF_TWO: &[u8] =
     b"\x13\x00\x0f\x07\x00\x0e\x00\x0f\x00\x00\x00\x08\x12\x08\x00\x12\x04\x94\x71\x21\x02\x42\x06\x2c\x01";
@@ -122,7 +89,7 @@ const LAST: &[u8] =
 fn cuts_an_ludt(rt: HostRuntime) {
     let alloc = rt.alloc();
     let plant = plant(&rt, alloc);
-    let mut lane = lane(&rt, alloc);
+    let mut lane = lane(&rt, alloc, 0, &[point(&rt, 300)]);
     for reference in [0x00, 0x10] {
         step(
             &rt,
@@ -144,7 +111,7 @@ fn cuts_an_ludt(rt: HostRuntime) {
 fn cuts_into_sixteen(rt: HostRuntime) {
     let alloc = rt.alloc();
     let plant = plant(&rt, alloc);
-    let mut lane = lane(&rt, alloc);
+    let mut lane = lane(&rt, alloc, 0, &[point(&rt, 300)]);
     step(
         &rt,
         &mut lane,
@@ -228,7 +195,7 @@ const CASES: [Case; 6] = [
 fn shortens_or_refuses(rt: HostRuntime) {
     let alloc = rt.alloc();
     let plant = plant(&rt, alloc);
-    let mut lane = lane(&rt, alloc);
+    let mut lane = lane(&rt, alloc, 0, &[point(&rt, 300)]);
     for (head, size, tail, wanted) in CASES {
         step(
             &rt,

@@ -1,8 +1,8 @@
 //! Worked rows of a data lane, with ticks, and the references of what it cuts.
-use crate::common::{octets, point, selection, ticks};
+use crate::common::{assert_gave, lane, octets, point, selection, step};
 use data_lane::DataLane;
-use plant_core::{LaneHead, Plant, Terms};
-use relay_base::{BoxedOctets, Event, Octets, Output, Outs, PcList, Request, Ssn, Stamp};
+use plant_core::Plant;
+use relay_base::{BoxedOctets, Event, Octets, Output, Outs, Request, Ssn};
 use std::alloc::Global;
 use std::process::Abort;
 
@@ -76,42 +76,10 @@ fn plant(rt: &impl Abort, alloc: Global) -> Plant {
     Plant::start(alloc, point(rt, 100), &[Ssn::from(8)]).expect(rt, "memory")
 }
 
-/// A lane of point 100, where a reassembly has 15 ticks.
-fn lane(rt: &impl Abort, alloc: Global, number: u8) -> DataLane {
-    let terms = Terms {
-        own: point(rt, 100),
-        credit: 7,
-        ticks: ticks(),
-    };
-    let head = LaneHead {
-        terms,
-        reassembly: 15,
-        short: PcList::new(alloc),
-    };
-    DataLane::new(alloc, &head, number).expect(rt, "memory")
-}
-
-fn step(rt: &impl Abort, lane: &mut DataLane, plant: &Plant, event: &Event) {
-    let stamp = Stamp {
-        phase: 1,
-        link: 1,
-        line: 4,
-    };
-    lane.step(plant, stamp, event).expect(rt, "memory");
-}
-
-/// Asserts the outputs of the last entry.
-fn assert_gave(rt: &impl Abort, lane: &DataLane, wanted: &Outs) {
-    match lane.journal().as_slice().last() {
-        Some(entry) => assert!(rt; entry.outs == *wanted),
-        None => panic!(rt; "no entry"),
-    }
-}
-
 /// A lane that has taken 256 first segments of different references, of which nothing comes.
 fn filled(rt: &impl Abort, alloc: Global, plant: &Plant) -> DataLane {
     let none = Outs::new(alloc);
-    let mut lane = lane(rt, alloc, 0);
+    let mut lane = lane(rt, alloc, 0, &[]);
     for reference in 0..256 {
         step(rt, &mut lane, plant, &segment(rt, alloc, reference));
         assert_gave(rt, &lane, &none);
@@ -154,7 +122,7 @@ fn last_reference(lane: &DataLane) -> Option<u8> {
 fn counts_what_it_cuts(rt: HostRuntime) {
     let alloc = rt.alloc();
     let plant = plant(&rt, alloc);
-    let mut lane = lane(&rt, alloc, 3);
+    let mut lane = lane(&rt, alloc, 3, &[]);
     for (size, reference) in [(300, Some(3)), (200, None), (300, Some(19))] {
         step(&rt, &mut lane, &plant, &unit(&rt, alloc, size));
         assert!(rt; last_reference(&lane) == reference);
