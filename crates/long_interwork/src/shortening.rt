@@ -1,16 +1,18 @@
 //! An LUDT or an LUDTS that goes on to a point which can't take it (Q.714, 4.1.1).
-ghost use Rattle.std.specs.Prelude.{◌≡◌, ◌≤◌, ◌++◌, false, Some, None, if◌then◌else◌, IfOk, OnOk, OnErr};
+ghost use Rattle.std.specs.Prelude.{◌≡◌, ◌≤◌, ◌++◌, ◌∷◌, [], false, Some, None, if◌then◌else◌, IfOk, OnOk, OnErr};
 ghost use Rattle.q713_codec.specs.Reading.{seen};
+ghost use Rattle.q713_codec.specs.Writing.{is_in_range, spelling_of};
 ghost use Rattle.connectionless.specs.Unitdata.{unitdata_of, class_of};
 ghost use Rattle.connectionless.specs.Leaving.{unit_octets};
 ghost use Rattle.connectionless.specs.Cutting.{can_be_cut, segment_outputs};
 ghost use Rattle.connectionless.specs.Asking.{is_of_wrong_class};
+ghost use Rattle.connectionless.specs.Returning.{refusal_output};
 ghost use Rattle.connectionless.specs.Inner.Units.{seen_unit, seen_cut};
 ghost use Rattle.long_interwork.specs.Shortening.{extended, option_size, is_small, fits, is_entire, cutting, shortened, shortened_message, IsLongUnit, in_one, unit_shortened, service_shortened};
 
 use crate::forward::Forward;
 use connectionless::{CutUnit, Kind, UnitView, message_of, refusal_output, unit_of};
-use q713_codec::{LONGEST, View, protocol_class, write};
+use q713_codec::{LONGEST, Message, View, protocol_class, write};
 use relay_base::causes::RETURN_SEGMENTATION_FAILURE;
 use relay_base::limits::LONGEST_PARAMETER;
 use relay_base::{Lost, Memory, Octets, Output, Outs, Pc, Ref24, Sls};
@@ -38,6 +40,17 @@ fn is_small(unit: &UnitView<'_>) -> bool
     unit.body.len() <= LONGEST_PARAMETER && size <= LONGEST
 }
 
+/// The octets of a message that may be written.
+fn written(alloc: Global, message: &Message) -> Result<Option<Octets>, Memory>
+    ensures { let octets = if is_in_range message.now then Some (spelling_of message.now) else None
+        in IfOk result (λ x. x ≡ octets) }
+{
+    if !message.in_range() {
+        return Ok(None);
+    }
+    Ok(Some(write(alloc, message)?))
+}
+
 /// The octets of an XUDT or an XUDTS without segmentation, where one message holds it.
 fn fitting_octets(alloc: Global, unit: &UnitView<'_>) -> Result<Option<Octets>, Memory>
     ensures { let octets = if fits (seen_unit unit.now) then Some (unit_octets (seen_unit unit.now)) else None
@@ -47,10 +60,7 @@ fn fitting_octets(alloc: Global, unit: &UnitView<'_>) -> Result<Option<Octets>, 
         return Ok(None);
     }
     let message = message_of(alloc, unit)?;
-    if !message.in_range() {
-        return Ok(None);
-    }
-    Ok(Some(write(alloc, &message)?))
+    written(alloc, &message)
 }
 
 /// Whether it is no part of a longer message: it has no segmentation, or that of a first segment behind which none remains (Q.713, 3.17).
@@ -155,6 +165,18 @@ fn sent_in_segments(
     Ok(Some(cut.segments(alloc)?))
 }
 
+/// The refusal of an LUDT.
+fn refused(alloc: Global, own: Pc, opc: Pc, sls: Sls, unit: &UnitView<'_>) -> Result<Outs, Memory>
+    ensures { let output = refusal_output own opc sls RETURN_SEGMENTATION_FAILURE (seen_unit unit.now)
+        in IfOk result (λ outs. outs ≡ output ∷ []) }
+{
+    let cause = RETURN_SEGMENTATION_FAILURE;
+    let output = refusal_output(alloc, own, opc, sls, cause, unit)?;
+    let mut outs = Outs::new(alloc);
+    outs.push(output)?;
+    Ok(outs)
+}
+
 /// What comes of an LUDT, and whether it was cut into segments.
 fn unit_shortened(
     alloc: Global,
@@ -176,10 +198,7 @@ fn unit_shortened(
             return Ok((outs, true));
         }
     }
-    let cause = RETURN_SEGMENTATION_FAILURE;
-    let mut outs = Outs::new(alloc);
-    outs.push(refusal_output(alloc, own, opc, onward.sls, cause, unit)?)?;
-    Ok((outs, false))
+    Ok((refused(alloc, own, opc, onward.sls, unit)?, false))
 }
 
 /// What comes of an LUDTS.
