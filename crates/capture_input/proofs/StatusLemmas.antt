@@ -1,17 +1,25 @@
 -- The status of an input, and what its capture has.
-use Rattle.std.proofs.Common.{◌≡◌, ℕ, ◌+◌, ◌<◌, List, length, Some, None, Ok, Err, IfSome, sym, ap, ◌∙◌, refl, inl, inr, subst, arith, length-append, lt-ltb}
+use Rattle.std.proofs.Common.{◌≡◌, ℕ, ◌+◌, ◌<◌, nat_lt, cond, Bool, true, false, List, length, take, Some, None, Ok, Err, IfSome, sym, ap, ◌∙◌, refl, inl, inr, subst, arith, length-append, lt-ltb}
 use Rattle.std.specs.Prelude.{Option}
 use Rattle.std.specs.declared.result.Result.{Result}
 use Rattle.std.proofs.KnownBytes.{Consumes-whole}
 use Rattle.relay_base.specs.declared.limits.TheConstants.{MOST_BYTES}
-use Rattle.capture_form.specs.Capture.{capture_of}
+use Rattle.relay_base.specs.Giving.{◌>>=◌}
+use Rattle.node_head.specs.declared.head.Head.{Head}
+use Rattle.node_head.specs.declared.fault.HeadFault.{HeadFault}
+use Rattle.m3ua_head.specs.OneLink.{one_link_head}
+use Rattle.capture_form.specs.Capture.{at_head, capture_of}
+use Rattle.capture_form.specs.declared.steps.TheConstants.{MOST_LINES}
+use Rattle.capture_form.specs.declared.fault.LineFault.{LineFault}
 use Rattle.capture_form.specs.Links.{AreLinked}
 use Rattle.capture_form.specs.declared.capture.Capture.{Capture}
 use Rattle.capture_form.specs.declared.fault.CaptureFault.{CaptureFault}
 use Rattle.capture_form.specs.declared.fault.CaptureFault.TheVariants as refused
 use Rattle.capture_form.specs.declared.fault.Limit.TheVariants as limit
 use Rattle.capture_form.proofs.LinkLemmas.{linked-capture}
-use Rattle.m3ua_capture.specs.Streams.{at_capture, stream_capture}
+use Rattle.m3ua_port.specs.declared.fault.PortFault.{PortFault}
+use Rattle.m3ua_port.specs.Frames.{Frames, frames_of}
+use Rattle.m3ua_capture.specs.Streams.{head_before, stream_start, stream_behind, at_capture, unless_faulty, limited, capture_with, capture_within, stream_capture}
 use Rattle.m3ua_capture.specs.declared.fault.StreamFault.{StreamFault}
 use Rattle.m3ua_capture.specs.declared.fault.StreamFault.TheVariants as stream
 use Rattle.m3ua_capture.proofs.CaptureLemmas.{capture-given}
@@ -60,3 +68,53 @@ at-given (Err e) capture h = absurd (cc)
 pub input-linked : (form : Form) (came : List ℕ) (capture : Capture) → input_of form came ≡ Ok capture → AreLinked capture.phases
 input-linked Lines came capture h = linked-capture came capture (at-given (capture_of came) capture h)
 input-linked Stream came capture h = (capture-given came capture h).linked
+
+-- ---- lines are faulty in a capture alone, and messages in a stream alone
+
+pub no-port : (came : List ℕ) (f : PortFault) → input_of Lines came ≡ Err (stream.Port f) → ⊥
+no-port came f e = at (capture_of came) e
+  where
+    at : (r : Result Capture CaptureFault) → at_capture r ≡ Err (stream.Port f) → ⊥
+    at (Ok x) is = cc
+    at (Err fault) is = cc
+
+abbrev LacksLine : {A : Type 0} → Result A StreamFault → Type 0
+LacksLine r = (f : LineFault) → r ≡ Err (stream.Capture (refused.Line f)) → ⊥
+
+head-lacks : (start : Option ℕ) (bytes : List ℕ) → LacksLine (at_capture (head_before start bytes))
+head-lacks None bytes f e = cc
+head-lacks (Some start) bytes f e = by (one_link_head (take start bytes)) e
+  where
+    by : (r : Result Head HeadFault) → at_capture (at_head r) ≡ Err (stream.Capture (refused.Line f)) → ⊥
+    by (Ok head) is = cc
+    by (Err fault) is = cc
+
+-- the events
+limited-lacks : (frames : Frames) → LacksLine (limited frames)
+limited-lacks frames f e = by (nat_lt MOST_LINES (length frames.events)) frames.fault e
+  where
+    by : (t : Bool) (fault : Option PortFault) → cond t (Err (stream.Capture (refused.TooLong limit.Lines))) (unless_faulty fault frames.events) ≡ Err (stream.Capture (refused.Line f)) → ⊥
+    by true fault is = cc
+    by false None is = cc
+    by false (Some fault) is = cc
+
+bind-lacks : {A B : Type 0} (r : Result A StreamFault) (g : A → Result B StreamFault) → LacksLine r → ((a : A) → LacksLine (g a)) → LacksLine (r >>= g)
+bind-lacks (Ok a) g h i f e = i a f e
+bind-lacks (Err fault) g h i f e = h f (let same : fault ≡ stream.Capture (refused.Line f) = cc in ap Err same)
+
+with-lacks : (head : Head) (octets : List ℕ) → LacksLine (capture_with head octets)
+unfolding capture_with
+with-lacks head octets = bind-lacks (limited (frames_of head.point octets)) _ (limited-lacks (frames_of head.point octets)) (λ events f e. cc)
+
+within-lacks : (bytes : List ℕ) → LacksLine (capture_within bytes)
+within-lacks bytes =
+    bind-lacks (at_capture (head_before (stream_start bytes) bytes)) (λ head. capture_with head (stream_behind (stream_start bytes) bytes))
+    (head-lacks (stream_start bytes) bytes) (λ head. with-lacks head (stream_behind (stream_start bytes) bytes))
+
+pub no-line : (came : List ℕ) (f : LineFault) → input_of Stream came ≡ Err (stream.Capture (refused.Line f)) → ⊥
+unfolding stream_capture
+no-line came f e = by (nat_lt MOST_BYTES (length came)) e
+  where
+    by : (t : Bool) → cond t (Err (stream.Capture (refused.TooLong limit.Bytes))) (capture_within came) ≡ Err (stream.Capture (refused.Line f)) → ⊥
+    by true is = cc
+    by false is = within-lacks came f is

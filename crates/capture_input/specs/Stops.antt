@@ -1,5 +1,5 @@
 -- Why a run stops, and the status and the note of each reason.
-use Rattle.std.specs.Prelude.{◌≡◌, ℕ, codes, List, Option, Some, Err}
+use Rattle.std.specs.Prelude.{◌≡◌, ℕ, codes, List, Some, Err}
 use Rattle.capture_form.specs.declared.fault.CaptureFault.TheVariants as refused
 use Rattle.m3ua_capture.specs.Note.{stream_note}
 use Rattle.m3ua_capture.specs.Streams.{fault_in}

@@ -1,5 +1,5 @@
 -- The capture of a stream: its stamps, its links, and how many events it has.
-use Rattle.std.proofs.Common.{◌≡◌, ℕ, zero, suc, ◌+◌, ◌≤◌, ◌==◌, nat_lt, not, ◌&&◌, ◌||◌, Bool, true, false, cond, List, [], ◌∷◌, ◌++◌, length, take, drop, refl, ap, sym, ◌∙◌, subst, arith, append-nil}
+use Rattle.std.proofs.Common.{◌≡◌, ℕ, zero, suc, ◌+◌, ◌≤◌, nat_lt, Bool, true, false, cond, List, [], ◌∷◌, ◌++◌, length, take, drop, refl, ap, sym, ◌∙◌, subst, arith, append-nil}
 use Rattle.std.specs.Prelude.{Option, Some, None, Ok, Err, IfOk, if◌then◌else◌}
 use Rattle.std.specs.declared.result.Result.{Result}
 use Rattle.std.specs.List.{AllByRecursion}
@@ -12,19 +12,21 @@ use Rattle.relay_base.specs.declared.words.Event.{Event}
 use Rattle.plant_core.specs.declared.entry.ControlEvent.TheVariants.{Plain}
 use Rattle.node_head.specs.declared.head.Head.{Head}
 use Rattle.node_head.specs.Head.{head_of}
+use Rattle.node_head.specs.declared.fault.HeadFault.{HeadFault}
+use Rattle.m3ua_head.specs.OneLink.{one_link, one_link_head}
 use Rattle.capture_form.specs.Capture.{at_head}
-use Rattle.capture_form.specs.Events.{Stamped, all_events, AreOfLinks, AreOfPhases, IsStamped}
-use Rattle.capture_form.specs.Links.{comes_on_link, AreOnLinks, AreLinked}
+use Rattle.capture_form.specs.Events.{Stamped, all_events, AreOfPhases, IsStamped}
+use Rattle.capture_form.specs.Links.{comes_on_link, AreLinked}
 use Rattle.capture_form.specs.declared.fault.CaptureFault.{CaptureFault}
 use Rattle.capture_form.specs.declared.capture.Capture.{Capture}
 use Rattle.m3ua_port.specs.declared.fault.PortKind.{PortKind}
 use Rattle.m3ua_port.specs.declared.fault.PortFault.{PortFault}
-use Rattle.m3ua_port.specs.Frames.{Frames, is_data, protocol_data, data_event, message_event, message_length, front_event, transfer_of, length_of, stamped, frames_by, frames_in, frames_from, frames_of}
+use Rattle.m3ua_port.specs.Frames.{Frames, is_data, protocol_data, data_event, message_event, message_length, front_event, length_of, frames_by, frames_in, frames_from, frames_of}
 use Rattle.capture_form.specs.declared.fault.CaptureFault.TheVariants as refused
 use Rattle.capture_form.specs.declared.fault.Limit.TheVariants.{Bytes, Lines}
 use Rattle.m3ua_capture.specs.declared.fault.StreamFault.{StreamFault}
 use Rattle.m3ua_capture.specs.declared.fault.StreamFault.TheVariants as stream
-use Rattle.m3ua_capture.specs.Streams.{Reads, with_one_link, head_before, stream_start, stream_behind, at_capture, unless_faulty, limited, plain, phases_of, capture_with, capture_within, stream_capture}
+use Rattle.m3ua_capture.specs.Streams.{Reads, head_before, stream_start, stream_behind, at_capture, unless_faulty, limited, plain, phases_of, capture_with, capture_within, stream_capture}
 
 -- what is bound gave a value
 bound : {A B E : Type 0} (r : Result A E) (f : A → Result B E) (b : B) → (r >>= f) ≡ Ok b → (a : A) × (r ≡ Ok a) × (f a ≡ Ok b)
@@ -132,12 +134,21 @@ with-given head octets c one h =
       few = omega (arith, phases-count (plain b.0), length-plain b.0, given.1);
     })
 
-one-given : (head h : Head) → with_one_link head ≡ Ok h → h.links ≡ 1
-one-given head h is = grind arith
+one-given : (bytes : List ℕ) (head : Head) → one_link_head bytes ≡ Ok head → head.links ≡ 1
+unfolding one_link_head
+one-given bytes head h = by (head_of bytes) h
+  where
+    by : (r : Result Head HeadFault) → one_link bytes r ≡ Ok head → head.links ≡ 1
+    by (Ok found) is = grind arith
+    by (Err fault) is = absurd (cc)
+
+head-given : (r : Result Head HeadFault) (head : Head) → at_head r ≡ Ok head → r ≡ Ok head
+head-given (Ok x) head h = cc
+head-given (Err e) head h = absurd (cc)
 
 before-given : (start : Option ℕ) (bytes : List ℕ) (head : Head) → head_before start bytes ≡ Ok head → head.links ≡ 1
 before-given None bytes head h = absurd (cc)
-before-given (Some start) bytes head h = let b = bound (at_head (head_of (take start bytes))) with_one_link head h in one-given b.0 head b.2
+before-given (Some start) bytes head h = one-given (take start bytes) head (head-given (one_link_head (take start bytes)) head h)
 
 at-given : (r : Result Head CaptureFault) (head : Head) → at_capture r ≡ Ok head → r ≡ Ok head
 at-given (Ok x) head h = cc

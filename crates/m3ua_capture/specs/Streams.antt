@@ -9,7 +9,7 @@ use Rattle.relay_base.specs.declared.words.Event.{Event}
 use Rattle.plant_core.specs.declared.entry.ControlEvent.TheVariants.{Plain}
 use Rattle.node_head.specs.declared.head.Head.{Head}
 use Rattle.node_head.specs.declared.fault.HeadKind.TheVariants as kind
-use Rattle.node_head.specs.Head.{head_of}
+use Rattle.m3ua_head.specs.OneLink.{one_link_head}
 use Rattle.node_head.specs.Refusals.{fault}
 use Rattle.capture_form.specs.Events.{Stamped}
 use Rattle.capture_form.specs.Capture.{at_head}
@@ -52,13 +52,10 @@ mark_end n line (octet ∷ more) =
 unfoldable pub stream_start : List ℕ → Option ℕ
 stream_start bytes = mark_end 0 [] bytes
 
--- a stream comes on one link
-abbrev pub with_one_link : Head → Result Head CaptureFault
-with_one_link head = if head.links == 1 then Ok head else Err (refused.Head (fault kind.Range (codes "links")))
-
+-- the head before a stream, which comes on one link
 abbrev pub head_before : Option ℕ → List ℕ → Result Head CaptureFault
 head_before None bytes = Err (refused.Head (fault kind.End (codes "-")))
-head_before (Some start) bytes = at_head (head_of (take start bytes)) >>= with_one_link
+head_before (Some start) bytes = at_head (one_link_head (take start bytes))
 
 abbrev pub stream_behind : Option ℕ → List ℕ → List ℕ
 stream_behind None bytes = []

@@ -4,10 +4,11 @@ ghost use Rattle.node_head.specs.Addable.{are_addable};
 ghost use Rattle.node_head.specs.Ranges.{IsHead};
 ghost use Rattle.node_head.specs.Refusals.{fault};
 ghost use Rattle.capture_form.specs.Capture.{Reads};
-ghost use Rattle.m3ua_capture.specs.Streams.{is_mark, stream_start, with_one_link, head_before};
+ghost use Rattle.m3ua_capture.specs.Streams.{is_mark, stream_start, head_before};
 
 use capture_form::CaptureFault;
-use node_head::{Head, HeadFault, HeadKind, HeadRefused, read_head};
+use m3ua_head::read_one_link_head;
+use node_head::{Head, HeadFault, HeadKind, HeadRefused};
 use relay_base::{Memory, Octets};
 use std::alloc::Global;
 
@@ -44,19 +45,6 @@ pub fn head_fault(alloc: Global, kind: HeadKind, key: &str) -> Result<CaptureFau
     Ok(CaptureFault::Head(HeadFault { kind, key }))
 }
 
-/// A head of one link.
-fn with_one_link(alloc: Global, head: Head) -> Result<Head, CaptureFault>
-    ensures value { Reads result (with_one_link head) }
-    ensures same { IfOk result (λ h. h ≡ head) }
-    ensures one { IfOk result (λ h. h.links ≡ 1) }
-{
-    if head.links == 1 {
-        Ok(head)
-    } else {
-        Err(head_fault(alloc, HeadKind::Range, "links")?)
-    }
-}
-
 /// The head of an input whose stream begins at a place.
 pub fn head_before(alloc: Global, start: usize, bytes: &[u8]) -> Result<Head, CaptureFault>
     requires { start ≤ length bytes.now }
@@ -65,8 +53,8 @@ pub fn head_before(alloc: Global, start: usize, bytes: &[u8]) -> Result<Head, Ca
     ensures range { IfOk result IsHead }
     ensures one { IfOk result (λ h. h.links ≡ 1) }
 {
-    match read_head(alloc, &bytes[..start]) {
-        Ok(head) => with_one_link(alloc, head),
+    match read_one_link_head(alloc, &bytes[..start]) {
+        Ok(head) => Ok(head),
         Err(HeadRefused::Fault(fault)) => Err(CaptureFault::Head(fault)),
         Err(HeadRefused::Memory) => Err(CaptureFault::Memory),
     }

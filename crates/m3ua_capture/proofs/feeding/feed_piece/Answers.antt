@@ -1,4 +1,4 @@
-use Rattle.std.proofs.Common.{◌≡◌, ◌≢◌, ◌∙◌, ◌<◌, ◌≤◌, ◌++◌, length, Err, sym, ap, subst, arith, rules}
+use Rattle.std.proofs.Common.{◌≡◌, ◌≢◌, ◌∙◌, ◌<◌, ◌≤◌, ◌++◌, length, Err, sym, ap, arith, rules}
 use Rattle.capture_form.specs.declared.steps.TheConstants.{MOST_LINES}
 use Rattle.m3ua_port.specs.declared.fault.PortRefused.TheVariants.{Fault, Memory}
 use Rattle.m3ua_port.specs.Ports.{answer_of, events_of}

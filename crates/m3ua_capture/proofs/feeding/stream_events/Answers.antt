@@ -1,5 +1,4 @@
-use Rattle.std.proofs.Common.{◌≡◌, ◌∙◌, [], ap, sym, subst, refl, arith, rules}
-use Rattle.m3ua_port.specs.Ports.{PortState}
+use Rattle.std.proofs.Common.{◌∙◌, refl, rules}
 use Rattle.m3ua_capture.proofs.FrameLemmas.{none-given, whole-refused}
 use Rattle.m3ua_capture.proofs.feeding.stream_events.Goals as goal
 

@@ -1,6 +1,5 @@
-use Rattle.std.proofs.Common.{◌≡◌, ◌∙◌, ◌+◌, ◌==◌, true, false, get_or, refl, sym, ap, arith, eq-eqb, ne_eqb}
-use Rattle.m3ua_capture.specs.Streams.{is_mark}
-use Rattle.m3ua_capture.proofs.PartLemmas.{standing, looking, looks_on, starts_line}
+use Rattle.std.proofs.Common.{◌∙◌, ◌+◌, get_or, refl, sym, ap, arith, eq-eqb, ne_eqb}
+use Rattle.m3ua_capture.proofs.PartLemmas.{looking, looks_on, starts_line}
 use Rattle.m3ua_capture.proofs.parts.stream_start.Goals.{then-octet-eq10+else-is_mark, else-octet-eq10}
 use Rattle.m3ua_capture.proofs.parts.stream_start.Goals as goal
 
