@@ -2,5 +2,7 @@
 #![tactic(auto)]
 
 mod report;
+mod shown;
 
 pub use report::{Report, write_report};
+pub use shown::print_shows_outputs;

@@ -1,5 +1,5 @@
 -- The parser takes the words of a command, and finds what they give.
-use Rattle.std.proofs.Common.{◌≡◌, ◌∙◌, ℕ, ◌==◌, ◌||◌, ◌&&◌, nat_lt, cond, codes, Bool, true, false, List, [], ◌∷◌, length, Option, Some, None, refl, sym, ap, ap₂, subst, option_map, map}
+use Rattle.std.proofs.Common.{◌≡◌, ◌∙◌, ℕ, ◌≤◌, ◌==◌, ◌||◌, ◌&&◌, nat_lt, cond, codes, Bool, true, false, List, [], ◌∷◌, length, Option, Some, None, refl, sym, ap, ap₂, subst, option_map, map, String, Global, arith}
 use Rattle.std.proofs.lemmas.Bool.{eqb-true, eq-eqb}
 use Rattle.std.specs.Cmp.Lexicographic.{same_text}
 use Rattle.std.specs.List.{list_all, list_any}
@@ -12,10 +12,10 @@ use Rattle.clap.specs.declared.parser.ArgMatches.TheViews.{out-ArgMatches}
 use Rattle.clap.proofs.OnLiterals.{clap_on_literals}
 use Rattle.relay_base.specs.declared.limits.TheConstants.{MOST_GENERATED_LINES}
 use Rattle.relay_base.specs.Decimal.{is_number, digits_value, number_of}
-use Rattle.command_words.specs.Commands.{same, within, number_in, generate_of, generate_in, command_in}
-use Rattle.command_words.specs.Inner.Parser.{generate_app, relay_app, command_found, command_of_rows, is_refused}
+use Rattle.command_words.specs.Commands.{same, within, number_in, generate_of, generate_in, stream_in, command_of_word, command_in}
+use Rattle.command_words.specs.Inner.Parser.{texts, generate_app, relay_app, command_found, command_of_rows, is_refused}
 use Rattle.command_words.specs.declared.command.Command.{Command}
-use Rattle.command_words.specs.declared.command.Command.TheVariants.{Run}
+use Rattle.command_words.specs.declared.command.Command.TheVariants.{Run, Stream, Frames}
 
 -- ---- what the parser makes of the words of a command
 
@@ -25,18 +25,34 @@ gen_words a xs b ys = codes "gen" ∷ (a ∷ xs) ∷ (b ∷ ys) ∷ []
 
 -- the name of a subcommand, and what is given
 abbrev Given : Type 0
-Given = Text × Option Text × Option Text
+Given = Text × Option Text × Option Text × Option Text
 
 abbrev given_in : Option (Text × List Row) → Option Given
-given_in found = option_map (λ p. (p.0, first_of (codes "number") p.1, first_of (codes "lines") p.1)) found
+given_in found = option_map (λ p. (p.0, first_of (codes "number") p.1, first_of (codes "lines") p.1, first_of (codes "output") p.1)) found
 
 run_taken : takes relay_app (codes "run" ∷ []) ≡ true
 unfolding clap_on_literals
 run_taken = refl
 
-run_found : given_in (subcommand_of relay_app (codes "run" ∷ [])) ≡ Some (codes "run", None, None)
+run_found : given_in (subcommand_of relay_app (codes "run" ∷ [])) ≡ Some (codes "run", None, None, None)
 unfolding clap_on_literals
 run_found = refl
+
+stream_taken : takes relay_app (codes "m3ua" ∷ []) ≡ true
+unfolding clap_on_literals
+stream_taken = refl
+
+stream_found : given_in (subcommand_of relay_app (codes "m3ua" ∷ [])) ≡ Some (codes "m3ua", None, None, None)
+unfolding clap_on_literals
+stream_found = refl
+
+frames_taken : takes relay_app (codes "m3ua" ∷ codes "frames" ∷ []) ≡ true
+unfolding clap_on_literals
+frames_taken = refl
+
+frames_found : given_in (subcommand_of relay_app (codes "m3ua" ∷ codes "frames" ∷ [])) ≡ Some (codes "m3ua", None, None, Some (codes "frames"))
+unfolding clap_on_literals
+frames_found = refl
 
 -- ---- a word that no dash begins, after a subcommand
 
@@ -94,14 +110,14 @@ unfolding clap_on_literals
 gen_taken a b xs ys first second = ap (λ b. b && true) (gen-level a b xs ys first second)
 
 gen_found : (a b : ℕ) (xs ys : List ℕ) → (a == 45) ≡ false → (b == 45) ≡ false
-    → given_in (subcommand_of relay_app (gen_words a xs b ys)) ≡ Some (codes "gen", Some (a ∷ xs), Some (b ∷ ys))
+    → given_in (subcommand_of relay_app (gen_words a xs b ys)) ≡ Some (codes "gen", Some (a ∷ xs), Some (b ∷ ys), None)
 unfolding clap_on_literals
 gen_found a b xs ys first second = ap (λ (w : Walk). given_in (Some (codes "gen", finished gen_shape.rules w.held))) (gen-walk a b xs ys first second)
 
 -- the command of what is given
 abbrev of_given : Option Given → List Text → Option Command
 of_given None ws = None
-of_given (Some g) ws = command_found g.0 g.1 g.2 ws
+of_given (Some g) ws = command_found g.0 g.1 g.2 g.3 ws
 
 rows-given : (found : Option (Text × List Row)) (ws : List Text) → command_of_rows found ws ≡ of_given (given_in found) ws
 rows-given None ws = refl
@@ -179,6 +195,22 @@ run-holds = record {
   found = rows-given (subcommand_of relay_app (codes "run" ∷ [])) (codes "run" ∷ []) ∙ ap (λ g. of_given g (codes "run" ∷ [])) run_found;
 }
 
+stream-holds : Holds (codes "m3ua" ∷ [])
+stream-holds = record {
+  taken = stream_taken;
+  free = refl;
+  found = rows-given (subcommand_of relay_app (codes "m3ua" ∷ [])) (codes "m3ua" ∷ []) ∙ ap (λ g. of_given g (codes "m3ua" ∷ [])) stream_found;
+}
+
+frames-holds : Holds (codes "m3ua" ∷ codes "frames" ∷ [])
+frames-holds = record {
+  taken = frames_taken;
+  free = refl;
+  found =
+      rows-given (subcommand_of relay_app (codes "m3ua" ∷ codes "frames" ∷ [])) (codes "m3ua" ∷ codes "frames" ∷ [])
+      ∙ ap (λ g. of_given g (codes "m3ua" ∷ codes "frames" ∷ [])) frames_found;
+}
+
 gen-found : (a b : ℕ) (xs ys : List ℕ) → (a == 45) ≡ false → (b == 45) ≡ false
     → command_of_rows (subcommand_of relay_app (gen_words a xs b ys)) (gen_words a xs b ys) ≡ generate_in (a ∷ xs) (b ∷ ys)
 gen-found a b xs ys first second =
@@ -201,25 +233,48 @@ gen-holds number lines c h =
     subst (λ w. Holds (codes "gen" ∷ w ∷ lines ∷ [])) (sym n.whole)
     (subst (λ w. Holds (codes "gen" ∷ (n.first ∷ n.more) ∷ w ∷ [])) (sym l.whole) (gen-plain n.first l.first n.more l.more n.plain l.plain))
 
+-- a word that is a text
+of-text : (P : Text → Type 0) (word text : Text) → same word text ≡ true → P text → P word
+of-text P word text e p = subst P (sym (same_text word text (sym e))) p
+
+word-holds : (word : Text) (c : Command) → command_of_word word ≡ Some c → Holds (word ∷ [])
+word-holds word c h = by (same word (codes "run")) (same word (codes "m3ua")) refl refl h
+  where
+    by : (run stream : Bool) → same word (codes "run") ≡ run → same word (codes "m3ua") ≡ stream → cond run (Some Run) (cond stream (Some Stream) None) ≡ Some c → Holds (word ∷ [])
+    by true stream e f g = of-text (λ w. Holds (w ∷ [])) word (codes "run") e run-holds
+    by false true e f g = of-text (λ w. Holds (w ∷ [])) word (codes "m3ua") f stream-holds
+    by false false e f g = cc
+
+words-hold : (word output : Text) (c : Command) → cond (same word (codes "m3ua")) (stream_in output) None ≡ Some c → Holds (word ∷ output ∷ [])
+words-hold word output c h =
+    let stream = chosen (same word (codes "m3ua")) (stream_in output) c h in
+    let frames = chosen (same output (codes "frames")) (Some Frames) c stream.1 in
+    of-text (λ w. Holds (w ∷ output ∷ [])) word (codes "m3ua") stream.0
+    (of-text (λ w. Holds (codes "m3ua" ∷ w ∷ [])) output (codes "frames") frames.0 frames-holds)
+
 stated-holds : (ws : List Text) (c : Command) → command_in ws ≡ Some c → Holds ws
 stated-holds [] c h = cc
-stated-holds (word ∷ []) c h =
-    let run = chosen (same word (codes "run")) (Some Run) c h in
-    subst (λ w. Holds (w ∷ [])) (sym (same_text word (codes "run") (sym run.0))) run-holds
-stated-holds (word ∷ first ∷ []) c h = cc
+stated-holds (word ∷ []) c h = word-holds word c h
+stated-holds (word ∷ output ∷ []) c h = words-hold word output c h
 stated-holds (word ∷ number ∷ lines ∷ []) c h =
     let gen = chosen (same word (codes "gen")) (generate_in number lines) c h in
-    subst (λ w. Holds (w ∷ number ∷ lines ∷ [])) (sym (same_text word (codes "gen") (sym gen.0))) (gen-holds number lines c gen.1)
+    of-text (λ w. Holds (w ∷ number ∷ lines ∷ [])) word (codes "gen") gen.0 (gen-holds number lines c gen.1)
 stated-holds (word ∷ number ∷ lines ∷ next ∷ more) c h = cc
 
 -- ---- what is found is a command of the words
 
-found-run : (name word : Text) (c : Command) → cond (same name (codes "run") && same word name) (Some Run) None ≡ Some c → command_in (word ∷ []) ≡ Some c
-found-run name word c h =
-    let run = chosen (same name (codes "run") && same word name) (Some Run) c h in
-    let tests = both (same name (codes "run")) (same word name) run.0 in
-    let is : word ≡ codes "run" = same_text word name (sym tests.1) ∙ same_text name (codes "run") (sym tests.0) in
-    subst (λ w. command_in (w ∷ []) ≡ Some c) (sym is) run.1
+found-word : (name word : Text) (c : Command) → cond (same word name) (command_of_word name) None ≡ Some c → command_of_word word ≡ Some c
+found-word name word c h =
+    let found = chosen (same word name) (command_of_word name) c h in
+    of-text (λ w. command_of_word w ≡ Some c) word name found.0 found.1
+
+found-stream : (name word output : Text) (given : Bool) (c : Command)
+    → cond (same name (codes "m3ua") && (same word name && given)) (stream_in output) None ≡ Some c → command_in (word ∷ output ∷ []) ≡ Some c
+found-stream name word output given c h =
+    let found = chosen (same name (codes "m3ua") && (same word name && given)) (stream_in output) c h in
+    let tests = both (same name (codes "m3ua")) (same word name && given) found.0 in
+    let is : word ≡ codes "m3ua" = same_text word name (sym (both (same word name) given tests.1).0) ∙ same_text name (codes "m3ua") (sym tests.0) in
+    subst (λ w. command_in (w ∷ output ∷ []) ≡ Some c) (sym is) found.1
 
 found-gen : (name word first second : Text) (given : Bool) (c : Command)
     → cond (same name (codes "gen") && (same word name && given)) (generate_in first second) None ≡ Some c → command_in (word ∷ first ∷ second ∷ []) ≡ Some c
@@ -229,16 +284,16 @@ found-gen name word first second given c h =
     let is : word ≡ codes "gen" = same_text word name (sym (both (same word name) given tests.1).0) ∙ same_text name (codes "gen") (sym tests.0) in
     subst (λ w. command_in (w ∷ first ∷ second ∷ []) ≡ Some c) (sym is) gen.1
 
-found-stated : (name : Text) (number lines : Option Text) (ws : List Text) (c : Command) → command_found name number lines ws ≡ Some c → command_in ws ≡ Some c
-found-stated name number lines [] c h = h
-found-stated name number lines (word ∷ []) c h = found-run name word c h
-found-stated name number lines (word ∷ first ∷ []) c h = h
-found-stated name number lines (word ∷ first ∷ second ∷ []) c h = found-gen name word first second _ c h
-found-stated name number lines (word ∷ first ∷ second ∷ next ∷ more) c h = h
+found-stated : (name : Text) (number lines output : Option Text) (ws : List Text) (c : Command) → command_found name number lines output ws ≡ Some c → command_in ws ≡ Some c
+found-stated name number lines output [] c h = h
+found-stated name number lines output (word ∷ []) c h = found-word name word c h
+found-stated name number lines output (word ∷ second ∷ []) c h = found-stream name word second _ c h
+found-stated name number lines output (word ∷ first ∷ second ∷ []) c h = found-gen name word first second _ c h
+found-stated name number lines output (word ∷ first ∷ second ∷ next ∷ more) c h = h
 
 rows-stated : (found : Option (Text × List Row)) (ws : List Text) (c : Command) → command_of_rows found ws ≡ Some c → command_in ws ≡ Some c
 rows-stated None ws c h = cc
-rows-stated (Some p) ws c h = found-stated p.0 (first_of (codes "number") p.1) (first_of (codes "lines") p.1) ws c h
+rows-stated (Some p) ws c h = found-stated p.0 (first_of (codes "number") p.1) (first_of (codes "lines") p.1) (first_of (codes "output") p.1) ws c h
 
 -- ---- what the reading of the words cites
 
@@ -257,6 +312,18 @@ untaken-none ws untaken = go (command_in ws) refl
     go : (o : Option Command) → command_in ws ≡ o → None ≡ o
     go None e = refl
     go (Some c) e = absurd (untaken (stated-holds ws c e).taken)
+
+-- equal values give the same command
+pub found-alike : (name : Text) (words : List Text) (number lines output n l o : Option Text) → number ≡ n → lines ≡ l → output ≡ o → command_found name number lines output words ≡ command_found name n l o words
+found-alike name words number lines output n l o e f g = ap₂ (λ a b. command_found name a b output words) e f ∙ ap (λ a. command_found name n l a words) g
+
+-- more than three words state none
+pub long_none : (name : Text) (number lines output : Option Text) (words : List (String Global)) → 4 ≤ length words → None ≡ command_found name number lines output (texts words)
+long_none name number lines output [] h = absurd (omega (arith, h))
+long_none name number lines output (a ∷ []) h = absurd (omega (arith, h))
+long_none name number lines output (a ∷ b ∷ []) h = absurd (omega (arith, h))
+long_none name number lines output (a ∷ b ∷ c ∷ []) h = absurd (omega (arith, h))
+long_none name number lines output (a ∷ b ∷ c ∷ d ∷ more) h = refl
 
 -- what the parser finds in the words is the command that they state
 pub found-exact : (ws : List Text) → command_of_rows (subcommand_of relay_app ws) ws ≡ command_in ws

@@ -4,7 +4,7 @@ use lib.Pointwise.{pointwise}
 use Rattle.relay_base.specs.Decimal.{number_of}
 use Rattle.relay_base.specs.declared.limits.TheConstants.{MOST_GENERATED_LINES}
 use Rattle.command_words.specs.declared.command.Command.{Command}
-use Rattle.command_words.specs.declared.command.Command.TheVariants.{Run, Generate}
+use Rattle.command_words.specs.declared.command.Command.TheVariants.{Run, Generate, Stream, Frames}
 
 -- the word is this text
 abbrev pub same : List ℕ → List ℕ → Bool
@@ -30,10 +30,21 @@ generate_of _ _ = None
 abbrev pub generate_in : List ℕ → List ℕ → Option Command
 generate_in number lines = generate_of (number_in 0 4294967295 number) (number_in 1 MOST_GENERATED_LINES lines)
 
--- the command that words state: `run` alone, or `gen` with a number and lines
+-- a command of one word
+abbrev pub command_of_word : List ℕ → Option Command
+command_of_word word =
+    if same word (codes "run") then Some Run
+    else if same word (codes "m3ua") then Some Stream
+    else None
+
+-- what `m3ua` is given: that it writes frames
+abbrev pub stream_in : List ℕ → Option Command
+stream_in output = if same output (codes "frames") then Some Frames else None
+
+-- the command that words state: `run` alone, `gen` with a number and lines, `m3ua` alone, or `m3ua frames`
 abbrev pub command_in : List (List ℕ) → Option Command
 command_in [] = None
-command_in (word ∷ []) = if same word (codes "run") then Some Run else None
-command_in (word ∷ _ ∷ []) = None
+command_in (word ∷ []) = command_of_word word
+command_in (word ∷ output ∷ []) = if same word (codes "m3ua") then stream_in output else None
 command_in (word ∷ number ∷ lines ∷ []) = if same word (codes "gen") then generate_in number lines else None
 command_in _ = None

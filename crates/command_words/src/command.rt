@@ -7,4 +7,8 @@ pub enum Command {
     Run,
     /// Run the capture that is made of a number and a count of lines, 1 to 199,000.
     Generate { number: u32, lines: u32 },
+    /// Run the M3UA messages that are read.
+    Stream,
+    /// Run the M3UA messages that are read, and write those that the node sends.
+    Frames,
 }

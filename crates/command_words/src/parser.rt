@@ -2,7 +2,7 @@
 ghost use Rattle.std.specs.Prelude.{◌≡◌, false, IfOk};
 ghost use Rattle.clap.specs.Words.{app_of, rule_of};
 ghost use Rattle.clap.specs.declared.builder.Command.TheViews.{out-Command};
-ghost use Rattle.command_words.specs.Inner.Parser.{required_rule, generate_app, top_app, relay_app};
+ghost use Rattle.command_words.specs.Inner.Parser.{required_rule, generate_app, stream_app, top_app, relay_app};
 
 use clap::{Arg, Command};
 use std::alloc::{AllocError, Global};
@@ -25,6 +25,14 @@ fn generate_parser<'a>(alloc: Global) -> Result<Command<'a>, AllocError>
         .arg(required(alloc, "lines"))
 }
 
+/// `m3ua [<output>]`
+fn stream_parser<'a>(alloc: Global) -> Result<Command<'a>, AllocError>
+    ensures app { IfOk result (λ r. app_of r ≡ stream_app) }
+    ensures local { IfOk result (λ r. (out-Command r).has_globals ≡ false) }
+{
+    Command::new(alloc, "m3ua").arg(Arg::new(alloc, "output"))
+}
+
 /// The parser without its subcommands. No program's name stands before the words.
 fn top_parser<'a>(alloc: Global) -> Command<'a>
     ensures { app_of result ≡ top_app }
@@ -34,11 +42,12 @@ fn top_parser<'a>(alloc: Global) -> Command<'a>
         .subcommand_required(true)
 }
 
-/// The parser of `run` and `gen`.
+/// The parser of `run`, `gen` and `m3ua`.
 pub fn parser<'a>(alloc: Global) -> Result<Command<'a>, AllocError>
     ensures { IfOk result (λ r. app_of r ≡ relay_app) }
 {
     top_parser(alloc)
         .subcommand(Command::new(alloc, "run"))?
-        .subcommand(generate_parser(alloc)?)
+        .subcommand(generate_parser(alloc)?)?
+        .subcommand(stream_parser(alloc)?)
 }

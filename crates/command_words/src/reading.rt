@@ -2,7 +2,7 @@
 ghost use Rattle.std.specs.Prelude.{◌≡◌, ◌≢◌, None, IfOk, map, string_bytes};
 ghost use Rattle.std.specs.List.{list_any};
 ghost use Rattle.clap.specs.Words.{kind_of, subcommand_rows_of};
-ghost use Rattle.command_words.specs.Commands.{generate_in, command_in};
+ghost use Rattle.command_words.specs.Commands.{generate_in, stream_in, command_of_word, command_in};
 ghost use Rattle.command_words.specs.Inner.Parser.{given, texts, is_given, command_found, command_of_rows, is_dashed, asks_help, is_refused};
 
 use crate::command::Command;
@@ -63,18 +63,49 @@ fn is_given(found: Option<&str>, word: &str) -> bool
     }
 }
 
+/// The command of one word.
+fn command_of_word(word: &str) -> Option<Command>
+    ensures { result ≡ command_of_word word.now }
+{
+    if word == "run" {
+        Some(Command::Run)
+    } else if word == "m3ua" {
+        Some(Command::Stream)
+    } else {
+        None
+    }
+}
+
+/// What `m3ua` is given.
+fn stream_in(output: &str) -> Option<Command>
+    ensures { result ≡ stream_in output.now }
+{
+    if output == "frames" {
+        Some(Command::Frames)
+    } else {
+        None
+    }
+}
+
 /// The command of a subcommand's name and its values, where these are the words.
+#[tactic(auto, using(crate::proofs::ParseLemmas::long_none))]
 fn command_found(
     name: &str,
     number: Option<&str>,
     lines: Option<&str>,
+    output: Option<&str>,
     words: &[String],
 ) -> Option<Command>
     ensures { let asked = given number.entry in let most = given lines.entry in
-        result ≡ command_found name.now asked most (texts words.now) }
+        let written = given output.entry in
+        result ≡ command_found name.now asked most written (texts words.now) }
 {
     match words {
-        [word] if name == "run" && word.as_str() == name => Some(Command::Run),
+        [word] if word.as_str() == name => command_of_word(name),
+        [word, second]
+            if name == "m3ua" && word.as_str() == name && is_given(output, second.as_str()) => {
+            stream_in(second.as_str())
+        }
         [word, first, second]
             if name == "gen"
                 && word.as_str() == name
@@ -91,7 +122,9 @@ fn command_of_matches(matches: &ArgMatches<'_>, words: &[String]) -> Option<Comm
     ensures { result ≡ command_of_rows (subcommand_rows_of matches.now) (texts words.now) }
 {
     let (name, found) = matches.subcommand()?;
-    command_found(name, found.get_str("number"), found.get_str("lines"), words)
+    let number = found.get_str("number");
+    let lines = found.get_str("lines");
+    command_found(name, number, lines, found.get_str("output"), words)
 }
 
 /// What comes of an error of the parser: no command, or want of memory.
@@ -115,8 +148,8 @@ fn parsed(alloc: Global, words: &[String]) -> Result<Option<Command>, Memory>
     }
 }
 
-/// The command that the words state. There is one exactly where they are `run`, or `gen`, a number, 0 to 4,294,967,295, and
-/// lines, 1 to 199,000, each in 1 to 10 decimal digits.
+/// The command that the words state. There is one exactly where they are `run`; or `gen`, a number, 0 to 4,294,967,295, and
+/// lines, 1 to 199,000, each in 1 to 10 decimal digits; or `m3ua`; or `m3ua frames`.
 ///
 /// Words of which one begins with a dash, or the first is `help`, are refused before they are parsed.
 pub fn command_of(alloc: Global, words: &[String]) -> Result<Option<Command>, Memory>

@@ -3,7 +3,7 @@ use Rattle.std.proofs.Common.{◌≡◌, ℕ, ◌≤◌, ◌&&◌, nat_le, codes
 use Rattle.std.specs.Prelude.{Option}
 use Rattle.relay_base.specs.declared.limits.TheConstants.{MOST_GENERATED_LINES}
 use Rattle.command_words.specs.declared.command.Command.{Command}
-use Rattle.command_words.specs.declared.command.Command.TheVariants.{Run, Generate}
+use Rattle.command_words.specs.declared.command.Command.TheVariants.{Run, Generate, Stream, Frames}
 use Rattle.relay_base.specs.Decimal.{number_of}
 use Rattle.command_words.specs.Commands.{same, within, number_in, generate_of, generate_in, command_in}
 
@@ -37,11 +37,22 @@ only-if : (t : Bool) (x : Option Command) (number lines most : ℕ) → (x ≡ S
 only-if true x number lines most f e = f e
 only-if false x number lines most f e = absurd (cc)
 
+-- one word, and two, make no capture
+word-makes-none : (run stream : Bool) (number lines : ℕ) → (if run then Some Run else (if stream then Some Stream else None)) ≡ Some (Generate number lines) → ⊥
+word-makes-none true stream number lines e = cc
+word-makes-none false true number lines e = cc
+word-makes-none false false number lines e = cc
+
+words-make-none : (stream frames : Bool) (number lines : ℕ) → (if stream then (if frames then Some Frames else None) else None) ≡ Some (Generate number lines) → ⊥
+words-make-none true true number lines e = cc
+words-make-none true false number lines e = cc
+words-make-none false frames number lines e = cc
+
 -- `gen` has at most 199,000 lines
 pub lines-most : (words : List (List ℕ)) (number lines : ℕ) → command_in words ≡ Some (Generate number lines) → lines ≤ MOST_GENERATED_LINES
 lines-most [] number lines e = absurd (cc)
-lines-most (word ∷ []) number lines e = only-if (same word (codes "run")) (Some Run) number lines MOST_GENERATED_LINES (λ f. absurd (cc)) e
-lines-most (word ∷ first ∷ []) number lines e = absurd (cc)
+lines-most (word ∷ []) number lines e = absurd (word-makes-none (same word (codes "run")) (same word (codes "m3ua")) number lines e)
+lines-most (word ∷ output ∷ []) number lines e = absurd (words-make-none (same word (codes "m3ua")) (same output (codes "frames")) number lines e)
 lines-most (word ∷ first ∷ last ∷ []) number lines e =
     only-if (same word (codes "gen")) (generate_in first last) number lines MOST_GENERATED_LINES
     (made-most (number_in 0 4294967295 first) (number_in 1 MOST_GENERATED_LINES last) number lines MOST_GENERATED_LINES (in-most 1 MOST_GENERATED_LINES last)) e

@@ -5,19 +5,21 @@ ghost use Rattle.std.specs.Prelude.{◌≡◌, ◌≢◌, ◌≤◌, ◌⊎◌, 
 ghost use Rattle.relay_base.specs.Causes.{Rose};
 ghost use Rattle.journal_text.specs.Book.{IsEmpty};
 ghost use Rattle.command_words.specs.Commands.{command_in};
-ghost use Rattle.command_words.specs.declared.command.Command.TheVariants.{Run, Generate};
-ghost use Rattle.relay_call.specs.Outcome.{bytes, ReadAs, Untouched, IsDone, IsDonePartly, IsDetermined, PassesLimit, IsHeadFault, IsLineFault, Says, plain_note, IsDue};
+ghost use Rattle.command_words.specs.declared.command.Command.TheVariants.{Generate};
+ghost use Rattle.capture_input.specs.declared.input.Form.{Form};
+ghost use Rattle.capture_input.specs.declared.input.Form.TheVariants.{Lines, Stream};
+ghost use Rattle.capture_input.specs.Input.{bytes, PassesLimit, IsHeadFault, IsLineFault, IsPortFault, IsDue};
+ghost use Rattle.relay_call.specs.Outcome.{form_read, ReadBy, Untouched, IsDone, IsDonePartly, IsDetermined, Says, plain_note};
 
 mod serving;
-mod stop;
 
 use capture_form::Book;
+use capture_input::{Stop, note_of, status_of};
 use relay_base::{Pace, Sink, Source, write_all};
 use serving::serve;
 use std::alloc::Global;
 use std::sync::Wait;
 use std::thread::Threads;
-use stop::{Stop, note_of, status_of};
 
 /// Writes a text to `notes`, whose fault is passed over.
 fn say<N: Sink>(notes: &mut N, text: &[u8])
@@ -41,7 +43,9 @@ pub fn lacks_memory<N: Sink>(notes: &mut N) -> u8
 /// Does what the words ask, and answers the status. `notes` gets the line that tells why a run stopped.
 ///
 /// The word `run` reads a capture from `source`, runs it, fills `book` and writes its print to `out`. The words `gen`, a number and a count
-/// of lines make a capture, leave `source` as it is, and write one line of counts.
+/// of lines make a capture, leave `source` as it is, and write one line of counts. The word `m3ua` reads a head and a stream of M3UA
+/// messages, whose events are those of link 1 in one phase, and writes the print; `m3ua frames` writes in its place the M3UA messages that
+/// carry all that is sent.
 ///
 /// | Status | Comes |
 /// |---|---|
@@ -53,6 +57,7 @@ pub fn lacks_memory<N: Sink>(notes: &mut N) -> u8
 /// | 5 | only where the source failed in this call |
 /// | 6 | only where `out` failed in this call |
 /// | 7 | memory ran out |
+/// | 8 | exactly where the first fault is of an M3UA message |
 pub fn relay<R: Threads + Wait + Sync, S: Source, K: Sink, N: Sink, P: Pace>(
     rt: &R,
     alloc: Global,
@@ -65,8 +70,8 @@ pub fn relay<R: Threads + Wait + Sync, S: Source, K: Sink, N: Sink, P: Pace>(
 ) -> u8
     requires { IsEmpty book.old }
 
-    // `run`: the input was read to its end, the book is right for it, and its print was written;
-    // `gen`: the book is right for the capture that the words make, and the line of its counts was written.
+    // The capture of the command is known: `gen` makes it, and of the others the input was read to its end. The book is right for it,
+    // and what the command writes of the book was written.
     ensures done { let command = command_in (map string_bytes words.now) in
         let read = bytes (S.left source.old) (S.left source.new) in
         let written = bytes (K.held out.old) (K.held out.new) in
@@ -89,19 +94,27 @@ pub fn relay<R: Threads + Wait + Sync, S: Source, K: Sink, N: Sink, P: Pace>(
         → command_in (map string_bytes words.now) ≡ Some (Generate number lines)
         → (S.left source.new ≡ S.left source.old) × ((result ≡ 0) ⊎ (result ≡ 6) ⊎ (result ≡ 7)) }
 
-    // The first fault of the input, and what `notes` is told of it.
-    ensures head { let read = bytes (S.left source.old) (S.left source.new) in
+    // The first fault of the input, and what `notes` is told of it. Lines stand in a capture alone, and messages in a stream alone.
+    ensures head { let command = command_in (map string_bytes words.now) in
+        let read = bytes (S.left source.old) (S.left source.new) in
         let noted = bytes (N.held notes.old) (N.held notes.new) in
         let says = Says noted (N.faults notes.old) (N.faults notes.new) in
-        result ≡ 2 → ReadAs read (IsHeadFault says) }
-    ensures line { let read = bytes (S.left source.old) (S.left source.new) in
+        result ≡ 2 → (form : Form) × ReadBy form command read (IsHeadFault says) }
+    ensures line { let command = command_in (map string_bytes words.now) in
+        let read = bytes (S.left source.old) (S.left source.new) in
         let noted = bytes (N.held notes.old) (N.held notes.new) in
         let says = Says noted (N.faults notes.old) (N.faults notes.new) in
-        result ≡ 3 → ReadAs read (IsLineFault says) }
-    ensures too_long { let read = bytes (S.left source.old) (S.left source.new) in
+        result ≡ 3 → ReadBy Lines command read (IsLineFault says) }
+    ensures too_long { let command = command_in (map string_bytes words.now) in
+        let read = bytes (S.left source.old) (S.left source.new) in
         let noted = bytes (N.held notes.old) (N.held notes.new) in
         let says = Says noted (N.faults notes.old) (N.faults notes.new) in
-        result ≡ 4 → PassesLimit read says }
+        result ≡ 4 → (form : Form) × (form_read command ≡ Some form) × PassesLimit form read says }
+    ensures port { let command = command_in (map string_bytes words.now) in
+        let read = bytes (S.left source.old) (S.left source.new) in
+        let noted = bytes (N.held notes.old) (N.held notes.new) in
+        let says = Says noted (N.faults notes.old) (N.faults notes.new) in
+        result ≡ 8 → ReadBy Stream command read (IsPortFault says) }
 
     // What `notes` is told otherwise.
     ensures said { let noted = bytes (N.held notes.old) (N.held notes.new) in
@@ -116,7 +129,7 @@ pub fn relay<R: Threads + Wait + Sync, S: Source, K: Sink, N: Sink, P: Pace>(
 
     // What stands after a refusal, a write fault, and want of memory.
     ensures refused { let written = bytes (K.held out.old) (K.held out.new) in
-        1 ≤ result → result ≤ 5 → Untouched written book.new }
+        result ≢ 0 → result ≢ 6 → result ≢ 7 → Untouched written book.new }
     ensures written { let command = command_in (map string_bytes words.now) in
         let read = bytes (S.left source.old) (S.left source.new) in
         let written = bytes (K.held out.old) (K.held out.new) in
@@ -125,13 +138,13 @@ pub fn relay<R: Threads + Wait + Sync, S: Source, K: Sink, N: Sink, P: Pace>(
         let read = bytes (S.left source.old) (S.left source.new) in
         let written = bytes (K.held out.old) (K.held out.new) in
         result ≡ 7 → Untouched written book.new ⊎ IsDonePartly command read written book.new }
-    ensures known { result ≤ 7 }
+    ensures known { result ≤ 8 }
 
-    // Where no device fails, the status of `run` is that of the bytes, or memory ran out.
-    ensures complete { command_in (map string_bytes words.now) ≡ Some Run
+    // Where no device fails, the status of a command that reads an input is that of the bytes, or memory ran out.
+    ensures complete { (form : Form) → form_read (command_in (map string_bytes words.now)) ≡ Some form
         → (Rose (S.faults source.old) (S.faults source.new) → ⊥)
         → (Rose (K.faults out.old) (K.faults out.new) → ⊥)
-        → IfSome (S.left source.old) (IsDue result) }
+        → IfSome (S.left source.old) (IsDue form result) }
 {
     match serve(rt, alloc, words, source, out, pace, book) {
         Ok(()) => 0,

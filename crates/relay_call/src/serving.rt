@@ -1,5 +1,5 @@
 //! What each command does, up to the reason why it stops.
-ghost use Rattle.std.specs.Prelude.{◌≡◌, ◌≢◌, ◌<◌, ◌≤◌, ◌^◌, ◌⊎◌, ◌++◌, codes, ℕ, IfOk, IfErr, OnOk, OnErr, Ok, Err, Some, None, map, string_bytes, length};
+ghost use Rattle.std.specs.Prelude.{◌≡◌, ◌≢◌, ◌<◌, ◌≤◌, ◌^◌, ◌⊎◌, ℕ, IfOk, IfErr, OnOk, OnErr, Ok, Err, Some, None, map, string_bytes, length};
 ghost use Rattle.relay_base.specs.Causes.{Rose};
 ghost use Rattle.relay_base.specs.declared.limits.TheConstants.{MOST_GENERATED_LINES};
 ghost use Rattle.journal_text.specs.Book.{IsEmpty};
@@ -7,63 +7,61 @@ ghost use Rattle.node_head.specs.Ranges.{IsHead};
 ghost use Rattle.capture_form.specs.Events.{all_events, IsStamped};
 ghost use Rattle.right_book.specs.Right.{IsRight};
 ghost use Rattle.command_words.specs.Commands.{command_in};
-ghost use Rattle.command_words.specs.declared.command.Command.TheVariants.{Run, Generate};
+ghost use Rattle.command_words.specs.declared.command.Command.TheVariants.{Generate};
 ghost use Rattle.capture_generator.specs.Generator.{generated_capture};
-ghost use Rattle.capture_generator.specs.Counts.{counts_text};
-ghost use Rattle.relay_call.specs.Outcome.{bytes, ReadAs, Wrote, WrotePart, Filled, FilledBy, IsDone};
-ghost use Rattle.relay_call.specs.Inner.Stops.{TakesNone, StoppedLate, Stopped};
+ghost use Rattle.capture_input.specs.Input.{bytes};
+ghost use Rattle.book_output.specs.Report.{report_text};
+ghost use Rattle.relay_call.specs.Outcome.{report_of, GivesAs, Wrote, WrotePart, FilledBy, IsDone};
+ghost use Rattle.relay_call.specs.Inner.Stops.{LacksCapture, Stopped};
 
-use crate::stop::{Stop, refusal};
-use capture_form::{Book, Capture, WriteFault, read_capture, write_book};
-use capture_generator::{counts_line, generated};
+use book_output::{Report, write_report};
+use capture_form::{Book, Capture, WriteFault};
+use capture_generator::generated;
+use capture_input::{Form, Stop, take_input};
 use command_words::{Command, command_of};
 use node_engine::run_capture;
-use relay_base::limits::MOST_BYTES;
-use relay_base::{Pace, ReadAllFault, Sink, Source, read_all, write_all};
+use node_head::Head;
+use relay_base::{Pace, Sink, Source};
 use std::alloc::Global;
 use std::sync::Wait;
 use std::thread::Threads;
 
-/// The capture that the source gives.
-fn take_capture<S: Source>(alloc: Global, source: &mut S) -> Result<Capture, Stop>
-    ensures ok { let read = bytes (S.left source.old) (S.left source.new) in
-        IfOk result (λ capture. ReadAs read (λ parts. parts ≡ Ok capture)) }
+/// The capture that is made of a number and a count of lines.
+fn made(alloc: Global, number: u32, lines: u32) -> Result<Capture, Stop>
+    requires { lines ≤ MOST_GENERATED_LINES }
+    ensures value { IfOk result (λ capture. capture ≡ generated_capture number lines) }
     ensures head { IfOk result (λ capture. IsHead capture.head) }
     ensures stamped { IfOk result (λ capture. IsStamped capture.head capture.phases) }
     ensures few { IfOk result (λ capture. length (all_events capture.phases) < 2 ^ 32) }
-    ensures refused { IfErr result (TakesNone (bytes (S.left source.old) (S.left source.new))) }
-    ensures fault { result ≡ Err Stop.ReadFault → Rose (S.faults source.old) (S.faults source.new) }
-    ensures kept { result ≢ Err Stop.ReadFault → S.faults source.new ≡ S.faults source.old }
+    ensures stopped { IfErr result (λ stop. stop ≡ Stop.Memory) }
 {
-    let bytes = match read_all(alloc, source, MOST_BYTES) {
-        Ok(bytes) => bytes,
-        Err(ReadAllFault::TooLong) => return Err(Stop::Bytes),
-        Err(ReadAllFault::Fault) => return Err(Stop::ReadFault),
-        Err(ReadAllFault::Memory) => return Err(Stop::Memory),
-    };
-    match read_capture(alloc, bytes.as_slice()) {
+    match generated(alloc, number, lines) {
         Ok(capture) => Ok(capture),
-        Err(fault) => Err(refusal(alloc, fault)),
+        Err(_) => Err(Stop::Memory),
     }
 }
 
-/// Writes the line of a book's counts.
-fn write_counts<K: Sink>(
-    alloc: Global,
-    lines: u32,
-    book: &Book,
-    out: &mut K,
-) -> Result<(), WriteFault>
-    ensures ok { let text = counts_text lines book.now ++ codes "\n" in
-        OnOk result (Wrote (bytes (K.held out.old) (K.held out.new)) text) }
-    ensures err { let text = counts_text lines book.now ++ codes "\n" in
-        OnErr result (WrotePart (bytes (K.held out.old) (K.held out.new)) text) }
-    ensures fault { result ≡ Err WriteFault.Sink → Rose (K.faults out.old) (K.faults out.new) }
-    ensures kept { result ≢ Err WriteFault.Sink → K.faults out.new ≡ K.faults out.old }
+/// The capture of a command: `gen` makes it, and the others read it.
+fn take_capture<S: Source>(alloc: Global, command: Command, source: &mut S) -> Result<Capture, Stop>
+    requires { (number lines : ℕ) → command ≡ Generate number lines → lines ≤ MOST_GENERATED_LINES }
+    ensures ok { let read = bytes (S.left source.old) (S.left source.new) in
+        IfOk result (λ capture. GivesAs command read (λ parts. parts ≡ Ok capture)) }
+    ensures head { IfOk result (λ capture. IsHead capture.head) }
+    ensures stamped { IfOk result (λ capture. IsStamped capture.head capture.phases) }
+    ensures few { IfOk result (λ capture. length (all_events capture.phases) < 2 ^ 32) }
+    ensures refused { let read = bytes (S.left source.old) (S.left source.new) in
+        IfErr result (LacksCapture (Some command) read) }
+    ensures made { (number lines : ℕ) → command ≡ Generate number lines
+        → S.left source.new ≡ S.left source.old }
+    ensures fault { result ≡ Err Stop.ReadFault → Rose (S.faults source.old) (S.faults source.new) }
+    ensures kept { result ≢ Err Stop.ReadFault → S.faults source.new ≡ S.faults source.old }
 {
-    let line = counts_line(alloc, lines, book)?;
-    write_all(out, line.as_slice())?;
-    Ok(())
+    match command {
+        Command::Run => take_input(alloc, Form::Lines, source),
+        Command::Generate { number, lines } => made(alloc, number, lines),
+        Command::Stream => take_input(alloc, Form::Stream, source),
+        Command::Frames => take_input(alloc, Form::Stream, source),
+    }
 }
 
 /// Runs a capture into the book, and gives the capture up.
@@ -87,22 +85,56 @@ fn fill<R: Threads + Wait + Sync, P: Pace>(
     }
 }
 
-/// Reads a capture and runs it.
-fn run<R: Threads + Wait + Sync, S: Source, K: Sink, P: Pace>(
+/// What a command writes of the book of a head's node.
+fn report_of(command: Command, head: &Head) -> Report
+    ensures { result ≡ report_of command head.now }
+{
+    match command {
+        Command::Run => Report::Print,
+        Command::Generate { lines, .. } => Report::Counts { lines },
+        Command::Stream => Report::Print,
+        Command::Frames => Report::Frames { own: head.point },
+    }
+}
+
+/// Writes a report of the book.
+fn write<K: Sink>(alloc: Global, report: Report, book: &Book, out: &mut K) -> Result<(), Stop>
+    ensures ok { let written = bytes (K.held out.old) (K.held out.new) in
+        OnOk result (Wrote written (report_text report book.now)) }
+    ensures err { let written = bytes (K.held out.old) (K.held out.new) in
+        OnErr result (WrotePart written (report_text report book.now)) }
+    ensures why { IfErr result (λ stop. (stop ≡ Stop.WriteFault) ⊎ (stop ≡ Stop.Memory)) }
+    ensures fault { result ≡ Err Stop.WriteFault → Rose (K.faults out.old) (K.faults out.new) }
+    ensures kept { result ≢ Err Stop.WriteFault → K.faults out.new ≡ K.faults out.old }
+{
+    match write_report(alloc, report, book, out) {
+        Ok(()) => Ok(()),
+        Err(WriteFault::Sink) => Err(Stop::WriteFault),
+        Err(WriteFault::Memory) => Err(Stop::Memory),
+    }
+}
+
+/// Does a command: runs its capture, and writes what it writes of the book.
+fn perform<R: Threads + Wait + Sync, S: Source, K: Sink, P: Pace>(
     rt: &R,
     alloc: Global,
+    command: Command,
     source: &mut S,
     out: &mut K,
     pace: &P,
     book: &mut Book,
 ) -> Result<(), Stop>
-    requires { IsEmpty book.old }
+    requires lines { (number lines : ℕ) → command ≡ Generate number lines
+        → lines ≤ MOST_GENERATED_LINES }
+    requires empty { IsEmpty book.old }
     ensures ok { let read = bytes (S.left source.old) (S.left source.new) in
         let written = bytes (K.held out.old) (K.held out.new) in
-        OnOk result (FilledBy (Wrote written) Run read book.new) }
+        OnOk result (FilledBy (Wrote written) command read book.new) }
     ensures stopped { let read = bytes (S.left source.old) (S.left source.new) in
         let written = bytes (K.held out.old) (K.held out.new) in
-        IfErr result (Stopped (Some Run) read written book.new) }
+        IfErr result (Stopped (Some command) read written book.new) }
+    ensures made { (number lines : ℕ) → command ≡ Generate number lines
+        → S.left source.new ≡ S.left source.old }
     ensures read_fault { result ≡ Err Stop.ReadFault
         → Rose (S.faults source.old) (S.faults source.new) }
     ensures write_fault { result ≡ Err Stop.WriteFault
@@ -111,45 +143,10 @@ fn run<R: Threads + Wait + Sync, S: Source, K: Sink, P: Pace>(
         → S.faults source.new ≡ S.faults source.old }
     ensures out_kept { result ≢ Err Stop.WriteFault → K.faults out.new ≡ K.faults out.old }
 {
-    let capture = take_capture(alloc, source)?;
+    let capture = take_capture(alloc, command, source)?;
+    let report = report_of(command, &capture.head);
     fill(rt, alloc, capture, pace, book)?;
-    match write_book(alloc, book, out) {
-        Ok(()) => Ok(()),
-        Err(WriteFault::Sink) => Err(Stop::WriteFault),
-        Err(WriteFault::Memory) => Err(Stop::Memory),
-    }
-}
-
-/// Makes a capture of a number and a count of lines, runs it, and writes the line of counts.
-fn generate<R: Threads + Wait + Sync, K: Sink, P: Pace>(
-    rt: &R,
-    alloc: Global,
-    number: u32,
-    lines: u32,
-    out: &mut K,
-    pace: &P,
-    book: &mut Book,
-) -> Result<(), Stop>
-    requires lines { lines ≤ MOST_GENERATED_LINES }
-    requires empty { IsEmpty book.old }
-    ensures ok { let written = bytes (K.held out.old) (K.held out.new) in
-        let capture = generated_capture number lines in
-        OnOk result (Filled (Wrote written) (Generate number lines) capture book.new) }
-    ensures stopped { let written = bytes (K.held out.old) (K.held out.new) in
-        let capture = generated_capture number lines in
-        IfErr result (StoppedLate (Generate number lines) written capture book.new) }
-    ensures fault { result ≡ Err Stop.WriteFault → Rose (K.faults out.old) (K.faults out.new) }
-    ensures kept { result ≢ Err Stop.WriteFault → K.faults out.new ≡ K.faults out.old }
-{
-    let Ok(capture) = generated(alloc, number, lines) else {
-        return Err(Stop::Memory);
-    };
-    fill(rt, alloc, capture, pace, book)?;
-    match write_counts(alloc, lines, book, out) {
-        Ok(()) => Ok(()),
-        Err(WriteFault::Sink) => Err(Stop::WriteFault),
-        Err(WriteFault::Memory) => Err(Stop::Memory),
-    }
+    write(alloc, report, book, out)
 }
 
 /// Does what the words ask.
@@ -185,10 +182,7 @@ pub fn serve<R: Threads + Wait + Sync, S: Source, K: Sink, P: Pace>(
     ensures out_kept { result ≢ Err Stop.WriteFault → K.faults out.new ≡ K.faults out.old }
 {
     match command_of(alloc, words) {
-        Ok(Some(Command::Run)) => run(rt, alloc, source, out, pace, book),
-        Ok(Some(Command::Generate { number, lines })) => {
-            generate(rt, alloc, number, lines, out, pace, book)
-        }
+        Ok(Some(command)) => perform(rt, alloc, command, source, out, pace, book),
         Ok(None) => Err(Stop::Usage),
         Err(_) => Err(Stop::Memory),
     }

@@ -16,4 +16,6 @@ mod running;
 #[cfg(test)]
 mod slots;
 #[cfg(test)]
+mod streams;
+#[cfg(test)]
 mod texts;

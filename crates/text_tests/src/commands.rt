@@ -25,6 +25,8 @@ fn command_of_line(alloc: Global, line: &str) -> Result<Option<Command>, Memory>
 fn commands(rt: HostRuntime) -> Result<(), Fail> {
     let cases = [
         ("run", Command::Run),
+        ("m3ua", Command::Stream),
+        ("m3ua frames", Command::Frames),
         (
             "gen 1 1",
             Command::Generate {
@@ -103,6 +105,16 @@ fn no_commands(rt: HostRuntime) -> Result<(), Fail> {
         "-V",
         "-",
         "generate 1 1",
+        "m3ua ",
+        "m3ua run",
+        "m3ua Frames",
+        "m3ua frames frames",
+        "m3ua --frames",
+        "m3ua help",
+        "M3UA",
+        "frames",
+        "run frames",
+        "gen frames",
     ];
     for line in lines {
         assert_eq!(rt; command_of_line(rt.alloc(), line), Ok(None), "{line}");

@@ -4,9 +4,8 @@ use Rattle.std.specs.Borrow.{Bor}
 use Rattle.std.specs.declared.alloc.Global.{Global}
 use Rattle.clap.specs.Words.{App, Row, Rule, Text, first_of, new_app, new_rule, with_rule, with_subcommand}
 use Rattle.std.specs.List.{list_any}
-use Rattle.command_words.specs.Commands.{same, generate_in}
+use Rattle.command_words.specs.Commands.{same, generate_in, stream_in, command_of_word}
 use Rattle.command_words.specs.declared.command.Command.{Command}
-use Rattle.command_words.specs.declared.command.Command.TheVariants.{Run}
 
 -- an argument that has to be given
 abbrev pub required_rule : Text → Rule
@@ -16,13 +15,17 @@ required_rule id = record (new_rule id) { required = true }
 abbrev pub generate_app : App
 generate_app = with_rule (with_rule (new_app (codes "gen")) (required_rule (codes "number"))) (required_rule (codes "lines"))
 
+-- m3ua [<output>]
+abbrev pub stream_app : App
+stream_app = with_rule (new_app (codes "m3ua")) (new_rule (codes "output"))
+
 -- no program's name stands before the words
 abbrev pub top_app : App
 top_app = record { top = record (new_app (codes "relay")).top { no_binary_name = true; subcommand_required = true }; subs = [] }
 
--- `run`, or `gen` with its arguments
+-- `run`, or `gen` or `m3ua` with its arguments
 abbrev pub relay_app : App
-relay_app = with_subcommand (with_subcommand top_app (new_app (codes "run")).top) generate_app.top
+relay_app = with_subcommand (with_subcommand (with_subcommand top_app (new_app (codes "run")).top) generate_app.top) stream_app.top
 
 -- a text that was given, if one was
 abbrev pub given : Option (Bor Text) → Option Text
@@ -38,19 +41,20 @@ is_given None word = false
 is_given (Some text) word = same word text
 
 -- the command of a name and of what was given, where these are the words
-abbrev pub command_found : Text → Option Text → Option Text → List Text → Option Command
-command_found name number lines [] = None
-command_found name number lines (word ∷ []) = if same name (codes "run") && same word name then Some Run else None
-command_found name number lines (word ∷ _ ∷ []) = None
-command_found name number lines (word ∷ first ∷ second ∷ []) =
+abbrev pub command_found : Text → Option Text → Option Text → Option Text → List Text → Option Command
+command_found name number lines output [] = None
+command_found name number lines output (word ∷ []) = if same word name then command_of_word name else None
+command_found name number lines output (word ∷ second ∷ []) =
+    if same name (codes "m3ua") && (same word name && is_given output second) then stream_in second else None
+command_found name number lines output (word ∷ first ∷ second ∷ []) =
     if same name (codes "gen") && (same word name && (is_given number first && is_given lines second)) then generate_in first second else None
-command_found name number lines _ = None
+command_found name number lines output _ = None
 
 -- the command of the subcommand that was found, and its values
 abbrev pub command_of_rows : Option (Text × List Row) → List Text → Option Command
 command_of_rows None words = None
 command_of_rows (Some found) words =
-    command_found found.0 (first_of (codes "number") found.1) (first_of (codes "lines") found.1) words
+    command_found found.0 (first_of (codes "number") found.1) (first_of (codes "lines") found.1) (first_of (codes "output") found.1) words
 
 -- ---- words that are refused before they are parsed
 

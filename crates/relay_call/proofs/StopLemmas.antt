@@ -1,0 +1,70 @@
+-- Lemmas on why a run stopped, by its status.
+use Rattle.std.proofs.Common.{◌≡◌, ◌∙◌, ℕ, List, Some, Err, IfSome, sym, subst, refl, inl, inr}
+use Rattle.std.specs.Prelude.{Option}
+use Rattle.std.proofs.lemmas.Option.{same_Some}
+use Rattle.journal_text.specs.declared.book.Book.{Book}
+use Rattle.capture_form.specs.declared.fault.LineFault.{LineFault}
+use Rattle.capture_form.specs.declared.fault.CaptureFault.TheVariants as refused
+use Rattle.m3ua_capture.specs.declared.fault.StreamFault.TheVariants as stream
+use Rattle.capture_input.specs.declared.input.Form.{Form}
+use Rattle.capture_input.specs.declared.input.Form.TheVariants.{Lines, Stream}
+use Rattle.capture_input.specs.declared.stop.Stop.{Stop}
+use Rattle.capture_input.specs.declared.stop.Stop.TheVariants as stop
+use Rattle.capture_input.specs.Input.{Bytes, ReadAs, PassesLimit, IsLineFault, IsDue}
+use Rattle.capture_input.specs.Stops.{NotedAs, note_of, status_of}
+use Rattle.capture_input.proofs.StatusLemmas.{more-due, memory-due, fault-due, no-line}
+use Rattle.command_words.specs.declared.command.Command.{Command}
+use Rattle.relay_call.specs.Outcome.{form_read, ReadBy, Says}
+use Rattle.relay_call.specs.Inner.Stops.{Stopped}
+
+-- ---- a fault of a line, which a capture alone has
+
+line-found : (form : Form) (stated : Option Command) (read noted : Bytes) (before after : ℕ) (f : LineFault) (note : List ℕ) → form_read stated ≡ Some form
+    → NotedAs form read (stream.Capture (refused.Line f)) note → Says noted before after note → ReadBy Lines stated read (IsLineFault (Says noted before after))
+line-found Lines stated read noted before after f note reads ((came, consumed, ended, is), same) told = (reads, (came, consumed, ended, (f, (is, subst (Says noted before after) same told))))
+line-found Stream stated read noted before after f note reads ((came, consumed, ended, is), same) told = absurd (no-line came f is)
+
+pub line-of : (stated : Option Command) (read written noted : Bytes) (before after : ℕ) (book : Book) (why : Stop) → Stopped stated read written book why
+    → Says noted before after (note_of why) → status_of why ≡ 3 → ReadBy Lines stated read (IsLineFault (Says noted before after))
+line-of stated read written noted before after book stop.Usage s told e = absurd (cc)
+line-of stated read written noted before after book (stop.Refused (stream.Capture (refused.Head f)) note) s told e = absurd (cc)
+line-of stated read written noted before after book (stop.Refused (stream.Capture (refused.Line f)) note) ((form, reads, said), untouched) told e = line-found form stated read noted before after f note reads said told
+line-of stated read written noted before after book (stop.Refused (stream.Capture (refused.TooLong l)) note) s told e = absurd (cc)
+line-of stated read written noted before after book (stop.Refused (stream.Capture refused.Memory) note) s told e = absurd (cc)
+line-of stated read written noted before after book (stop.Refused (stream.Port f) note) s told e = absurd (cc)
+line-of stated read written noted before after book stop.Bytes s told e = absurd (cc)
+line-of stated read written noted before after book stop.ReadFault s told e = absurd (cc)
+line-of stated read written noted before after book stop.WriteFault s told e = absurd (cc)
+line-of stated read written noted before after book stop.Memory s told e = absurd (cc)
+
+-- ---- a limit that is passed, that of the bytes or another
+
+abbrev IsPassed : Option Command → Bytes → (List ℕ → Type 0) → Type 0
+IsPassed stated read Said = (form : Form) × (form_read stated ≡ Some form) × PassesLimit form read Said
+
+pub limit-of : (stated : Option Command) (read written noted : Bytes) (before after : ℕ) (book : Book) (why : Stop) → Stopped stated read written book why
+    → Says noted before after (note_of why) → status_of why ≡ 4 → IsPassed stated read (Says noted before after)
+limit-of stated read written noted before after book stop.Usage s told e = absurd (cc)
+limit-of stated read written noted before after book (stop.Refused (stream.Capture (refused.Head f)) note) s told e = absurd (cc)
+limit-of stated read written noted before after book (stop.Refused (stream.Capture (refused.Line f)) note) s told e = absurd (cc)
+limit-of stated read written noted before after book (stop.Refused (stream.Capture (refused.TooLong l)) note) ((form, reads, ((came, consumed, ended, is), same)), untouched) told e =
+    (form, reads, inr (came, consumed, ended, (l, (is, subst (Says noted before after) same told))))
+limit-of stated read written noted before after book (stop.Refused (stream.Capture refused.Memory) note) s told e = absurd (cc)
+limit-of stated read written noted before after book (stop.Refused (stream.Port f) note) s told e = absurd (cc)
+limit-of stated read written noted before after book stop.Bytes ((form, reads, more), untouched) told e = (form, reads, inl (more, told))
+limit-of stated read written noted before after book stop.ReadFault s told e = absurd (cc)
+limit-of stated read written noted before after book stop.WriteFault s told e = absurd (cc)
+limit-of stated read written noted before after book stop.Memory s told e = absurd (cc)
+
+-- ---- the status is that of the bytes, where no device failed
+
+pub stop-due : (form : Form) (stated : Option Command) (read written : Bytes) (book : Book) (why : Stop) → Stopped stated read written book why
+    → form_read stated ≡ Some form → (why ≡ stop.ReadFault → ⊥) → (why ≡ stop.WriteFault → ⊥) → IfSome read.before (IsDue form (status_of why))
+stop-due form stated read written book stop.Usage (none, untouched) reads r w = absurd (cc)
+stop-due form stated read written book (stop.Refused fault note) ((other, is, said), untouched) reads r w =
+    let same : other ≡ form = same_Some other form (sym is ∙ reads) in
+    fault-due form read fault (subst (λ f. ReadAs f read (λ parts. parts ≡ Err fault)) same said.0)
+stop-due form stated read written book stop.Bytes ((other, is, more), untouched) reads r w = more-due form read.before read.after more
+stop-due form stated read written book stop.ReadFault s reads r w = absurd (r refl)
+stop-due form stated read written book stop.WriteFault s reads r w = absurd (w refl)
+stop-due form stated read written book stop.Memory s reads r w = memory-due form read.before
