@@ -10,6 +10,7 @@ ghost use Rattle.link_threads.specs.Gates.{AreDealt, AreUsed, HasRun, IsFeederOf
 use crate::door::Door;
 use crate::feed::serve;
 use crate::links::Links;
+use crate::spare::take_spare;
 use lane_gate::{LaneState, MOST_CALLERS, Pass};
 use relay_base::{Memory, Pace};
 use std::alloc::Global;
@@ -25,6 +26,7 @@ pub struct Feeder<'g, L: LaneState, S: Links<L::Event>> {
     links: &'g S,
     link: u8,
     passes: Vec<Pass>,
+    alloc: Global,
     ended: bool,
 }
 
@@ -48,6 +50,7 @@ impl<'g, L: LaneState, S: Links<L::Event>> Feeder<'g, L, S> {
         requires { IsReady L.plan self.old }
         ensures { HasRun L.plan self.old self.new }
     {
+        take_spare(self.alloc, self.links.events(self.link));
         let passes = self.passes.as_mut_slice();
         let served = serve(rt, pace, self.doors, self.links, self.link, passes);
         self.ended = served.is_ok();
@@ -79,6 +82,7 @@ fn feeders<'g, L: LaneState, S: Links<L::Event>>(
             links,
             link: feeders.len() as u8,
             passes,
+            alloc,
             ended: false,
         });
     }
