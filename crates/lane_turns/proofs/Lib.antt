@@ -1,5 +1,4 @@
 pub mod PlanLemmas
-pub mod SeenLemmas
 pub mod GoneLemmas
 pub mod TurnLemmas
 pub mod RowLemmas

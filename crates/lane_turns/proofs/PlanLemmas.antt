@@ -7,7 +7,7 @@ use Rattle.relay_base.specs.declared.words.Stamp.{Stamp}
 use Rattle.plant_core.specs.declared.entry.ControlEvent.{ControlEvent}
 use Rattle.lane_gate.specs.Plan.{Raises}
 use Rattle.capture_form.specs.Events.{Stamped}
-use Rattle.lane_turns.specs.Plans.{of_link, AreBegun, AreWhole}
+use Rattle.lane_seats.specs.Plans.{of_link, AreBegun, AreWhole}
 
 pub take_one_more : {A : Type 0} (l : List A) (n : ℕ) (x : A) → slice_get l n ≡ Some x → take (suc n) l ≡ take n l ++ x ∷ []
 take_one_more [] n x e = absurd (cc)

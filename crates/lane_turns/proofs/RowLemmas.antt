@@ -18,9 +18,11 @@ use Rattle.scmg.specs.Lane.{ControlState}
 use Rattle.conn_lane.specs.Lanes.{ConnLaneState}
 use Rattle.data_lane.specs.Legal.{LaneState}
 use Rattle.link_threads.specs.Pairs.{Beside, PairsFrom}
-use Rattle.lane_turns.specs.Seats.{SeatState, WentOn, conn_seat, conn_seated, data_seat, data_seated}
-use Rattle.lane_turns.specs.Phases.{PhaseState, ControlSeatState, GoesOn}
-use Rattle.lane_turns.specs.Plans.{planned}
+use Rattle.lane_seats.specs.Seats.{SeatState, WentOn, conn_seat, data_seat, data_seated}
+use Rattle.lane_seats.specs.Controls.{ControlSeatState}
+use Rattle.lane_seats.specs.Plans.{planned}
+use Rattle.lane_turns.specs.ConnSeats.{conn_seated}
+use Rattle.lane_turns.specs.Phases.{PhaseState, GoesOn}
 use Rattle.link_threads.specs.declared.lane_name.LaneName.{LaneName}
 use Rattle.link_threads.specs.declared.lane_name.LaneName.TheVariants as name
 use Rattle.gtt_editions.specs.Standing.{Publishing}

@@ -11,21 +11,14 @@ use Rattle.node_head.proofs.head.Head.TheSendSync.{the_sync as head_sync}
 use Rattle.mark.proofs.Mark.TheSendSync.{the_send as mark_send}
 use Rattle.data_lane.proofs.lane.DataLane.TheSendSync.{the_send as data_lane_send}
 use Rattle.conn_lane.proofs.Sent.{conn_lane_send}
-use Rattle.scmg.proofs.Sent.{control_lane_send}
-use Rattle.lane_turns.proofs.seat.Seat.TheSendSync.{the_send as seat_send}
-use Rattle.lane_turns.proofs.publisher.PhasePublisher.TheSendSync.{the_field_send as publisher_send}
-use Rattle.lane_turns.specs.contracts.control_seat.ControlSeat as ControlSeat
+use Rattle.lane_seats.proofs.Sent.{control_seat_send}
+use Rattle.lane_seats.proofs.seat.Seat.TheSendSync.{the_send as seat_send}
 use Rattle.lane_turns.specs.contracts.lane_kind.LaneKind as LaneKind
 use Rattle.lane_turns.specs.contracts.phase_lane.PhaseLane as PhaseLane
 use Rattle.lane_turns.specs.contracts.turn.LaneTurn as LaneTurn
 
-control_send : (a : NamedLft) (T : RattleType) → IsSync T → IsSend (ControlSeat.the_row a T)
-control_send a T y =
-    let inside = ControlSeat.TheInside.the_type a T in
-    view_send _ _ _ _ _ (recorded_send _ _ inside.to inside.to_one (struct_send (shape inside) (control_lane_send, (publisher_send a T y, tt))))
-
 kind_send : (a : NamedLft) (T : RattleType) → IsSync T → IsSend (LaneKind.the_field a T).row
-kind_send a T y = search (sendable, crosses, control_send, seat_send, conn_lane_send, data_lane_send) depth 60 fits 20000
+kind_send a T y = search (sendable, crosses, control_seat_send, seat_send, conn_lane_send, data_lane_send) depth 60 fits 20000
 
 lane_send : (a : NamedLft) (T : RattleType) → IsSync T → IsSend (PhaseLane.the_row a T)
 lane_send a T y =

@@ -18,7 +18,7 @@ use Rattle.link_threads.specs.declared.lane_name.LaneName.TheVariants as name
 use Rattle.lane_turns.specs.LaneStates.{PhaseLane, Control, Conn, Data}
 use Rattle.link_threads.specs.Links.{is_in}
 use Rattle.link_threads.specs.Gates.{HasTaken}
-use Rattle.lane_turns.specs.Plans.{of_link, AreBegun, AreWhole}
+use Rattle.lane_seats.specs.Plans.{of_link, AreBegun, AreWhole}
 use Rattle.lane_turns.specs.Rows.{HasPlace, IsControl, IsPlaced, IsSeated}
 use Rattle.lane_turns.specs.Turns.{CanTake, IsPlain, TakesEvent, IsAsBefore, IsNamed, HasRoom, HasGoneOn, HasServed, Opening, TurnState, IsTurn, pairs_in, links_of, plan_of, fresh_of, taken_of, total, left_of, opened_turn}
 use Rattle.lane_turns.proofs.PlanLemmas.{begun_more, begun_whole, raises_more, passed, take_one_more}

@@ -1,5 +1,4 @@
-pub mod Plans
-pub mod Seats
+pub mod ConnSeats
 pub mod Phases
 pub mod LaneStates
 pub mod Shown

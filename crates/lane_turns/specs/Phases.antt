@@ -8,20 +8,14 @@ use Rattle.data_lane.specs.Legal.{LaneState}
 use Rattle.conn_lane.specs.Lanes.{ConnLaneState}
 use Rattle.node_head.specs.declared.head.Head.{Head}
 use Rattle.capture_form.specs.Events.{Stamped}
-use Rattle.relay_base.specs.declared.words.Stamp.{Stamp}
-use Rattle.plant_core.specs.declared.entry.ControlEvent.{ControlEvent}
-use Rattle.scmg.specs.Lane.{ControlState, AddsEntry, GrowAlike}
+use Rattle.scmg.specs.Lane.{ControlState}
 use Rattle.scmg.specs.Lane.{changes_of as changes_by}
 use Rattle.right_book.specs.Own.{control_pairs_of}
 use Rattle.right_book.specs.Placed.{in_control}
 use Rattle.link_threads.specs.Pairs.{PairsFrom}
-use Rattle.lane_turns.specs.Plans.{planned, AreWhole}
-use Rattle.lane_turns.specs.Seats.{SeatState, Seated, WentOn, conn_seat, conn_seated, data_seat, data_seated}
-
--- the control lane, and its publisher
-pub record ControlSeatState : Type 0 where
-  pub lane : ControlState
-  pub publisher : Publishing
+use Rattle.lane_seats.specs.Plans.{planned, AreWhole}
+use Rattle.lane_seats.specs.Seats.{SeatState, Seated, WentOn, conn_seat, data_seat, data_seated}
+use Rattle.lane_turns.specs.ConnSeats.{conn_seated}
 
 -- the publisher of the control lane, and the other lanes at their places
 pub record PhaseState : Type 0 where
@@ -34,22 +28,6 @@ conns_seated x = map conn_seated x.conns
 
 abbrev pub units_seated : PhaseState → List Seated
 units_seated x = map data_seated x.units
-
--- what was published before the phase and in it is as many changes as the control lane published
-abbrev pub IsOpen : Publishing → ControlState → Type 0
-IsOpen p lane = p.opened.number + length p.seen.changes ≡ length (changes_by lane)
-
--- the control lane takes an event, and its publisher publishes the change, where there is one
-pub record ControlTakes (stamp : Stamp) (event : ControlEvent) (old new : ControlSeatState) : Type 0 where
-  pub adds : AddsEntry stamp event old.lane new.lane
-  pub grows : GrowAlike old.publisher.seen.changes new.publisher.seen.changes (changes_by old.lane) (changes_by new.lane)
-  pub first : new.publisher.opened.number ≡ old.publisher.opened.number
-
--- nothing was published, and the control lane is as before
-pub record IsUnchanged (old new : ControlSeatState) : Type 0 where
-  pub lane : new.lane ≡ old.lane
-  pub published : new.publisher.seen.changes ≡ old.publisher.seen.changes
-  pub first : new.publisher.opened.number ≡ old.publisher.opened.number
 
 -- the lanes went on with the events of a phase
 pub record GoesOn (head : Head) (lists : List Stamped) (old : ControlState) (from : PhaseState) (new : ControlState) (to : PhaseState) : Type 0 where

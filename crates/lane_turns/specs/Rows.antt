@@ -10,7 +10,7 @@ use Rattle.gtt_editions.specs.Standing.{Publishing}
 use Rattle.link_threads.specs.declared.lane_name.LaneName.{LaneName}
 use Rattle.link_threads.specs.declared.lane_name.LaneName.TheVariants as name
 use Rattle.lane_turns.specs.LaneStates.{PhaseLane, Control, Conn, Data}
-use Rattle.lane_turns.specs.Seats.{SeatState}
+use Rattle.lane_seats.specs.Seats.{SeatState}
 use Rattle.lane_turns.specs.Phases.{PhaseState}
 use Rattle.lane_turns.specs.Turns.{TurnState, opened_turn}
 

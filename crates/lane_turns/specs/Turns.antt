@@ -1,22 +1,20 @@
 -- A lane in its gate: what it is to take of a phase, and how far it has come.
 use Rattle.std.specs.Prelude.{◌≡◌, ◌<◌, ◌^◌, ◌+◌, ◌-◌, ◌++◌, ℕ, zero, suc, List, length, drop}
 use Rattle.relay_base.specs.declared.words.Stamp.{Stamp}
-use Rattle.plant_core.specs.declared.entry.ControlEntry.{ControlEntry}
 use Rattle.plant_core.specs.declared.entry.ControlEvent.{ControlEvent}
 use Rattle.plant_core.specs.declared.entry.ControlEvent.TheVariants.{Plain}
 use Rattle.node_head.specs.declared.head.Head.{Head}
 use Rattle.capture_form.specs.Events.{Stamped}
-use Rattle.scmg.specs.Lane.{GrowAlike}
-use Rattle.scmg.specs.Lane.{changes_of as changes_by}
 use Rattle.lane_gate.specs.Plan.{Plan}
 use Rattle.right_book.specs.Own.{pairs_of, control_pairs_of}
 use Rattle.link_threads.specs.declared.lane_name.LaneName.{LaneName}
 use Rattle.link_threads.specs.declared.lane_name.LaneName.TheVariants as name
 use Rattle.link_threads.specs.Links.{is_in}
 use Rattle.lane_turns.specs.LaneStates.{PhaseLane, Control, Conn, Data}
-use Rattle.lane_turns.specs.Plans.{of_link, planned, AreBegun, AreWhole}
-use Rattle.lane_turns.specs.Seats.{Takes, HasLooked, GoneOn, conn_seat, conn_seated, data_seat, data_seated}
-use Rattle.lane_turns.specs.Phases.{ControlSeatState, ControlTakes, IsUnchanged, IsOpen}
+use Rattle.lane_seats.specs.Plans.{of_link, planned, AreBegun, AreWhole}
+use Rattle.lane_seats.specs.Seats.{Takes, HasLooked, GoneOn, conn_seat, data_seat, data_seated}
+use Rattle.lane_seats.specs.Controls.{ControlTakes, ControlGoneOn, IsUnchanged, IsOpen}
+use Rattle.lane_turns.specs.ConnSeats.{conn_seated}
 
 -- ---- one event
 
@@ -46,16 +44,6 @@ IsAsBefore (Data old) (Data new) = HasLooked old new
 IsAsBefore _ _ = ⊥
 
 -- ---- many events
-
--- the control lane went on with entries of these events, and its publisher published their changes
-pub record ControlGoneOn (Own : Stamped → Type 0) (old new : ControlSeatState) : Type 0 where
-  pub entries : List ControlEntry
-  pub journal : new.lane.journal ≡ old.lane.journal ++ entries
-  pub own : Own (control_pairs_of entries)
-  pub head_kept : new.lane.head ≡ old.lane.head
-  pub start_kept : new.lane.start ≡ old.lane.start
-  pub grown : GrowAlike old.publisher.seen.changes new.publisher.seen.changes (changes_by old.lane) (changes_by new.lane)
-  pub first : new.publisher.opened.number ≡ old.publisher.opened.number
 
 -- the lane went on with these events
 abbrev pub HasGoneOn : (Stamped → Type 0) → PhaseLane → PhaseLane → Type 0

@@ -1,8 +1,7 @@
 //! The kinds of lanes of a phase.
-use crate::control_seat::ControlSeat;
-use crate::seat::Seat;
 use conn_lane::ConnLane;
 use data_lane::DataLane;
+use lane_seats::{ControlSeat, Seat};
 use std::sync::Wait;
 
 /// The control lane with its publisher, or a connection lane or a data lane at its place.

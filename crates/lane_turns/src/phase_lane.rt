@@ -5,11 +5,11 @@ ghost use Rattle.lane_turns.specs.LaneStates.{Control, Conn, Data};
 ghost use Rattle.lane_turns.specs.Turns.{CanTake, IsPlain, TakesEvent, IsAsBefore};
 ghost use Rattle.lane_turns.specs.Rows.{IsControl, IsSeated, conn_of, data_of};
 
-use crate::control_seat::ControlSeat;
+use crate::conn_seat::conn_takes;
 use crate::lane_kind::LaneKind;
-use crate::seat::{Seat, conn_takes, unit_takes};
 use conn_lane::ConnLane;
 use data_lane::DataLane;
+use lane_seats::{ControlSeat, Seat, unit_takes};
 use plant_core::ControlEvent;
 use relay_base::{Event, Memory, Stamp};
 use std::marker::Model;

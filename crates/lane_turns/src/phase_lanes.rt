@@ -1,20 +1,21 @@
 //! The lanes of a phase, each at its place.
-ghost use Rattle.std.specs.Prelude.{◌≡◌, ◌+◌, ◌++◌, ◌≤◌, length, vec_capacity, All, IfOk};
+ghost use Rattle.std.specs.Prelude.{◌≡◌, ◌+◌, ◌++◌, ◌<◌, ◌≤◌, length, vec_capacity, All, IfOk};
 ghost use Rattle.std.specs.List.{flat_map};
 ghost use Rattle.capture_form.specs.Events.{phase_events};
-ghost use Rattle.lane_turns.specs.Phases.{HasRoomFor, IsOpen};
-ghost use Rattle.lane_turns.specs.Turns.{HasRoom, IsTurn};
-ghost use Rattle.lane_turns.specs.Rows.{AreApart, EndInControl, HasPlace, conn_of, data_of, lanes_of, seated_turn, turns_from, turns_of};
+ghost use Rattle.lane_seats.specs.Controls.{IsOpen};
+ghost use Rattle.lane_turns.specs.Phases.{HasRoomFor};
+ghost use Rattle.link_threads.specs.declared.lane_name.LaneName.TheVariants.{Control};
+ghost use Rattle.lane_turns.specs.LaneStates.{Conn};
+ghost use Rattle.lane_turns.specs.Turns.{HasRoom, IsTurn, opened_turn};
+ghost use Rattle.lane_turns.specs.Rows.{AreApart, EndInControl, HasPlace, conn_of, conn_turn, control_lane, data_of, data_turn, lanes_of, seated_turn, turns_from, turns_of};
 
-use crate::control_seat::ControlSeat;
 use crate::phase_lane::PhaseLane;
-use crate::publisher::PhasePublisher;
-use crate::seat::Seat;
 use crate::seated_kind::SeatedKind;
 use crate::turn::LaneTurn;
 use capture_form::Phase;
 use conn_lane::ConnLane;
 use data_lane::DataLane;
+use lane_seats::{ControlSeat, PhasePublisher, Seat};
 use link_threads::LaneName;
 use node_head::Head;
 use relay_base::Memory;
@@ -69,6 +70,65 @@ fn add_turns<'p, 'r, R: Wait, L: SeatedKind>(
     }
 }
 
+/// The connection lanes and the data lanes go to the end of a row.
+fn add_both<'p, 'r, R: Wait>(
+    turns: &mut Vec<LaneTurn<'p, 'r, R>>,
+    head: &'p Head,
+    phase: &'p Phase,
+    conns: ConnSeatList<'r, R>,
+    units: DataSeatList<'r, R>,
+)
+    requires reserved { let count = length conns.items + length units.items in
+        length turns.old.items + count ≤ vec_capacity turns.old }
+    requires room { let events = length (phase_events phase.now) in
+        All (λ s. HasRoom events (Conn s)) conns.items }
+    ensures turns { let conns = turns_from (conn_turn head.now phase.now) 0 conns.entry.items in
+        let units = turns_from (data_turn head.now phase.now) 0 units.entry.items in
+        turns.new.items ≡ (turns.old.items ++ conns) ++ units }
+    ensures capacity { vec_capacity turns.new ≡ vec_capacity turns.old }
+{
+    add_turns(turns, head, phase, conns);
+    add_turns(turns, head, phase, units);
+}
+
+/// The control lane, before the first event of the phase.
+fn control_turn<'p, 'r, R: Wait>(
+    alloc: Global,
+    head: &'p Head,
+    phase: &'p Phase,
+    control: ControlLane,
+    publisher: PhasePublisher<'r, R>,
+) -> Result<LaneTurn<'p, 'r, R>, Memory>
+    requires room { let events = length (phase_events phase.now) in
+        length control.journal + events < 4294967296 }
+    requires open { IsOpen publisher.publisher control }
+    ensures { let lane = control_lane control publisher.entry.publisher in
+        IfOk result (λ turn. turn ≡ opened_turn head.now phase.now Control lane) }
+{
+    let lane = PhaseLane::control(ControlSeat::new(alloc, control, publisher)?);
+    Ok(LaneTurn::new(head, phase, LaneName::Control, lane))
+}
+
+/// Lanes go to those of their kinds, once they have taken the events of the phase.
+fn put_apart<'p, 'r, R: Wait>(
+    turns: Vec<LaneTurn<'p, 'r, R>>,
+    conns: &mut ConnSeatList<'r, R>,
+    units: &mut DataSeatList<'r, R>,
+)
+    requires placed { All HasPlace turns.items }
+    requires conns { length conns.old.items + length turns.items ≤ vec_capacity conns.old }
+    requires units { length units.old.items + length turns.items ≤ vec_capacity units.old }
+    ensures conns { let more = flat_map conn_of (lanes_of turns.entry.items) in
+        conns.new.items ≡ conns.old.items ++ more }
+    ensures units { let more = flat_map data_of (lanes_of turns.entry.items) in
+        units.new.items ≡ units.old.items ++ more }
+    ensures turns { All IsTurn turns.entry.items }
+{
+    for turn in turns {
+        turn.into_lane().put(conns, units);
+    }
+}
+
 /// Lanes at their places, by their kinds, once they have taken the events of the phase.
 fn apart<'p, 'r, R: Wait>(
     alloc: Global,
@@ -81,9 +141,7 @@ fn apart<'p, 'r, R: Wait>(
 {
     let mut conns = Vec::with_capacity(alloc, turns.len())?;
     let mut units = Vec::with_capacity(alloc, turns.len())?;
-    for turn in turns {
-        turn.into_lane().put(&mut conns, &mut units);
-    }
+    put_apart(turns, &mut conns, &mut units);
     Ok((conns, units))
 }
 
@@ -129,10 +187,9 @@ impl<'r, R: Wait> PhaseLanes<'r, R> {
     {
         let mut turns = Vec::with_capacity(alloc, self.count())?;
         let (publisher, conns, units) = self.into_parts();
-        add_turns(&mut turns, head, phase, conns);
-        add_turns(&mut turns, head, phase, units);
-        let last = PhaseLane::control(ControlSeat::new(control, publisher));
-        turns.push_reserved(LaneTurn::new(head, phase, LaneName::Control, last));
+        let last = control_turn(alloc, head, phase, control, publisher)?;
+        add_both(&mut turns, head, phase, conns, units);
+        turns.push_reserved(last);
         Ok(turns)
     }
 

@@ -2,8 +2,9 @@
 ghost use Rattle.std.specs.Prelude.{length, IfOk};
 ghost use Rattle.node_head.specs.Ranges.{IsHead};
 ghost use Rattle.capture_form.specs.Events.{phase_events};
-ghost use Rattle.lane_turns.specs.Plans.{IsPhase};
-ghost use Rattle.lane_turns.specs.Phases.{GoesOn, HasRoomFor, IsOpen};
+ghost use Rattle.lane_seats.specs.Controls.{IsOpen};
+ghost use Rattle.lane_seats.specs.Plans.{IsPhase};
+ghost use Rattle.lane_turns.specs.Phases.{GoesOn, HasRoomFor};
 
 use crate::phase_lanes::PhaseLanes;
 use capture_form::Phase;

@@ -1,8 +1,8 @@
 //! The kinds of lanes that have places.
 use crate::phase_lane::PhaseLane;
-use crate::seat::Seat;
 use conn_lane::ConnLane;
 use data_lane::DataLane;
+use lane_seats::Seat;
 use link_threads::LaneName;
 use std::sync::Wait;
 
@@ -11,7 +11,7 @@ pub trait SeatedKind: Drop {
     ghost use Rattle.std.specs.Prelude.{◌≡◌, ℕ};
     ghost use Rattle.link_threads.specs.declared.lane_name.LaneName.{LaneName};
     ghost use Rattle.lane_turns.specs.LaneStates.{PhaseLane};
-    ghost use Rattle.lane_turns.specs.Seats.{SeatState};
+    ghost use Rattle.lane_seats.specs.Seats.{SeatState};
     ghost use Rattle.lane_turns.specs.Turns.{IsNamed};
 
     ghost name_of: { ℕ → LaneName };

@@ -34,8 +34,9 @@ use Rattle.right_book.specs.Lanes.{LaneKind, LanesFrom, IsRouted, conn_kind, dat
 use Rattle.node_engine.specs.Running.{IsConnLaneOf, IsDataLaneOf, IsOf, IsRightSoFar, IsCounted, AreRightSoFar, HasRoom, LaneTook, Went, book_of, conn_journals, data_journals}
 use Rattle.node_engine.specs.Barriers.{IsAtOpening, IsOpening, HaveSeen, IsClosing}
 use Rattle.link_threads.specs.Pairs.{PairsFrom}
-use Rattle.lane_turns.specs.Plans.{planned, AreWhole}
-use Rattle.lane_turns.specs.Seats.{SeatState, Seated, SeatKind, IsSeen, IsSeenRouting, IsSeenEntry, WentOn, conn_seat, conn_seated, data_seat, data_seated}
+use Rattle.lane_seats.specs.Plans.{planned, AreWhole}
+use Rattle.lane_seats.specs.Seats.{SeatState, Seated, SeatKind, IsSeen, IsSeenRouting, IsSeenEntry, WentOn, conn_seat, data_seat, data_seated}
+use Rattle.lane_turns.specs.ConnSeats.{conn_seated}
 use Rattle.lane_turns.specs.Phases.{PhaseState, GoesOn, HasRoomFor, conns_seated}
 use Rattle.right_book.proofs.ListLemmas.{weaker, weaker-two, all-append, all-map, all-mapped, map-twice, any-lanes, lanes-all, lanes-weaker, lanes-map, lanes-mapped}
 use Rattle.link_threads.proofs.PairLemmas.{pairs-length, pairs-lanes, pairs-map, pairs-all}

@@ -14,7 +14,7 @@ use Rattle.capture_form.specs.Events.{Stamped, phase_events, AreOfLinks}
 use Rattle.capture_form.specs.Place.{place_of}
 use Rattle.capture_form.specs.declared.lane_place.LanePlace.{LanePlace}
 use Rattle.right_book.proofs.ListLemmas.{weaker, all-filter}
-use Rattle.lane_turns.specs.Plans.{of_link, planned, AreWhole}
+use Rattle.lane_seats.specs.Plans.{of_link, planned, AreWhole}
 use Rattle.node_engine.specs.Running.{Took}
 
 pub differs : (a b : ℕ) → a ≢ b → (a == b) ≡ false

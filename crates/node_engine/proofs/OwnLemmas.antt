@@ -12,7 +12,7 @@ use Rattle.plant_core.specs.declared.entry.ControlEvent.{ControlEvent}
 use Rattle.capture_form.specs.Events.{Stamped, is_at}
 use Rattle.right_book.specs.Own.{events_at, HasEventsInOrder}
 use Rattle.right_book.proofs.ListLemmas.{weaker, all-push}
-use Rattle.lane_turns.specs.Plans.{of_link, AreWhole}
+use Rattle.lane_seats.specs.Plans.{of_link, AreWhole}
 use Rattle.node_engine.proofs.LinkLemmas.{differs, same_number}
 
 -- a pair stands where its stamp says, and nowhere else

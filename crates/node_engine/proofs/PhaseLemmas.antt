@@ -10,7 +10,7 @@ use Rattle.gtt_editions.specs.Editions.{edition_of}
 use Rattle.gtt_editions.specs.Published.{Published, published, Begins}
 use Rattle.gtt_editions.specs.Standing.{Standing, Publishing, IsNewPlace, IsOpenedOn, IsEndOf}
 use Rattle.scmg.specs.Lane.{ControlState}
-use Rattle.lane_turns.specs.Seats.{SeatState}
+use Rattle.lane_seats.specs.Seats.{SeatState}
 use Rattle.node_engine.specs.Barriers.{IsPlantOf, IsAtOpening, HaveSeen}
 use Rattle.right_book.proofs.ListLemmas.{all-push, all-first, all-rest, weaker}
 

@@ -25,7 +25,7 @@ use Rattle.right_book.specs.Lanes.{LaneKind, LanesFrom, IsServed, conn_kind, dat
 use Rattle.right_book.specs.Right.{HasServed, AreLegal, IsRight}
 use Rattle.node_engine.specs.Running.{CanTake, IsFirst, IsConnLaneOf, IsDataLaneOf, IsOf, IsRightSoFar, IsCounted, AreRightSoFar, Took, LaneTook, Went, book_of, conn_journals, data_journals, HasLegal}
 use Rattle.link_threads.specs.Pairs.{PairsFrom}
-use Rattle.lane_turns.specs.Plans.{planned, AreWhole}
+use Rattle.lane_seats.specs.Plans.{planned, AreWhole}
 use Rattle.right_book.proofs.ListLemmas.{weaker, any-lanes, lanes-all, lanes-map, all-lanes, all-map, all-mapped}
 use Rattle.link_threads.proofs.PairLemmas.{pairs-lanes}
 use Rattle.node_engine.proofs.LinkLemmas.{whole-phase}

@@ -12,7 +12,7 @@ use Rattle.right_book.specs.Placed.{in_control}
 use Rattle.right_book.specs.Lanes.{conn_kind}
 use Rattle.right_book.proofs.ListLemmas.{weaker}
 use Rattle.node_engine.specs.Running.{CanTake, HasRoom, LaneTook, Went, conn_journals}
-use Rattle.lane_turns.specs.Plans.{IsPhase}
+use Rattle.lane_seats.specs.Plans.{IsPhase}
 use Rattle.link_threads.proofs.PairLemmas.{pairs-all}
 use Rattle.node_engine.proofs.LinkLemmas.{took-length}
 

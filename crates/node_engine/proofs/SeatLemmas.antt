@@ -9,7 +9,7 @@ use Rattle.plant_core.specs.declared.entry.Asked.{Asked}
 use Rattle.plant_core.specs.declared.entry.Entry.{Entry}
 use Rattle.gtt_editions.specs.Standing.{Standing, LooksFrom, newest_of}
 use Rattle.right_book.specs.Editions.{editions_in, named}
-use Rattle.lane_turns.specs.Seats.{IsSeen, IsSeenRouting, IsSeenEntry}
+use Rattle.lane_seats.specs.Seats.{IsSeen, IsSeenRouting, IsSeenEntry}
 use Rattle.right_book.proofs.ListLemmas.{all-append}
 
 newest-rises : (s t : Standing) → LooksFrom s t → (newest_of s).number ≤ (newest_of t).number

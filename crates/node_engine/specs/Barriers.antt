@@ -8,7 +8,7 @@ use Rattle.scmg.specs.Control.{routing_after}
 use Rattle.scmg.specs.Lane.{ControlState}
 use Rattle.scmg.specs.Lane.{changes_of as changes_by}
 use Rattle.node_engine.specs.declared.node.Node.{Node}
-use Rattle.lane_turns.specs.Seats.{SeatState}
+use Rattle.lane_seats.specs.Seats.{SeatState}
 use Rattle.lane_turns.specs.Phases.{PhaseState}
 
 -- a plant with the routing data of the control lane, at the edition that it published last

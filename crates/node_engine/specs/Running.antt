@@ -22,7 +22,7 @@ use Rattle.right_book.specs.Placed.{in_control}
 use Rattle.right_book.specs.Editions.{changes_of, editions_in}
 use Rattle.right_book.specs.Lanes.{LaneKind, LanesFrom, IsRouted, conn_kind, data_kind}
 use Rattle.link_threads.specs.Pairs.{PairsFrom}
-use Rattle.lane_turns.specs.Plans.{planned, AreWhole}
+use Rattle.lane_seats.specs.Plans.{planned, AreWhole}
 
 -- the journals of lanes
 abbrev pub conn_journals : List ConnLaneState → List (List Entry)

@@ -3,7 +3,7 @@ ghost use Rattle.std.specs.Prelude.{◌≡◌, ◌++◌, ◌+◌, ◌∷◌, [],
 ghost use Rattle.scmg.specs.Control.{IsControlJournal};
 ghost use Rattle.capture_form.specs.Events.{Stamped, phase_events, AreOfLinks};
 ghost use Rattle.right_book.specs.Right.{HasServed};
-ghost use Rattle.lane_turns.specs.Plans.{IsPhase};
+ghost use Rattle.lane_seats.specs.Plans.{IsPhase};
 ghost use Rattle.node_engine.specs.Running.{CanTake, Went, book_of};
 
 use crate::node::{Node, control_alone};

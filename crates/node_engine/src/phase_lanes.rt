@@ -8,7 +8,8 @@ ghost use Rattle.node_engine.specs.Barriers.{IsPlantOf, IsFresh, IsAtOpening, Ar
 
 use crate::node::{ConnLaneList, DataLaneList, Node};
 use gtt_editions::{Ended, PlaceList, Publisher, editions};
-use lane_turns::{ConnSeatList, DataSeatList, PhaseLanes, PhasePublisher, Seat};
+use lane_seats::{PhasePublisher, Seat};
+use lane_turns::{ConnSeatList, DataSeatList, PhaseLanes};
 use plant_core::Plant;
 use relay_base::Memory;
 use scmg::ControlLane;

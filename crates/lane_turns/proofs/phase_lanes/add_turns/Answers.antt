@@ -1,7 +1,7 @@
 use Rattle.std.proofs.Common.{◌≡◌, ◌-◌, ◌++◌, [], ◌∷◌, ℕ, List, All, length, refl, ap, ◌∙◌, subst, arith, length-append, append_assoc}
 use Rattle.std.proofs.lemmas.List.Elements.{All-tail}
 use Rattle.capture_form.specs.Events.{phase_events}
-use Rattle.lane_turns.specs.Seats.{SeatState}
+use Rattle.lane_seats.specs.Seats.{SeatState}
 use Rattle.lane_turns.specs.Turns.{TurnState, HasRoom, opened_turn}
 use Rattle.lane_turns.specs.Rows.{seated_turn, turns_from}
 use Rattle.lane_turns.proofs.RowLemmas.{turns_one_more}

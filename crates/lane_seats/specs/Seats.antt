@@ -13,7 +13,6 @@ use Rattle.plant_core.specs.declared.terms.LaneHead.{LaneHead}
 use Rattle.gtt_editions.specs.Standing.{Standing, LooksFrom, newest_of}
 use Rattle.data_lane.specs.Legal.{LaneState}
 use Rattle.data_lane.specs.Legal.{question_of as question_of_unit}
-use Rattle.conn_lane.specs.Lanes.{ConnLaneState}
 use Rattle.node_head.specs.declared.head.Head.{Head}
 use Rattle.capture_form.specs.declared.lane_place.LanePlace.{LanePlace}
 use Rattle.capture_form.specs.Events.{Stamped}
@@ -21,7 +20,7 @@ use Rattle.right_book.specs.Own.{pairs_of}
 use Rattle.right_book.specs.Placed.{in_conn, in_data}
 use Rattle.right_book.specs.Editions.{editions_in}
 use Rattle.right_book.specs.Lanes.{conn_question}
-use Rattle.lane_turns.specs.Plans.{planned, AreWhole}
+use Rattle.lane_seats.specs.Plans.{planned, AreWhole}
 
 -- a lane of a kind, and its place
 pub record SeatState (A : Type 0) : Type 0 where
@@ -34,9 +33,6 @@ pub record Seated : Type 0 where
   pub number : ℕ
   pub journal : List Entry
   pub place : Standing
-
-abbrev pub conn_seated : SeatState ConnLaneState → Seated
-conn_seated s = record { head = s.lane.head; number = s.lane.number; journal = s.lane.journal; place = s.place }
 
 abbrev pub data_seated : SeatState LaneState → Seated
 data_seated s = record { head = s.lane.head; number = s.lane.number; journal = s.lane.journal; place = s.place }

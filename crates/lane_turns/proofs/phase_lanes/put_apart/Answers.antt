@@ -1,16 +1,17 @@
-use Rattle.std.proofs.Common.{◌≡◌, ◌++◌, List, length, All, sym, ap, ◌∙◌, subst, arith, length-append}
+use Rattle.std.proofs.Common.{◌≡◌, ◌++◌, List, length, All, sym, ap, ◌∙◌, subst, arith, length-append, append_assoc}
+use Rattle.std.specs.List.{flat_map}
 use Rattle.std.proofs.lemmas.List.{map-id}
 use Rattle.std.proofs.lemmas.List.Elements.{All-tail, All-push}
 use Rattle.std.proofs.lemmas.Iterator.Adapters.{YieldsList-from_vec}
 use Rattle.std.proofs.lemmas.Iterator.Consumers.{YieldsList-end}
 use Rattle.conn_lane.specs.Lanes.{ConnLaneState}
 use Rattle.data_lane.specs.Legal.{LaneState}
-use Rattle.lane_turns.specs.Seats.{SeatState}
+use Rattle.lane_seats.specs.Seats.{SeatState}
 use Rattle.lane_turns.specs.Turns.{TurnState, IsTurn}
-use Rattle.lane_turns.specs.Rows.{HasPlace, IsSeated, conn_of, data_of}
+use Rattle.lane_turns.specs.Rows.{HasPlace, IsSeated, conn_of, data_of, lanes_of}
 use Rattle.lane_turns.proofs.TurnLemmas.{seated_by}
 use Rattle.lane_turns.proofs.RowLemmas.{conns_push, units_push, conn_few, data_few}
-use Rattle.lane_turns.proofs.phase_lanes.apart.Goals as goal
+use Rattle.lane_turns.proofs.phase_lanes.put_apart.Goals as goal
 
 pub put-requires-clause-seated : goal.put-requires-clause-seated
 put-requires-clause-seated g c =
@@ -22,11 +23,15 @@ loop-turn-preserved g c =
     let inv = c.loop-turn.invariant in
     let turn : TurnState = c.in-Some.turn in
     let step = c.in-Some.ensures.steps.0 in
+    let had_conns : List (SeatState ConnLaneState) = c.args.conns.now.items in
+    let had_units : List (SeatState LaneState) = c.args.units.now.items in
     let conns : c.put.new.conns.items ≡ c.loop-turn.conns.items ++ conn_of turn.lane = c.put.ensures.conns ∙ ap (λ l. c.loop-turn.conns.items ++ conn_of l) c.into_lane.ensures.lane in
     let units : c.put.new.units.items ≡ c.loop-turn.units.items ++ data_of turn.lane = c.put.ensures.units ∙ ap (λ l. c.loop-turn.units.items ++ data_of l) c.into_lane.ensures.lane in
     record {
-      conns = conns ∙ (ap (λ (l : List (SeatState ConnLaneState)). l ++ conn_of turn.lane) inv.conns ∙ sym (conns_push c.loop-turn.yielded turn));
-      units = units ∙ (ap (λ (l : List (SeatState LaneState)). l ++ data_of turn.lane) inv.units ∙ sym (units_push c.loop-turn.yielded turn));
+      conns = conns ∙ (ap (λ (l : List (SeatState ConnLaneState)). l ++ conn_of turn.lane) inv.conns
+          ∙ (append_assoc had_conns (flat_map conn_of (lanes_of c.loop-turn.yielded)) (conn_of turn.lane) ∙ ap (λ (l : List (SeatState ConnLaneState)). had_conns ++ l) (sym (conns_push c.loop-turn.yielded turn))));
+      units = units ∙ (ap (λ (l : List (SeatState LaneState)). l ++ data_of turn.lane) inv.units
+          ∙ (append_assoc had_units (flat_map data_of (lanes_of c.loop-turn.yielded)) (data_of turn.lane) ∙ ap (λ (l : List (SeatState LaneState)). had_units ++ l) (sym (units_push c.loop-turn.yielded turn))));
       turns = All-push IsTurn c.loop-turn.yielded turn inv.turns c.into_lane.ensures.turn;
       placed = All-tail HasPlace turn c.next.new.self.rest.items (subst (All HasPlace) step inv.placed);
       conns_room = omega (arith, ap length conns, length-append c.loop-turn.conns.items (conn_of turn.lane), conn_few turn.lane, ap length step, inv.conns_room, c.put.ensures.conns_room);

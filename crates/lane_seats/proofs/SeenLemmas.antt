@@ -18,7 +18,7 @@ use Rattle.gtt_editions.specs.Standing.{Standing, LooksFrom, newest_of}
 use Rattle.right_book.specs.Own.{pairs_of}
 use Rattle.right_book.specs.Editions.{editions_in, named}
 use Rattle.right_book.proofs.ListLemmas.{weaker, all-append, all-push}
-use Rattle.lane_turns.specs.Seats.{IsSeen, IsSeenRouting, IsSeenEntry}
+use Rattle.lane_seats.specs.Seats.{IsSeen, IsSeenRouting, IsSeenEntry}
 
 -- ---- what was seen stays seen
 
