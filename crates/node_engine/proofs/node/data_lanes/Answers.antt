@@ -12,7 +12,7 @@ loop-number-preserved c =
     let lane = c.in_ok-lane.lane in
     let grown = c.in_ok-push.ensures.items in
     let of : IsDataLaneOf c.args.head.now c.loop-number.number lane =
-    record { of_head = ap (λ (l : LaneState). l.head) c.in_ok-lane.ensures ∙ c.lane_head_of-lane_head.ensures.value; of_number = ap (λ (l : LaneState). l.number) c.in_ok-lane.ensures } in
+    record { of_head = ap (λ (l : LaneState). l.head) c.in_ok-lane.ensures ∙ c.in_ok-lane_head.ensures.value; of_number = ap (λ (l : LaneState). l.number) c.in_ok-lane.ensures } in
     record {
       count = ap length grown ∙ length-append lanes (lane ∷ []) ∙ ap (λ n. n + 1) c.loop-number.invariant.count;
       lanes = subst (LanesFrom (IsDataLaneOf c.args.head.now) 0) (sym grown)
