@@ -64,22 +64,22 @@ fn take_capture<S: Source>(alloc: Global, command: Command, source: &mut S) -> R
     }
 }
 
-/// Runs a capture into the book, and gives the capture up.
+/// Runs a capture into the book. The caller gives the capture's memory back after it has written what comes of it.
 fn fill<R: Threads + Wait + Sync, P: Pace>(
     rt: &R,
     alloc: Global,
-    capture: Capture,
+    capture: &Capture,
     pace: &P,
     book: &mut Book,
 ) -> Result<(), Stop>
-    requires head { IsHead capture.head }
-    requires stamped { IsStamped capture.head capture.phases }
-    requires few { length (all_events capture.phases) < 2 ^ 32 }
+    requires head { IsHead capture.now.head }
+    requires stamped { IsStamped capture.now.head capture.now.phases }
+    requires few { length (all_events capture.now.phases) < 2 ^ 32 }
     requires empty { IsEmpty book.old }
-    ensures ok { OnOk result (IsRight capture.head capture.phases book.new) }
+    ensures ok { OnOk result (IsRight capture.now.head capture.now.phases book.new) }
     ensures stopped { IfErr result (λ stop. (stop ≡ Stop.Memory) × IsEmpty book.new) }
 {
-    match run_capture(rt, alloc, &capture, pace, book) {
+    match run_capture(rt, alloc, capture, pace, book) {
         Ok(()) => Ok(()),
         Err(_) => Err(Stop::Memory),
     }
@@ -145,7 +145,7 @@ fn perform<R: Threads + Wait + Sync, S: Source, K: Sink, P: Pace>(
 {
     let capture = take_capture(alloc, command, source)?;
     let report = report_of(command, &capture.head);
-    fill(rt, alloc, capture, pace, book)?;
+    fill(rt, alloc, &capture, pace, book)?;
     write(alloc, report, book, out)
 }
 
