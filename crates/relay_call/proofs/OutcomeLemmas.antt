@@ -25,7 +25,7 @@ use Rattle.capture_input.proofs.StatusLemmas.{input-linked}
 use Rattle.command_words.specs.declared.command.Command.{Command}
 use Rattle.command_words.specs.declared.command.Command.TheVariants.{Run, Generate, Stream, Frames}
 use Rattle.relay_call.specs.Outcome.{GivesAs, States, Wrote, WrotePart, Says, Filled, FilledBy, IsDone, IsCaptureOf, IsDetermined, output_of}
-use Rattle.relay_call.specs.Inner.Stops.{Stopped}
+use Rattle.relay_call.specs.Inner.Stops.{StoppedLate, Stopped}
 
 -- what writing a whole text told a sink
 pub Says-written : {T : Type 0} (r : Result T Failed) (noted : Bytes) (before after : ℕ) (text : List ℕ)
@@ -50,12 +50,24 @@ pub filled_by : (Written : List ℕ → Type 0) (command : Command) (read : Byte
 filled_by Written command read capture book given filled = gives_more command read _ _ (λ parts e. (capture, e, filled)) given
 
 -- what stands where the output was not written whole
-pub write_stopped : {T : Type 0} (r : Result T Stop) (command : Command) (read written : Bytes) (capture : Capture) (book : Book)
-    → GivesAs command read (λ parts. parts ≡ Ok capture) → IsRight capture.head capture.phases book → OnErr r (WrotePart written (output_of command capture.head book))
-    → IfErr r (λ why. (why ≡ stop.WriteFault) ⊎ (why ≡ stop.Memory)) → IfErr r (Stopped (Some command) read written book)
-write_stopped (Ok u) command read written capture book given right part why = tt
-write_stopped (Err e) command read written capture book given right part (inl is) = subst (Stopped (Some command) read written book) (sym is) (command, refl, filled_by (WrotePart written) command read capture book given (right, part))
-write_stopped (Err e) command read written capture book given right part (inr is) = subst (Stopped (Some command) read written book) (sym is) (inr (command, refl, filled_by (WrotePart written) command read capture book given (right, part)))
+pub write_stopped : {T : Type 0} (r : Result T Stop) (command : Command) (written : Bytes) (capture : Capture) (book : Book)
+    → IsRight capture.head capture.phases book → OnErr r (WrotePart written (output_of command capture.head book))
+    → IfErr r (λ why. (why ≡ stop.WriteFault) ⊎ (why ≡ stop.Memory)) → IfErr r (StoppedLate command written capture book)
+write_stopped (Ok u) command written capture book right part why = tt
+write_stopped (Err e) command written capture book right part (inl is) = subst (StoppedLate command written capture book) (sym is) (right, part)
+write_stopped (Err e) command written capture book right part (inr is) = subst (StoppedLate command written capture book) (sym is) (inr (right, part))
+
+-- the same of a command whose capture this is
+pub late_stopped : {T : Type 0} (r : Result T Stop) (command : Command) (read written : Bytes) (capture : Capture) (book : Book)
+    → GivesAs command read (λ parts. parts ≡ Ok capture) → IfErr r (StoppedLate command written capture book) → IfErr r (Stopped (Some command) read written book)
+late_stopped (Ok u) command read written capture book given late = tt
+late_stopped (Err stop.Memory) command read written capture book given (inl untouched) = inl untouched
+late_stopped (Err stop.Memory) command read written capture book given (inr filled) = inr (command, refl, filled_by (WrotePart written) command read capture book given filled)
+late_stopped (Err stop.WriteFault) command read written capture book given filled = (command, refl, filled_by (WrotePart written) command read capture book given filled)
+late_stopped (Err stop.Usage) command read written capture book given late = absurd late
+late_stopped (Err (stop.Refused fault note)) command read written capture book given late = absurd late
+late_stopped (Err stop.Bytes) command read written capture book given late = absurd late
+late_stopped (Err stop.ReadFault) command read written capture book given late = absurd late
 
 -- ---- what is determined
 

@@ -6,13 +6,14 @@ use Rattle.journal_text.specs.declared.book.Book.{Book}
 use Rattle.capture_form.specs.declared.fault.LineFault.{LineFault}
 use Rattle.capture_form.specs.declared.fault.CaptureFault.TheVariants as refused
 use Rattle.m3ua_capture.specs.declared.fault.StreamFault.TheVariants as stream
+use Rattle.m3ua_port.specs.declared.fault.PortFault.{PortFault}
 use Rattle.capture_input.specs.declared.input.Form.{Form}
 use Rattle.capture_input.specs.declared.input.Form.TheVariants.{Lines, Stream}
 use Rattle.capture_input.specs.declared.stop.Stop.{Stop}
 use Rattle.capture_input.specs.declared.stop.Stop.TheVariants as stop
-use Rattle.capture_input.specs.Input.{Bytes, ReadAs, PassesLimit, IsLineFault, IsDue}
+use Rattle.capture_input.specs.Input.{Bytes, ReadAs, PassesLimit, IsHeadFault, IsLineFault, IsPortFault, IsDue}
 use Rattle.capture_input.specs.Stops.{NotedAs, note_of, status_of}
-use Rattle.capture_input.proofs.StatusLemmas.{more-due, memory-due, fault-due, no-line}
+use Rattle.capture_input.proofs.StatusLemmas.{more-due, memory-due, fault-due, no-line, no-port}
 use Rattle.command_words.specs.declared.command.Command.{Command}
 use Rattle.relay_call.specs.Outcome.{form_read, ReadBy, Says}
 use Rattle.relay_call.specs.Inner.Stops.{Stopped}
@@ -36,6 +37,43 @@ line-of stated read written noted before after book stop.Bytes s told e = absurd
 line-of stated read written noted before after book stop.ReadFault s told e = absurd (cc)
 line-of stated read written noted before after book stop.WriteFault s told e = absurd (cc)
 line-of stated read written noted before after book stop.Memory s told e = absurd (cc)
+
+-- ---- a fault of the head, and one of a message, which a stream alone has
+
+abbrev IsOfHead : Option Command → Bytes → (List ℕ → Type 0) → Type 0
+IsOfHead stated read Said = (form : Form) × ReadBy form stated read (IsHeadFault Said)
+
+pub head-of : (stated : Option Command) (read written noted : Bytes) (before after : ℕ) (book : Book) (why : Stop) → Stopped stated read written book why
+    → Says noted before after (note_of why) → status_of why ≡ 2 → IsOfHead stated read (Says noted before after)
+head-of stated read written noted before after book stop.Usage s told e = absurd (cc)
+head-of stated read written noted before after book (stop.Refused (stream.Capture (refused.Head f)) note) ((form, reads, ((came, consumed, ended, is), same)), untouched) told e =
+    (form, (reads, (came, consumed, ended, (f, (is, subst (Says noted before after) same told)))))
+head-of stated read written noted before after book (stop.Refused (stream.Capture (refused.Line f)) note) s told e = absurd (cc)
+head-of stated read written noted before after book (stop.Refused (stream.Capture (refused.TooLong l)) note) s told e = absurd (cc)
+head-of stated read written noted before after book (stop.Refused (stream.Capture refused.Memory) note) s told e = absurd (cc)
+head-of stated read written noted before after book (stop.Refused (stream.Port f) note) s told e = absurd (cc)
+head-of stated read written noted before after book stop.Bytes s told e = absurd (cc)
+head-of stated read written noted before after book stop.ReadFault s told e = absurd (cc)
+head-of stated read written noted before after book stop.WriteFault s told e = absurd (cc)
+head-of stated read written noted before after book stop.Memory s told e = absurd (cc)
+
+message-found : (form : Form) (stated : Option Command) (read noted : Bytes) (before after : ℕ) (f : PortFault) (note : List ℕ) → form_read stated ≡ Some form
+    → NotedAs form read (stream.Port f) note → Says noted before after note → ReadBy Stream stated read (IsPortFault (Says noted before after))
+message-found Stream stated read noted before after f note reads ((came, consumed, ended, is), same) told = (reads, (came, consumed, ended, (f, (is, subst (Says noted before after) same told))))
+message-found Lines stated read noted before after f note reads ((came, consumed, ended, is), same) told = absurd (no-port came f is)
+
+pub message-of : (stated : Option Command) (read written noted : Bytes) (before after : ℕ) (book : Book) (why : Stop) → Stopped stated read written book why
+    → Says noted before after (note_of why) → status_of why ≡ 8 → ReadBy Stream stated read (IsPortFault (Says noted before after))
+message-of stated read written noted before after book stop.Usage s told e = absurd (cc)
+message-of stated read written noted before after book (stop.Refused (stream.Capture (refused.Head f)) note) s told e = absurd (cc)
+message-of stated read written noted before after book (stop.Refused (stream.Capture (refused.Line f)) note) s told e = absurd (cc)
+message-of stated read written noted before after book (stop.Refused (stream.Capture (refused.TooLong l)) note) s told e = absurd (cc)
+message-of stated read written noted before after book (stop.Refused (stream.Capture refused.Memory) note) s told e = absurd (cc)
+message-of stated read written noted before after book (stop.Refused (stream.Port f) note) ((form, reads, said), untouched) told e = message-found form stated read noted before after f note reads said told
+message-of stated read written noted before after book stop.Bytes s told e = absurd (cc)
+message-of stated read written noted before after book stop.ReadFault s told e = absurd (cc)
+message-of stated read written noted before after book stop.WriteFault s told e = absurd (cc)
+message-of stated read written noted before after book stop.Memory s told e = absurd (cc)
 
 -- ---- a limit that is passed, that of the bytes or another
 

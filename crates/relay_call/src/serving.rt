@@ -11,8 +11,8 @@ ghost use Rattle.command_words.specs.declared.command.Command.TheVariants.{Gener
 ghost use Rattle.capture_generator.specs.Generator.{generated_capture};
 ghost use Rattle.capture_input.specs.Input.{bytes};
 ghost use Rattle.book_output.specs.Report.{report_text};
-ghost use Rattle.relay_call.specs.Outcome.{report_of, GivesAs, Wrote, WrotePart, FilledBy, IsDone};
-ghost use Rattle.relay_call.specs.Inner.Stops.{LacksCapture, Stopped};
+ghost use Rattle.relay_call.specs.Outcome.{report_of, GivesAs, Wrote, WrotePart, Filled, FilledBy, IsDone};
+ghost use Rattle.relay_call.specs.Inner.Stops.{LacksCapture, StoppedLate, Stopped};
 
 use book_output::{Report, write_report};
 use capture_form::{Book, Capture, WriteFault};
@@ -114,6 +114,32 @@ fn write<K: Sink>(alloc: Global, report: Report, book: &Book, out: &mut K) -> Re
     }
 }
 
+/// Runs a capture into the book, and writes what a command writes of it.
+fn serve_capture<R: Threads + Wait + Sync, K: Sink, P: Pace>(
+    rt: &R,
+    alloc: Global,
+    command: Command,
+    capture: &Capture,
+    out: &mut K,
+    pace: &P,
+    book: &mut Book,
+) -> Result<(), Stop>
+    requires head { IsHead capture.now.head }
+    requires stamped { IsStamped capture.now.head capture.now.phases }
+    requires few { length (all_events capture.now.phases) < 2 ^ 32 }
+    requires empty { IsEmpty book.old }
+    ensures ok { let written = bytes (K.held out.old) (K.held out.new) in
+        OnOk result (Filled (Wrote written) command capture.now book.new) }
+    ensures stopped { let written = bytes (K.held out.old) (K.held out.new) in
+        IfErr result (StoppedLate command written capture.now book.new) }
+    ensures fault { result ≡ Err Stop.WriteFault → Rose (K.faults out.old) (K.faults out.new) }
+    ensures kept { result ≢ Err Stop.WriteFault → K.faults out.new ≡ K.faults out.old }
+{
+    let report = report_of(command, &capture.head);
+    fill(rt, alloc, capture, pace, book)?;
+    write(alloc, report, book, out)
+}
+
 /// Does a command: runs its capture, and writes what it writes of the book.
 fn perform<R: Threads + Wait + Sync, S: Source, K: Sink, P: Pace>(
     rt: &R,
@@ -144,9 +170,7 @@ fn perform<R: Threads + Wait + Sync, S: Source, K: Sink, P: Pace>(
     ensures out_kept { result ≢ Err Stop.WriteFault → K.faults out.new ≡ K.faults out.old }
 {
     let capture = take_capture(alloc, command, source)?;
-    let report = report_of(command, &capture.head);
-    fill(rt, alloc, &capture, pace, book)?;
-    write(alloc, report, book, out)
+    serve_capture(rt, alloc, command, &capture, out, pace, book)
 }
 
 /// Does what the words ask.
