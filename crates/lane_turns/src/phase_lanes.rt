@@ -1,5 +1,5 @@
 //! The lanes of a phase, each at its place.
-ghost use Rattle.std.specs.Prelude.{◌≡◌, ◌+◌, ◌++◌, ◌<◌, ◌≤◌, length, vec_capacity, All, IfOk};
+ghost use Rattle.std.specs.Prelude.{◌≡◌, ◌+◌, ◌++◌, ◌∷◌, [], ◌<◌, ◌≤◌, length, vec_capacity, All, IfOk};
 ghost use Rattle.std.specs.List.{flat_map};
 ghost use Rattle.capture_form.specs.Events.{phase_events};
 ghost use Rattle.lane_seats.specs.Controls.{IsOpen};
@@ -91,6 +91,34 @@ fn add_both<'p, 'r, R: Wait>(
     add_turns(turns, head, phase, units);
 }
 
+/// How many lanes a phase has, with the control lane.
+fn count<'r, R: Wait>(conns: &ConnSeatList<'r, R>, units: &DataSeatList<'r, R>) -> usize
+    ensures { result ≡ length conns.now.items + length units.now.items + 1 }
+{
+    conns.len() + units.len() + 1
+}
+
+/// A row of connection lanes and data lanes, behind which the control lane stands.
+fn in_row<'p, 'r, R: Wait>(
+    alloc: Global,
+    head: &'p Head,
+    phase: &'p Phase,
+    conns: ConnSeatList<'r, R>,
+    units: DataSeatList<'r, R>,
+    last: LaneTurn<'p, 'r, R>,
+) -> Result<Vec<LaneTurn<'p, 'r, R>>, Memory>
+    requires { let events = length (phase_events phase.now) in
+        All (λ s. HasRoom events (Conn s)) conns.items }
+    ensures { let first = turns_from (conn_turn head.now phase.now) 0 conns.entry.items in
+        let second = turns_from (data_turn head.now phase.now) 0 units.entry.items in
+        IfOk result (λ v. v.items ≡ first ++ (second ++ last.entry ∷ [])) }
+{
+    let mut turns = Vec::with_capacity(alloc, count(&conns, &units))?;
+    add_both(&mut turns, head, phase, conns, units);
+    turns.push_reserved(last);
+    Ok(turns)
+}
+
 /// The control lane, before the first event of the phase.
 fn control_turn<'p, 'r, R: Wait>(
     alloc: Global,
@@ -166,13 +194,6 @@ impl<'r, R: Wait> PhaseLanes<'r, R> {
         (publisher, conns, units)
     }
 
-    /// How many lanes a phase has, with the control lane.
-    fn count(&self) -> usize
-        ensures { result ≡ length self.now.conns + length self.now.units + 1 }
-    {
-        self.conns.len() + self.units.len() + 1
-    }
-
     /// The lanes in one row, before the first event of the phase: the control lane stands last.
     pub fn into_turns<'p>(
         self,
@@ -185,12 +206,9 @@ impl<'r, R: Wait> PhaseLanes<'r, R> {
         requires open { IsOpen self.publisher control }
         ensures { IfOk result (λ v. v.items ≡ turns_of head.now phase.now control self.entry) }
     {
-        let mut turns = Vec::with_capacity(alloc, self.count())?;
         let (publisher, conns, units) = self.into_parts();
         let last = control_turn(alloc, head, phase, control, publisher)?;
-        add_both(&mut turns, head, phase, conns, units);
-        turns.push_reserved(last);
-        Ok(turns)
+        in_row(alloc, head, phase, conns, units, last)
     }
 
     /// The lanes of a row, each where it belongs, once they have taken the events of the phase.

@@ -1,12 +1,17 @@
 //! The lanes of a phase take its events.
-ghost use Rattle.std.specs.Prelude.{length, IfOk};
+ghost use Rattle.std.specs.Prelude.{length, All, IfOk};
 ghost use Rattle.node_head.specs.Ranges.{IsHead};
 ghost use Rattle.capture_form.specs.Events.{phase_events};
 ghost use Rattle.lane_seats.specs.Controls.{IsOpen};
 ghost use Rattle.lane_seats.specs.Plans.{IsPhase};
+ghost use Rattle.link_threads.specs.Gates.{HasTaken, IsAtOpening};
+ghost use Rattle.link_threads.specs.Pairs.{Beside};
+ghost use Rattle.link_threads.specs.Phases.{links_of};
 ghost use Rattle.lane_turns.specs.Phases.{GoesOn, HasRoomFor};
+ghost use Rattle.lane_turns.specs.Turns.{plan_of, taken_of};
 
 use crate::phase_lanes::PhaseLanes;
+use crate::turn::LaneTurn;
 use capture_form::Phase;
 use link_threads::{PhaseLinks, take_events};
 use node_head::Head;
@@ -16,8 +21,27 @@ use std::alloc::Global;
 use std::sync::Wait;
 use std::thread::Threads;
 
-/// The lanes take the events of a phase: a feeder for each link, in a thread of its own, delivers the events of its link in their order, and all are
-/// joined. Where one of them meets want of memory, so does this.
+/// A row of lanes takes the events of a phase: a feeder for each link, in a thread of its own, delivers the events of its link in their order, and all are
+/// joined.
+fn take_row<'p, 'r, R: Threads + Wait + Sync, P: Pace>(
+    rt: &'r R,
+    alloc: Global,
+    head: &'p Head,
+    phase: &'p Phase,
+    turns: Vec<LaneTurn<'p, 'r, R>>,
+    pace: &P,
+) -> Result<Vec<LaneTurn<'p, 'r, R>>, Memory>
+    requires stated { IsHead head.now }
+    requires phase { IsPhase head.now phase.now }
+    requires lanes { let links = links_of head.now phase.now in
+        All (IsAtOpening plan_of taken_of (λ t. t.opening.name) links) turns.items }
+    ensures { IfOk result (λ v. Beside (HasTaken plan_of taken_of) turns.entry.items v.items) }
+{
+    let links = PhaseLinks::new(head, phase);
+    take_events(rt, alloc, &links, turns, pace)
+}
+
+/// The lanes take the events of a phase. Where one of the feeders meets want of memory, so does this.
 pub fn take_phase<'r, R: Threads + Wait + Sync, P: Pace>(
     rt: &'r R,
     alloc: Global,
@@ -34,7 +58,6 @@ pub fn take_phase<'r, R: Threads + Wait + Sync, P: Pace>(
     ensures { IfOk result (λ t. GoesOn head.now phase.now control lanes.entry t.0 t.1) }
 {
     let turns = lanes.into_turns(alloc, head, phase, control)?;
-    let links = PhaseLinks::new(head, phase);
-    let turns = take_events(rt, alloc, &links, turns, pace)?;
+    let turns = take_row(rt, alloc, head, phase, turns, pace)?;
     PhaseLanes::from_turns(alloc, turns)
 }

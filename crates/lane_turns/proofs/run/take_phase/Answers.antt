@@ -1,15 +1,10 @@
-use denote.Param.Send.{sendable}
 use Rattle.std.proofs.Common.{List, All, Result, Ok, Err, IfOk, sym, subst}
-use Rattle.plant_core.specs.declared.entry.ControlEvent.{ControlEvent}
-use Rattle.right_book.specs.Lanes.{LanesFrom}
 use Rattle.link_threads.specs.Pairs.{Beside}
-use Rattle.link_threads.specs.Links.{Link, IsStamped}
 use Rattle.link_threads.specs.Phases.{links_of}
 use Rattle.link_threads.specs.Gates.{IsAtOpening, HasTaken}
 use Rattle.lane_turns.specs.Turns.{TurnState, plan_of, taken_of}
 use Rattle.lane_turns.specs.Rows.{lanes_of}
-use Rattle.lane_turns.proofs.Sent.{turn_send}
-use Rattle.lane_turns.proofs.RowLemmas.{ends_in_control, row_at_opening, row_goes_on, row_served, phase_stamped}
+use Rattle.lane_turns.proofs.RowLemmas.{ends_in_control, row_at_opening, row_goes_on, row_served}
 use Rattle.lane_turns.proofs.run.take_phase.Goals as goal
 
 -- what follows from both that is known of a call's answer
@@ -17,16 +12,9 @@ if_both : {A E : Type 0} (r : Result A E) (P Q S : A → Type 0) → ((x : A) �
 if_both (Ok x) P Q S f p q = f x p q
 if_both (Err e) P Q S f p q = tt
 
-pub take_events-requires-send-L : goal.take_events-requires-send-L
-take_events-requires-send-L g c κs within = search (sendable, turn_send)
-
-pub take_events-requires-clause-stamped : goal.take_events-requires-clause-stamped
-take_events-requires-clause-stamped g c κs within = subst (LanesFrom IsStamped 0) (sym c.new-links.ensures) (phase_stamped c.args.head.now c.args.phase.now c.requires.phase.number 0 c.requires.phase.stamped)
-
-pub take_events-requires-clause-lanes : goal.take_events-requires-clause-lanes
-take_events-requires-clause-lanes g c κs within =
-    subst (λ (links : List (Link ControlEvent)). All (IsAtOpening plan_of taken_of (λ t. t.opening.name) links) c.in_ok-turns.turns.items) (sym c.new-links.ensures)
-    (subst (All (IsAtOpening plan_of taken_of (λ t. t.opening.name) (links_of c.args.head.now c.args.phase.now))) (sym c.in_ok-turns.ensures) (row_at_opening c.args.head.now c.args.phase.now c.args.control c.args.lanes))
+pub take_row-requires-clause-lanes : goal.take_row-requires-clause-lanes
+take_row-requires-clause-lanes g c κs within =
+    subst (All (IsAtOpening plan_of taken_of (λ t. t.opening.name) (links_of c.args.head.now c.args.phase.now))) (sym c.in_ok-turns.ensures) (row_at_opening c.args.head.now c.args.phase.now c.args.control c.args.lanes)
 
 pub from_turns-requires : goal.from_turns-requires
 from_turns-requires g c =
