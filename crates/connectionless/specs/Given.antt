@@ -102,7 +102,7 @@ refused_by true cause g = Told g.ssn (Notice cause g.calling g.called g.body)
 abbrev pub told_output : ℕ → Given → Output
 told_output ssn g = Told ssn (UnitTold g.class g.called g.calling g.body)
 
--- What comes of a user's unit: outputs, and whether it was cut into segments.
+-- What comes of a unit: outputs, and whether it was cut into segments.
 pub record Sending : Type 0 where
   pub outs : List Output
   pub is_cut : Bool

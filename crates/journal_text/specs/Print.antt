@@ -1,4 +1,4 @@
--- The print of a book. Numbers are decimal, octets lower-case hex, and an empty or absent list is a dash.
+-- The texts of a journal: a book as it is written, entry after entry. Numbers are decimal, octets lower-case hex, and an empty or absent list is a dash.
 use Rattle.std.specs.Prelude.{ℕ, ◌+◌, codes, Bool, true, false, List, [], ◌∷◌, ◌++◌, Option, Some, None}
 use Rattle.std.specs.List.{flat_map, join_with_byte}
 use Rattle.std.specs.Fmt.{decimal}
