@@ -1,2 +1,3 @@
+pub mod Print
+pub mod PrintLaw
 pub mod Report
-pub mod Shown

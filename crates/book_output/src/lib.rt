@@ -1,8 +1,8 @@
 //! What is written of a book: its print, the line of its counts, or the M3UA messages of what it sends.
 #![tactic(auto)]
 
+mod law;
 mod report;
-mod shown;
 
+pub use law::print_is_in_lines;
 pub use report::{Report, write_report};
-pub use shown::print_shows_outputs;
