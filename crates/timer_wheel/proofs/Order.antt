@@ -1,7 +1,8 @@
 -- Timers in order: what a tree's root parts, and what stays in order.
-use Rattle.std.proofs.Common.{◌≡◌, ℕ, suc, ◌+◌, ◌^◌, ◌<◌, ◌≤◌, length, length-append, List, [], ◌∷◌, ◌++◌, map, Bool, true, false, not, filter, All, ◌-◌, refl, ap, ap₂, ◌∙◌, arith, subst, cond}
-use Rattle.std.specs.Prelude.{nat_le, AllPairs}
-use Rattle.std.proofs.lemmas.List.Elements.{All-nil, All-cons, All-head, All-tail, All-weaker, All-map, filter-append}
+use Rattle.std.proofs.Common.{◌≡◌, ℕ, suc, ◌+◌, ◌^◌, ◌<◌, ◌≤◌, length, length-append, List, [], ◌∷◌, ◌++◌, map, Bool, true, false, not, filter, All, ◌-◌, refl, sym, ap, ap₂, ◌∙◌, append_assoc, arith, subst, cond}
+use Rattle.std.specs.Prelude.{nat_le, min, AllPairs}
+use Rattle.std.proofs.Math.Nat.{min-le_left, min-le_right}
+use Rattle.std.proofs.lemmas.List.Elements.{All-nil, All-cons, All-head, All-tail, All-append, All-filter, All-weaker, All-map, filter-append}
 use Rattle.std.proofs.lemmas.List.{append-nil, length-map, map-append}
 use Rattle.std.proofs.lemmas.List.Filters.{length-filter_both}
 use Rattle.std.proofs.lemmas.List.Kept.{AllPairs-cons}
@@ -168,3 +169,34 @@ root_parted due all left x right is h not_first not_later = rw is (root_parts du
 
 pub rising_at : (all left : List Alarm) (x : Alarm) (right : List Alarm) → all ≡ left ++ x ∷ right → Rises all → OrderedAt (λ a b. is_before a.due b.due ≡ true) left x right
 rising_at all left x right is h = ordered_at (λ a b. is_before a.due b.due ≡ true) left x right (rw is at h)
+
+-- a side is changed at a timer as the whole is
+pub right_again : (due : Due) (here all left : List Alarm) (x : Alarm) (right new : List Alarm) → all ≡ left ++ x ∷ right → Rises all → is_before x.due due ≡ true
+    → new ≡ before due right ++ (here ++ behind due right) → left ++ x ∷ new ≡ before due all ++ (here ++ behind due all)
+right_again due here all left x right new is h first changed =
+    let parted = right_parted due all left x right is h first in
+    ap (λ l. left ++ x ∷ l) changed ∙ sym (append_assoc left (x ∷ before due right) (here ++ behind due right))
+    ∙ ap₂ (λ f b. f ++ (here ++ b)) (sym parted.front_is) (sym parted.back_is)
+
+pub left_again : (due : Due) (here all left : List Alarm) (x : Alarm) (right new : List Alarm) → all ≡ left ++ x ∷ right → Rises all → is_before due x.due ≡ true
+    → new ≡ before due left ++ (here ++ behind due left) → new ++ x ∷ right ≡ before due all ++ (here ++ behind due all)
+left_again due here all left x right new is h later changed =
+    let parted = left_parted due all left x right is h later in
+    ap (λ l. l ++ x ∷ right) changed ∙ append_assoc (before due left) (here ++ behind due left) (x ∷ right)
+    ∙ ap (λ l. before due left ++ l) (append_assoc here (behind due left) (x ∷ right))
+    ∙ ap₂ (λ f b. f ++ (here ++ b)) (sym parted.front_is) (sym parted.back_is)
+
+-- what holds of all and of what is put in their midst holds of what comes of it
+pub all_again : (P : Alarm → Type 0) (due : Due) (here all : List Alarm) → All P here → All P all → All P (before due all ++ (here ++ behind due all))
+all_again P due here all new h =
+    All-append P (before due all) (here ++ behind due all) (All-filter (λ a. is_before a.due due) P all h)
+    (All-append P here (behind due all) new (All-filter (λ a. is_before due a.due) P all h))
+
+-- none fires before the soonest that was, or that came
+pub soonest_again : (due : Due) (here all new : List Alarm) (soonest came : ℕ) → All (λ a. came ≤ a.tick) here → All (λ a. soonest ≤ a.tick) all
+    → new ≡ before due all ++ (here ++ behind due all) → All (λ a. min soonest came ≤ a.tick) new
+soonest_again due here all new soonest came later h is =
+    subst (All (λ a. min soonest came ≤ a.tick)) (sym is)
+    (all_again (λ a. min soonest came ≤ a.tick) due here all
+    (All-weaker (λ (a : Alarm). came ≤ a.tick) (λ a. min soonest came ≤ a.tick) (λ a k. omega (arith, k, min-le_right soonest came)) here later)
+    (All-weaker (λ (a : Alarm). soonest ≤ a.tick) (λ a. min soonest came ≤ a.tick) (λ a k. omega (arith, k, min-le_left soonest came)) all h))

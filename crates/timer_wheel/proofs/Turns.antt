@@ -1,7 +1,7 @@
 -- What is seen of the timers after each call.
 use Rattle.std.proofs.Common.{◌≡◌, ℕ, ◌+◌, ◌-◌, ◌<◌, ◌≤◌, List, [], ◌∷◌, ◌++◌, length, length-append, get_or, map, Bool, true, false, not, cond, filter, All, refl, sym, ap, ap₂, ◌∙◌, arith}
 use Rattle.std.specs.Prelude.{◌==◌, ◌&&◌, nat_le, AllPairs}
-use Rattle.std.proofs.lemmas.List.Elements.{All-cons, All-head, All-tail, All-append, All-filter, All-weaker, All-map, filter_passes}
+use Rattle.std.proofs.lemmas.List.Elements.{All-cons, All-head, All-tail, All-append, All-weaker, All-map, filter_passes}
 use Rattle.std.proofs.lemmas.List.Kept.{AllPairs-cons, AllPairs-filter}
 use Rattle.std.proofs.lemmas.List.{map-append, length-map}
 use Rattle.timer_wheel.specs.declared.due.Due.{Due}
@@ -96,15 +96,6 @@ rises_with x list h =
     pairs_append R (before x.due list) (x ∷ back) (AllPairs-filter R (λ a. is_before a.due x.due) list h)
     (AllPairs-cons R x back (filter_passes (λ b. is_before x.due b.due) list) (AllPairs-filter R (λ a. is_before x.due a.due) list h))
     (λ k d below. All-cons (R (get_or (before x.due list) k d)) x back (filter_passes (λ a. is_before a.due x.due) list k d below) (between x.due list k d below))
-
-pub later_without : (P : Alarm → Type 0) (due : Due) (list : List Alarm) → All P list → All P (before due list ++ behind due list)
-later_without P due list h =
-    All-append P (before due list) (behind due list) (All-filter (λ a. is_before a.due due) P list h) (All-filter (λ a. is_before due a.due) P list h)
-
-pub later_with : (P : Alarm → Type 0) (x : Alarm) (list : List Alarm) → P x → All P list → All P (before x.due list ++ x ∷ behind x.due list)
-later_with P x list here h =
-    All-append P (before x.due list) (x ∷ behind x.due list) (All-filter (λ a. is_before a.due x.due) P list h)
-    (All-cons P x (behind x.due list) here (All-filter (λ a. is_before x.due a.due) P list h))
 
 -- one tick is left of what fires at the next
 one_left : (now at : ℕ) → now < at → (at - now == 1) ≡ nat_le at (now + 1)

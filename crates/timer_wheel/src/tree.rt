@@ -1,6 +1,6 @@
 //! The running timers in a tree, from left to right by rising connection and timer. Each node has a rank that is scattered over all
 //! numbers, and none below it a higher one, so that the depth is about a logarithm of the timers, in whatever order they are started.
-ghost use Rattle.std.specs.Prelude.{◌≡◌, ◌+◌, ◌<◌, ◌≤◌, ◌∷◌, ◌++◌, ◌^◌, [], All, filter, length, vec_len, map};
+ghost use Rattle.std.specs.Prelude.{◌≡◌, ◌+◌, ◌<◌, ◌≤◌, ◌∷◌, ◌++◌, ◌^◌, [], All, filter, length, min, vec_len, map};
 ghost use Rattle.std.specs.Vec.{vec_capacity};
 ghost use Rattle.timer_wheel.specs.Order.{is_before};
 ghost use Rattle.timer_wheel.specs.Inner.Tree.{alarms, before, behind, due_by, not_fires, recounted, IsSound, Rises};
@@ -68,6 +68,7 @@ impl Tree {
 fn open(mut node: Box<Node>) -> (Tree, Box<Node>, Tree)
     ensures left { result.0 ≡ node.value.left }
     ensures alarm { result.1.value.alarm ≡ node.value.alarm }
+    ensures soonest { result.1.value.soonest ≡ node.value.soonest }
     ensures right { result.2 ≡ node.value.right }
 {
     let left = node.left.take();
@@ -88,8 +89,26 @@ fn fork(mut node: Box<Node>, left: Tree, right: Tree) -> Tree
     Tree::Fork(node)
 }
 
+/// A node with these sides, one of which was changed: a timer came that fires at one tick, and one went that fired at another.
+fn fork_again(mut node: Box<Node>, left: Tree, right: Tree, came: u64, went: u64) -> Tree
+    requires left { IsSound left }
+    requires right { IsSound right }
+    requires soonest { let alarm = node.value.alarm
+        in All (λ a. min node.value.soonest came ≤ a.tick) (alarms left ++ alarm ∷ alarms right) }
+    ensures alarms { alarms result ≡ alarms left ++ node.value.alarm ∷ alarms right }
+    ensures sound { IsSound result }
+{
+    if went <= node.soonest {
+        return fork(node, left, right);
+    }
+    node.soonest = node.soonest.min(came);
+    node.left = left;
+    node.right = right;
+    Tree::Fork(node)
+}
+
 /// One tree of two, of which the first comes before the second.
-pub(crate) fn join(left: Tree, right: Tree) -> Tree
+fn join(left: Tree, right: Tree) -> Tree
     requires left { IsSound left }
     requires right { IsSound right }
     ensures alarms { alarms result ≡ alarms left ++ alarms right }
@@ -115,7 +134,7 @@ pub(crate) fn join(left: Tree, right: Tree) -> Tree
 }
 
 /// Takes the tree apart into the timers before this one and those behind it. The node of this one becomes spare.
-pub(crate) fn part(tree: Tree, due: Due, spare: &mut Vec<Box<Node>>) -> (Tree, Tree)
+fn part(tree: Tree, due: Due, spare: &mut Vec<Box<Node>>) -> (Tree, Tree)
     requires sound { IsSound tree }
     requires rising { Rises (alarms tree) }
     requires room { vec_len spare.old + length (alarms tree) ≤ vec_capacity spare.old }
@@ -139,6 +158,88 @@ pub(crate) fn part(tree: Tree, due: Due, spare: &mut Vec<Box<Node>>) -> (Tree, T
             } else {
                 spare.push_reserved(node);
                 (left, right)
+            }
+        }
+    }
+}
+
+/// A tree of this timer at the top, in the place of an earlier start, and of the others below it.
+fn crown(tree: Tree, alarm: Alarm, rank: u32, spare: &mut Vec<Box<Node>>) -> Tree
+    requires sound { IsSound tree }
+    requires rising { Rises (alarms tree) }
+    requires nodes { vec_len spare.old + length (alarms tree) ≤ vec_capacity spare.old }
+    requires room { let others = length (before alarm.due (alarms tree)) + length (behind alarm.due (alarms tree))
+        in others < vec_len spare.old + length (alarms tree) }
+    ensures alarms { alarms result ≡ before alarm.due (alarms tree) ++ alarm ∷ behind alarm.due (alarms tree) }
+    ensures sound { IsSound result }
+    ensures nodes { vec_len spare.new + length (alarms result) ≡ vec_len spare.old + length (alarms tree) }
+    ensures capacity { vec_capacity spare.new ≡ vec_capacity spare.old }
+{
+    let (before, behind) = part(tree, alarm.due, spare);
+    let mut node = taken(spare);
+    node.alarm = alarm;
+    node.rank = rank;
+    fork(node, before, behind)
+}
+
+/// Starts a timer in the place of an earlier start, and says when that would have fired. Nodes of a rank as high stay as they stand, and
+/// only what is below them is taken apart. The same timer has the same rank, so that none but its own node takes its place.
+pub(crate) fn with(tree: Tree, alarm: Alarm, rank: u32, spare: &mut Vec<Box<Node>>) -> (Tree, u64)
+    requires sound { IsSound tree }
+    requires rising { Rises (alarms tree) }
+    requires nodes { vec_len spare.old + length (alarms tree) ≤ vec_capacity spare.old }
+    requires room { let others = length (before alarm.due (alarms tree)) + length (behind alarm.due (alarms tree))
+        in others < vec_len spare.old + length (alarms tree) }
+    ensures alarms { alarms result.0 ≡ before alarm.due (alarms tree) ++ alarm ∷ behind alarm.due (alarms tree) }
+    ensures sound { IsSound result.0 }
+    ensures nodes { vec_len spare.new + length (alarms result.0) ≡ vec_len spare.old + length (alarms tree) }
+    ensures capacity { vec_capacity spare.new ≡ vec_capacity spare.old }
+{
+    match tree {
+        Tree::Leaf => (crown(Tree::Leaf, alarm, rank, spare), u64::MAX),
+        Tree::Fork(node) => {
+            if node.rank < rank {
+                return (crown(Tree::Fork(node), alarm, rank, spare), u64::MAX);
+            }
+            let (left, mut node, right) = open(node);
+            if node.alarm.due.is_before(alarm.due) {
+                let (right, went) = with(right, alarm, rank, spare);
+                (fork_again(node, left, right, alarm.tick, went), went)
+            } else if alarm.due.is_before(node.alarm.due) {
+                let (left, went) = with(left, alarm, rank, spare);
+                (fork_again(node, left, right, alarm.tick, went), went)
+            } else {
+                let went = mem::replace(&mut node.alarm, alarm).tick;
+                (fork(node, left, right), went)
+            }
+        }
+    }
+}
+
+/// Takes a timer out, whose node becomes spare, and says when it would have fired.
+pub(crate) fn without(tree: Tree, due: Due, spare: &mut Vec<Box<Node>>) -> (Tree, u64)
+    requires sound { IsSound tree }
+    requires rising { Rises (alarms tree) }
+    requires room { vec_len spare.old + length (alarms tree) ≤ vec_capacity spare.old }
+    ensures alarms { alarms result.0 ≡ before due (alarms tree) ++ behind due (alarms tree) }
+    ensures sound { IsSound result.0 }
+    ensures nodes { vec_len spare.new + length (alarms result.0) ≡ vec_len spare.old + length (alarms tree) }
+    ensures capacity { vec_capacity spare.new ≡ vec_capacity spare.old }
+{
+    match tree {
+        Tree::Leaf => (Tree::Leaf, u64::MAX),
+        Tree::Fork(node) => {
+            let (left, node, right) = open(node);
+            if node.alarm.due.is_before(due) {
+                let (right, went) = without(right, due, spare);
+                (fork_again(node, left, right, u64::MAX, went), went)
+            } else if due.is_before(node.alarm.due) {
+                let (left, went) = without(left, due, spare);
+                (fork_again(node, left, right, u64::MAX, went), went)
+            } else {
+                let went = node.alarm.tick;
+                spare.push_reserved(node);
+                (join(left, right), went)
             }
         }
     }
@@ -230,19 +331,18 @@ pub(crate) fn recount(tree: &mut Tree, ticks: u64)
 }
 
 /// A number that is the same for the same timer, and scattered over all numbers.
-fn rank(due: Due) -> u32 {
+pub(crate) fn rank(due: Due) -> u32 {
     let mixed = due.conn.wrapping_mul(0x9e37_79b9) ^ u32::from(due.timer).wrapping_mul(0x85eb_ca6b);
     let mixed = (mixed ^ mixed >> 16).wrapping_mul(0x7feb_352d);
     let mixed = (mixed ^ mixed >> 15).wrapping_mul(0x846c_a68b);
     mixed ^ mixed >> 16
 }
 
-/// A node of this timer alone.
-pub(crate) fn planted(mut node: Box<Node>, alarm: Alarm) -> Tree
-    ensures alarms { alarms result ≡ alarm ∷ [] }
-    ensures sound { IsSound result }
+/// Takes a node from where there is one.
+fn taken(spare: &mut Vec<Box<Node>>) -> Box<Node>
+    requires some { 0 < vec_len spare.old }
+    ensures len { vec_len spare.new + 1 ≡ vec_len spare.old }
+    ensures capacity { vec_capacity spare.new ≡ vec_capacity spare.old }
 {
-    node.alarm = alarm;
-    node.rank = rank(alarm.due);
-    fork(node, Tree::Leaf, Tree::Leaf)
+    spare.pop().unwrap()
 }

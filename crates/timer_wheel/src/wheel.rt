@@ -1,7 +1,8 @@
-//! The wheel of timers: a treap, whose ranks are scattered numbers of the timers. Nodes are made beforehand, and `arm` takes one. Its cost and that
-//! of `cancel` are logarithmic in the timers that run only as chance has it: no clause speaks of the tree's depth, and timers whose ranks fall badly make
-//! it deeper. So is that of `due` and `advance` for each timer that is due; where none is, it is constant: where each timer fires is held as a tick that is
-//! counted from one beginning, so that a tick changes no timer that stays. Once in 2^63 ticks the count begins anew.
+//! The wheel of timers: a treap, whose ranks are scattered numbers of the timers. Nodes are made beforehand, and `arm` takes one. It goes down to the
+//! place of the timer's rank and changes nothing beside its way; so does `cancel`. The cost of both is logarithmic in the timers that run only as chance
+//! has it: no clause speaks of the tree's depth, and timers whose ranks fall badly make it deeper. So is that of `due` and `advance` for each timer that is
+//! due; where none is, it is constant: where each timer fires is held as a tick that is counted from one beginning, so that a tick changes no timer that
+//! stays. Once in 2^63 ticks the count begins anew.
 ghost use Rattle.std.specs.Prelude.{◌≡◌, ◌<◌, ◌≤◌, ◌+◌, ◌^◌, [], length, max, vec_len, OnOk, OnErr};
 ghost use Rattle.std.specs.Vec.{vec_capacity};
 ghost use Rattle.timer_wheel.specs.Timers.{timer_of, others, with_timer, due_now, after_tick, IsRising, AreRunning};
@@ -9,7 +10,7 @@ ghost use Rattle.timer_wheel.specs.Inner.Tree.{alarms};
 ghost use Rattle.timer_wheel.specs.Inner.Turning.{armed_at, IsTurned};
 
 use crate::due::{Alarm, Due, DueList};
-use crate::tree::{Node, Tree, count_due, join, part, planted, recount, without_due};
+use crate::tree::{Node, Tree, count_due, rank, recount, with, without, without_due};
 use relay_base::Memory;
 use std::alloc::Global;
 use std::marker::Model;
@@ -110,8 +111,8 @@ impl Wheel {
     pub fn cancel(&mut self, conn: u32, timer: u8)
         ensures { self.new ≡ record self.old { armed = others (timer_of conn timer) self.old.armed } }
     {
-        let (before, behind) = part(self.tree.take(), Due { conn, timer }, &mut self.spare);
-        self.tree = join(before, behind);
+        let (tree, _) = without(self.tree.take(), Due { conn, timer }, &mut self.spare);
+        self.tree = tree;
     }
 
     /// Starts a timer for so many ticks, in the place of an earlier start. There is room for it beside the others.
@@ -123,9 +124,9 @@ impl Wheel {
     {
         let due = Due { conn, timer };
         let tick = self.passed + u64::from(ticks);
-        let (before, behind) = part(self.tree.take(), due, &mut self.spare);
-        let timer = planted(taken(&mut self.spare), Alarm { due, tick });
-        self.tree = join(join(before, timer), behind);
+        let alarm = Alarm { due, tick };
+        let (tree, _) = with(self.tree.take(), alarm, rank(due), &mut self.spare);
+        self.tree = tree;
     }
 
     /// How many timers the next tick makes due.
@@ -181,13 +182,4 @@ fn counted_anew(tree: &mut Tree, passed: u64) -> u64
     }
     recount(tree, passed);
     0
-}
-
-/// Takes a node from where there is one.
-fn taken(spare: &mut Vec<Box<Node>>) -> Box<Node>
-    requires some { 0 < vec_len spare.old }
-    ensures len { vec_len spare.new + 1 ≡ vec_len spare.old }
-    ensures capacity { vec_capacity spare.new ≡ vec_capacity spare.old }
-{
-    spare.pop().unwrap()
 }
