@@ -1,0 +1,9 @@
+pub mod Quiet
+pub mod Exchanging
+pub mod Taking
+pub mod Passing
+pub mod Accepting
+pub mod Carrying
+pub mod Leaving
+pub mod Placing
+pub mod Early

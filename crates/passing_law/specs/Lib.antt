@@ -1,0 +1,5 @@
+pub mod PassingLaw
+pub mod TakingLaw
+pub mod LeavingLaw
+pub mod PlaceLaw
+pub mod EarlyLaw

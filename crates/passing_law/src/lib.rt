@@ -1,0 +1,7 @@
+//! The law of what passes through a connection (Q.714, 3.5), as the contracts of functions without a body: what comes in at an end by one event and
+//! what leaves by it, when a section takes a unit, where it sends, and that nothing comes in before a connection is set up.
+#![tactic(auto)]
+
+mod laws;
+
+pub use laws::{early_is_empty, places_stay, units_are_taken, units_leave, units_pass};
