@@ -8,7 +8,7 @@ use Rattle.relay_base.specs.declared.words.Request.TheVariants as request
 use Rattle.relay_base.specs.declared.words.Request.{Request}
 use Rattle.relay_base.specs.declared.words.Stamp.{Stamp}
 use Rattle.relay_base.specs.declared.words.Reason.TheVariants as reason
-use Rattle.plant_core.specs.declared.change.Change.{Change}
+use Rattle.plant_core.specs.declared.change.Group.{Group}
 use Rattle.plant_core.specs.declared.entry.ControlEvent.{ControlEvent}
 use Rattle.plant_core.specs.declared.entry.ControlEvent.TheVariants.{Plain, Change as Changed}
 use Rattle.plant_core.specs.declared.terms.Replicate.{Replicate}
@@ -29,9 +29,9 @@ use Rattle.book_law.specs.Sequential.{is_of_management, IsSequentialPhase, IsSeq
 use Rattle.book_law.proofs.Managed.{has_management, AreOfControl}
 use Rattle.book_law.proofs.Booleans.{absurd_bool, either}
 
--- whether an event may publish: a change of the routing data, and a message of management
+-- whether an event may publish: a group of changes of the routing data, and a message of management
 abbrev pub may_publish : Head → ControlEvent → Bool
-may_publish head (Changed change) = true
+may_publish head (Changed group) = true
 may_publish head (Plain (Arrived opc sls bytes)) = in_control (place_of_octets head opc sls bytes)
 may_publish head (Plain (Requested ssn r)) = false
 may_publish head (Plain Tick) = false
@@ -57,14 +57,14 @@ unfolding place_of place_of_event
 off_link head (Plain (Arrived opc sls bytes)) h = absurd (absurd_bool h)
 off_link head (Plain (Requested ssn r)) h = absurd (absurd_bool h)
 off_link head (Plain Tick) h = refl
-off_link head (Changed change) h = refl
+off_link head (Changed group) h = refl
 
 -- of what comes on a link, messages of management alone may publish
 on_link : (head : Head) (e : ControlEvent) → comes_on_link e ≡ true → is_of_management head e ≡ false → may_publish head e ≡ false
 on_link head (Plain (Arrived opc sls bytes)) h m = m
 on_link head (Plain (Requested ssn r)) h m = refl
 on_link head (Plain Tick) h m = refl
-on_link head (Changed change) h m = sym h
+on_link head (Changed group) h m = sym h
 
 none_of : {A : Type 0} (p : A → Bool) (xs : List A) → list_any p xs ≡ false → AllByRecursion (λ x. p x ≡ false) xs
 none_of p [] h = tt
@@ -119,7 +119,7 @@ quiet_or_control head [] l s (suc n) = inl (λ k. tt)
 quiet_or_control head (lists ∷ more) l s (suc zero) = either_way head lists s.0 l.0
 quiet_or_control head (lists ∷ more) l s (suc (suc n)) = quiet_or_control head more l.1 s.1 (suc n)
 
--- ---- what no event of the control lane publishes but a change and a message
+-- ---- what no event of the control lane publishes but a group of changes and a message
 
 abbrev Silent : Effect → Type 0
 Silent effect = is_some (change_of effect.act) ≡ false
@@ -135,11 +135,11 @@ request_silent head c ssn _ = refl
 
 pub publishes_none : (head : Head) (h : ControlHead) (c : Control) (e : ControlEvent) → may_publish head e ≡ false → in_control (place_of head e) ≡ true → is_some (managed h c e).published ≡ false
 unfolding managed effect_of place_of place_of_event
-publishes_none head h c (Changed change) m p = absurd (absurd_bool m)
+publishes_none head h c (Changed group) m p = absurd (absurd_bool m)
 publishes_none head h c (Plain (Arrived opc sls bytes)) m p = absurd (absurd_bool (sym p ∙ m))
 publishes_none head h c (Plain (Requested ssn r)) m p = request_silent h c ssn r
 publishes_none head h c (Plain Tick) m p = refl
 
-pub edition_none : (edition : ℕ) (change : Option Change) → is_some change ≡ false → is_some (edition_after edition change) ≡ false
+pub edition_none : (edition : ℕ) (group : Option Group) → is_some group ≡ false → is_some (edition_after edition group) ≡ false
 edition_none edition None h = refl
-edition_none edition (Some change) h = absurd (absurd_bool h)
+edition_none edition (Some group) h = absurd (absurd_bool h)

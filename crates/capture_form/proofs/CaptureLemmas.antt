@@ -1,5 +1,5 @@
 -- What holds of a capture that was read: its events stand under the phases and links of their stamps, and they are not too many.
-use Rattle.std.proofs.Common.{◌≡◌, ℕ, zero, suc, ◌+◌, ◌≤◌, ◌<◌, ◌==◌, nat_lt, nat_le, codes, Bool, true, false, cond, List, [], ◌∷◌, ◌++◌, length, map, get_or, replicate, Result, Ok, Err, IfOk, refl, sym, ap, ◌∙◌, subst, arith, length-append, append-nil}
+use Rattle.std.proofs.Common.{◌≡◌, ℕ, zero, suc, ◌+◌, ◌≤◌, ◌<◌, ◌==◌, nat_lt, nat_le, codes, Bool, true, false, cond, List, [], ◌∷◌, ◌++◌, length, map, Option, Some, None, get_or, replicate, Result, Ok, Err, IfOk, refl, sym, ap, ◌∙◌, subst, arith, length-append, append-nil}
 use Rattle.std.proofs.lemmas.Bool.Decides.{nat_tests}
 use Rattle.std.proofs.lemmas.Grind.{flat_map-append}
 use Rattle.std.proofs.Math.ListN.{set}
@@ -11,16 +11,17 @@ use Rattle.node_head.specs.Lines.{lines, halves}
 use Rattle.node_head.specs.Head.{begun}
 use Rattle.node_head.specs.declared.head.Head.{Head}
 use Rattle.capture_form.specs.Text.{words}
-use Rattle.capture_form.specs.Line.{Linked, event_of}
+use Rattle.capture_form.specs.Line.{Linked, meaning_of}
+use Rattle.capture_form.specs.Groups.{may_stand, placed, event_in}
+use Rattle.capture_form.specs.declared.meaning.Meaning.{Meaning}
 use Rattle.capture_form.specs.declared.fault.LineKind.{LineKind}
-use Rattle.capture_form.specs.declared.fault.LineKind.TheVariants as kind
 use Rattle.capture_form.specs.declared.fault.CaptureFault.{CaptureFault}
 use Rattle.capture_form.specs.declared.fault.CaptureFault.TheVariants as refused
 use Rattle.capture_form.specs.declared.fault.Limit.TheVariants as limit
 use Rattle.capture_form.specs.declared.reading.Reading.{Reading}
 use Rattle.capture_form.specs.declared.capture.Capture.{Capture}
-use Rattle.capture_form.specs.Capture.{Reads, is_skipped, begins, Line, lines_from, barriers, with_above, fault_at, event_at, phases_of, unless_faulty, at_head, capture_after, capture_from, capture_within}
-use Rattle.capture_form.specs.Inner.Reader.{at_line, phase_ended, event_added, barrier_taken, tick_counted, line_counted, event_put, event_taken, words_taken, line_taken, lines_taken, reading_from, phases_read, capture_read}
+use Rattle.capture_form.specs.Capture.{Reads, is_skipped, begins, Line, lines_from, barriers, event_lines, barrier_form, with_above, open_group, fault_at, open_fault, event_at, phases_of, unless_faulty, at_head, capture_after, capture_from, capture_within}
+use Rattle.capture_form.specs.Inner.Reader.{at_line, phase_ended, pushed, with_event, meaning_taken, line_added, barrier_taken, tick_counted, line_counted, event_put, event_taken, words_taken, line_taken, lines_taken, reading_from, closed, phases_read, capture_read}
 use Rattle.capture_form.specs.declared.steps.TheConstants.{MOST_LINES, MOST_TICK_LINES, MOST_BARRIERS}
 use Rattle.capture_form.specs.Events.{Stamped, phase_lists, phase_events, all_events, AreOfPhases, IsStamped}
 use Rattle.capture_form.proofs.PhaseLemmas.{phases-stamped}
@@ -66,13 +67,16 @@ fine-ended head r h =
     fine-same r (phase_ended head r)
     (ap (λ l. all_events (r.phases ++ r.current ∷ []) ++ l) (lists-empty (head.links + 1)) ∙ append-nil (all_events (r.phases ++ r.current ∷ [])) ∙ ended-events r) refl h
 
-fine-added : (r : Reading) (e : Linked) → r.events < MOST_LINES → Fine r → Fine (event_added r e)
-fine-added r e less h =
-    let pair : Stamp × ControlEvent = (record { phase = r.phase; link = e.0; line = r.line }, e.1) in
-    let now : List Stamped = set r.current e.0 (get_or r.current e.0 [] ++ pair ∷ []) in
-    let grown : length (phase_events now) ≤ length (phase_events r.current) + 1 = lists-length r.current e.0 pair in
+-- a line brings at most one event
+grown : (r : Reading) (e : Option Linked) → length (phase_events (with_event r e)) ≤ length (phase_events r.current) + 1
+grown r None = omega arith
+grown r (Some e) = lists-length r.current e.0 (record { phase = r.phase; link = e.0; line = r.line }, e.1)
+
+fine-taken : (r : Reading) (meaning : Meaning) → r.events < MOST_LINES → Fine r → Fine (line_added (meaning_taken r meaning))
+fine-taken r meaning less h =
+    let now : List Stamped = with_event r (event_in r.group meaning) in
     record {
-      few = omega (arith, h.few, grown, length-append (all_events r.phases) (phase_events now), length-append (all_events r.phases) (phase_events r.current));
+      few = omega (arith, h.few, grown r (event_in r.group meaning), length-append (all_events r.phases) (phase_events now), length-append (all_events r.phases) (phase_events r.current));
       most = omega (arith, less);
     }
 
@@ -96,16 +100,16 @@ line-counted r ws h =
     (λ e. either Counted (begins (codes "t") ws) (tick_counted r) (Ok r) (tick-counted r (record { fine = h; less = is-less r.events e })) (record { fine = h; less = is-less r.events e }))
 
 event-put : (head : Head) (ws : List (List ℕ)) (r : Reading) → Counted r → IfOk (event_put head ws r) Fine
-event-put head ws r h = after_any Fine (at_line r.line (event_of head ws)) (λ e. Ok (event_added r e)) (λ e. fine-added r e h.less h.fine)
+event-put head ws r h = after_any Fine (at_line r.line (placed (may_stand r.group ws) (meaning_of head ws))) (λ meaning. Ok (line_added (meaning_taken r meaning)))
+    (λ meaning. fine-taken r meaning h.less h.fine)
 
 event-taken : (head : Head) (r : Reading) (ws : List (List ℕ)) → Fine r → IfOk (event_taken head r ws) Fine
 event-taken head r ws h = bound Counted Fine (line_counted r ws) (event_put head ws) (line-counted r ws h) (λ s. event-put head ws s)
 
 barrier-taken : (head : Head) (r : Reading) (ws : List (List ℕ)) → Fine r → IfOk (barrier_taken head r ws) Fine
 barrier-taken head r ws h =
-    let words_fault : Result Reading CaptureFault = Err (refused.Line record { line = r.line; kind = kind.Words }) in
-    either Fine (nat_lt MOST_BARRIERS r.phase) (Err (refused.TooLong limit.Barriers)) (cond (length ws == 1) (Ok (phase_ended head r)) words_fault) tt
-    (either Fine (length ws == 1) (Ok (phase_ended head r)) words_fault (fine-ended head r h) tt)
+    either Fine (nat_lt MOST_BARRIERS r.phase) (Err (refused.TooLong limit.Barriers)) _ tt
+    (after_any Fine (at_line r.line (placed (may_stand r.group ws) (barrier_form ws))) (λ _. Ok (phase_ended head r)) (λ _. fine-ended head r h))
 
 line-taken : (head : Head) (r : Reading) (line : List ℕ) → Fine r → IfOk (line_taken head r line) Fine
 unfolding line_taken
@@ -141,8 +145,9 @@ few-choice r false h = few-events (r.phases ++ r.current ∷ []) r (ended-events
 
 read-few : (head : Head) (number : ℕ) (ls : List (List ℕ)) → IfOk (capture_read head number ls) (λ c. AreFew c.phases)
 read-few head number ls =
-    bound Fine (λ (c : Capture). AreFew c.phases) (lines_taken head (reading_from head number) ls) (λ r. Ok (record { head = head; phases = phases_read r }))
-    (lines-taken head ls (reading_from head number) (fine-from head number)) (λ r h. few-choice r (r.events == 0) h)
+    bound Fine (λ (c : Capture). AreFew c.phases) (lines_taken head (reading_from head number) ls) _
+    (lines-taken head ls (reading_from head number) (fine-from head number))
+    (λ r h. after_any (λ (c : Capture). AreFew c.phases) (closed r.group) (λ _. Ok (record { head = head; phases = phases_read r })) (λ _. few-choice r (r.events == 0) h))
 
 -- ---- stamps
 
@@ -169,8 +174,8 @@ unfolding capture_after
 stamped-after head number ls =
     let stated = lines_from number ls in
     let events = filter_map (event_at head) (with_above stated) in
-    stamped-unless (filter_map (fault_at head) (with_above stated)) (record { head = head; phases = phases_of head.links stated events })
-    (stamped-choice head.links (barriers stated + 1) events (length events == 0))
+    stamped-unless (filter_map (fault_at head) (with_above stated) ++ open_fault (open_group head stated)) (record { head = head; phases = phases_of head.links stated events })
+    (stamped-choice head.links (barriers stated + 1) events (event_lines stated == 0))
 
 good-after : (parts : Head × ℕ × List (List ℕ)) → IfOk (capture_from parts) IsGood
 good-after parts =

@@ -1,7 +1,6 @@
 -- Each event of a capture that was read stands under the link that its line states, or under link 0 where the line states none.
 use Rattle.std.proofs.Common.{◌≡◌, ◌∙◌, ℕ, zero, suc, ◌+◌, ◌≤◌, ◌==◌, ◌&&◌, nat_lt, nat_le, codes, Bool, true, false, cond, List, [], ◌∷◌, ◌++◌, length, map, Option, Some, None, option_map, Result, Ok, Err, IfOk, refl, sym, subst, arith, leb-true, lt-ltb}
 use Rattle.std.specs.List.{AllByRecursion, filter, filter_map, cons_option, range_with_len}
-use Rattle.std.specs.Result.{result_ok}
 use Rattle.relay_base.specs.declared.words.Stamp.{Stamp}
 use Rattle.relay_base.specs.Decimal.{number_of}
 use Rattle.plant_core.specs.declared.entry.ControlEvent.{ControlEvent}
@@ -12,11 +11,15 @@ use Rattle.relay_base.proofs.GivingLemmas.{bound}
 use Rattle.node_head.proofs.Given.{after_any, either, by_test}
 use Rattle.capture_form.specs.Text.{same}
 use Rattle.capture_form.specs.Words.{below, link_in, link_of, user_of, octets_of}
-use Rattle.capture_form.specs.Changes.{change_of}
+use Rattle.capture_form.specs.Changes.{row_form, change_of}
+use Rattle.capture_form.specs.Groups.{event_in}
 use Rattle.capture_form.specs.Requests.{form_of, has_form, request_of}
-use Rattle.capture_form.specs.Line.{Linked, message_form, asked_form, request_form, tick_form, change_form, event_of}
+use Rattle.capture_form.specs.Line.{Linked, message_form, asked_form, request_form, tick_form, change_form, event_of, bound_form, edit_form, meaning_of}
 use Rattle.capture_form.specs.Events.{Stamped, is_at, phase_lists, phase_events}
 use Rattle.capture_form.specs.Links.{comes_on_link, AreOnLinks, AreLinked}
+use Rattle.capture_form.specs.declared.meaning.Meaning.{Meaning}
+use Rattle.capture_form.specs.declared.meaning.Meaning.TheVariants.{Event, Edit, Begin, Commit}
+use Rattle.capture_form.specs.declared.changes.OpenGroup.{OpenGroup}
 use Rattle.capture_form.specs.declared.requests.RequestForm.{RequestForm}
 use Rattle.capture_form.specs.declared.fault.LineKind.{LineKind}
 use Rattle.capture_form.specs.declared.fault.LineKind.TheVariants.{Words, Number}
@@ -25,7 +28,7 @@ use Rattle.capture_form.specs.declared.fault.CaptureFault.TheVariants as refused
 use Rattle.capture_form.specs.declared.fault.Limit.TheVariants as limit
 use Rattle.relay_base.specs.declared.limits.TheConstants.{MOST_BYTES, LINK_SELECTIONS, POINT_CODES}
 use Rattle.capture_form.specs.declared.capture.Capture.{Capture}
-use Rattle.capture_form.specs.Capture.{Reads, Line, lines_from, is_barrier, barriers, with_above, fault_at, event_at, phases_of, unless_faulty, at_head, capture_after, capture_from, capture_within, capture_of}
+use Rattle.capture_form.specs.Capture.{Reads, Line, lines_from, is_barrier, barriers, event_lines, with_above, open_group, fault_at, open_fault, brought, event_at, phases_of, unless_faulty, at_head, capture_after, capture_from, capture_within, capture_of}
 use Rattle.capture_form.proofs.PhaseLemmas.{number-is, both-left, both-right}
 
 -- ---- a line
@@ -85,6 +88,27 @@ event-agrees head (first ∷ more) =
     (either LinkAgrees (same first (codes "u")) (request_form head more) _ (request-agrees head more)
     (either LinkAgrees (same first (codes "t")) (tick_form more) (change_form head first more) (tick-agrees more) (change-agrees head first more)))
 
+-- an edit comes on no link, and the event of another line on its own
+abbrev MeaningAgrees : Meaning → Type 0
+MeaningAgrees (Event link event) = Agrees link event
+MeaningAgrees meaning = Unit {0}
+
+bound-agrees : (word : List ℕ) → IfOk (bound_form word) MeaningAgrees
+bound-agrees word =
+    either MeaningAgrees (same word (codes "begin")) (Ok Begin) _ tt
+    (either MeaningAgrees (same word (codes "commit")) (Ok Commit) (Err Words) tt tt)
+
+edit-agrees : (own : ℕ) (ws : List (List ℕ)) → IfOk (edit_form own ws) MeaningAgrees
+edit-agrees own [] = tt
+edit-agrees own (word ∷ []) = bound-agrees word
+edit-agrees own (word ∷ second ∷ more) = after_any MeaningAgrees (row_form own (word ∷ second ∷ more)) _ (λ change. tt)
+
+meaning-agrees : (head : Head) (ws : List (List ℕ)) → IfOk (meaning_of head ws) MeaningAgrees
+meaning-agrees head [] = tt
+meaning-agrees head (first ∷ more) =
+    either MeaningAgrees (same first (codes "e")) (edit_form head.point more) _ (edit-agrees head.point more)
+    (bound LinkAgrees MeaningAgrees (event_of head (first ∷ more)) _ (event-agrees head (first ∷ more)) (λ e h. h))
+
 -- ---- the events of all lines
 
 abbrev StampAgrees : Stamp × ControlEvent → Type 0
@@ -94,10 +118,19 @@ abbrev IfThere : Option (Stamp × ControlEvent) → Type 0
 IfThere None = Unit {0}
 IfThere (Some e) = StampAgrees e
 
-of-line : (number phase : ℕ) (r : Result Linked LineKind) → IfOk r LinkAgrees
-    → IfThere (option_map (λ e. (record { phase = phase; link = e.0; line = number }, e.1)) (result_ok r))
-of-line number phase (Ok e) h = h
-of-line number phase (Err kind) h = tt
+of-meaning : (number phase : ℕ) (before : Option OpenGroup) (meaning : Meaning) → MeaningAgrees meaning
+    → IfThere (option_map (λ e. (record { phase = phase; link = e.0; line = number }, e.1)) (event_in before meaning))
+of-meaning number phase before (Event link event) h = h
+of-meaning number phase None (Edit change) h = refl
+of-meaning number phase (Some group) (Edit change) h = tt
+of-meaning number phase before Begin h = tt
+of-meaning number phase None Commit h = tt
+of-meaning number phase (Some group) Commit h = refl
+
+of-line : (number phase : ℕ) (before : Option OpenGroup) (r : Result Meaning LineKind) → IfOk r MeaningAgrees
+    → IfThere (option_map (λ e. (record { phase = phase; link = e.0; line = number }, e.1)) (brought before r))
+of-line number phase before (Ok meaning) h = of-meaning number phase before meaning h
+of-line number phase before (Err kind) h = tt
 
 unless-barrier : (t : Bool) (x : Option (Stamp × ControlEvent)) → IfThere x → IfThere (cond t None x)
 unless-barrier true x h = tt
@@ -105,7 +138,7 @@ unless-barrier false x h = h
 
 event-there : (head : Head) (at : List Line × Line) → IfThere (event_at head at)
 event-there head (above, line) =
-    unless-barrier (is_barrier line) _ (of-line line.0 (barriers above + 1) (event_of head line.1) (event-agrees head line.1))
+    unless-barrier (is_barrier line) _ (of-line line.0 (barriers above + 1) (open_group head above) (meaning_of head line.1) (meaning-agrees head line.1))
 
 there-added : (x : Option (Stamp × ControlEvent)) (es : Stamped) → IfThere x → AllByRecursion StampAgrees es → AllByRecursion StampAgrees (cons_option x es)
 there-added None es h g = g
@@ -165,8 +198,8 @@ unfolding capture_after
 linked-after head number ls =
     let stated = lines_from number ls in
     let events = filter_map (event_at head) (with_above stated) in
-    linked-unless (filter_map (fault_at head) (with_above stated)) (record { head = head; phases = phases_of head.links stated events })
-    (linked-choice head.links (barriers stated + 1) events (length events == 0) (events-agree head (with_above stated)))
+    linked-unless (filter_map (fault_at head) (with_above stated) ++ open_fault (open_group head stated)) (record { head = head; phases = phases_of head.links stated events })
+    (linked-choice head.links (barriers stated + 1) events (event_lines stated == 0) (events-agree head (with_above stated)))
 
 pub linked-within : (bytes : List ℕ) → IfOk (capture_within bytes) IsLinked
 linked-within bytes = after_any IsLinked (at_head (begun (halves (lines bytes)))) capture_from (λ parts. linked-after parts.0 (parts.1 + 2) parts.2)

@@ -59,12 +59,16 @@ add_form own (gti ∷ type ∷ plan ∷ nature ∷ digits ∷ lead ∷ more) =
       Ok (AddRow row))
 add_form own _ = Err Words
 
--- del <gti> <tt> <np> <nai> <digits>
-abbrev pub del_form : List (List ℕ) → Result Change LineKind
-del_form (gti ∷ type ∷ plan ∷ nature ∷ digits ∷ []) = do
+-- the row with the selector and the prefix of these words is taken away
+abbrev pub without_row : List ℕ → List ℕ → List ℕ → List ℕ → List ℕ → Result Change LineKind
+without_row gti type plan nature digits = do
   selector ← selector_of gti type plan nature
   prefix ← prefix_of digits
   Ok (DelRow selector prefix)
+
+-- del <gti> <tt> <np> <nai> <digits>
+abbrev pub del_form : List (List ℕ) → Result Change LineKind
+del_form (gti ∷ type ∷ plan ∷ nature ∷ digits ∷ []) = without_row gti type plan nature digits
 del_form _ = Err Words
 
 -- e: a row is added, or taken away
@@ -99,10 +103,9 @@ service_form users (number ∷ word ∷ []) =
     else Err Words
 service_form users _ = Err Words
 
--- what a line changes, by its first word
+-- what a status line changes, by its first word
 abbrev pub change_of : Head → List ℕ → List (List ℕ) → Result Change LineKind
 change_of head first more =
-    if same first (codes "e") then row_form head.point more
-    else if same first (codes "p") then status_form head.point more
+    if same first (codes "p") then status_form head.point more
     else if same first (codes "s") then service_form head.users more
     else Err Words

@@ -1,6 +1,7 @@
 pub mod Capture
 pub mod Changes
 pub mod Events
+pub mod Groups
 pub mod Inner
 pub mod Line
 pub mod Links

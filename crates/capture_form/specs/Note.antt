@@ -22,6 +22,7 @@ head_word head.Range = codes "range"
 
 abbrev pub line_word : LineKind → List ℕ
 line_word line.Words = codes "words"
+line_word line.Group = codes "group"
 line_word line.Number = codes "number"
 line_word line.Hex = codes "hex"
 line_word line.Address = codes "address"

@@ -8,9 +8,10 @@ ghost use Rattle.capture_form.specs.Capture.{Reads, at_head, capture_within, cap
 ghost use Rattle.capture_form.specs.Events.{all_events, IsStamped};
 ghost use Rattle.capture_form.specs.Links.{AreLinked};
 ghost use Rattle.capture_form.specs.declared.steps.TheConstants.{MOST_LINES};
-ghost use Rattle.capture_form.specs.Inner.Reader.{Takes, HeadReads, reading_from, lines_taken, phases_read, capture_read};
+ghost use Rattle.capture_form.specs.Inner.Reader.{Takes, HeadReads, reading_from, lines_taken, closed, phases_read, capture_read};
 
-use crate::fault::{CaptureFault, Limit};
+use crate::changes::OpenGroup;
+use crate::fault::{CaptureFault, Limit, LineFault, LineKind};
 use crate::reading::{PhaseList, Reading};
 use crate::steps::{empty_phase, take_line};
 use bstr::{ByteSlice, Lines};
@@ -51,6 +52,7 @@ fn reading_from(alloc: Global, head: &Head, line: u32) -> Result<Reading, Memory
         line,
         events: 0,
         ticks: 0,
+        group: None,
     })
 }
 
@@ -70,6 +72,19 @@ fn take_lines(
         take_line(alloc, head, read, line)?;
     }
     Ok(())
+}
+
+/// No group stands open behind the last line, or it is faulty where it began.
+fn closed(group: &Option<OpenGroup>) -> Result<(), CaptureFault>
+    ensures { result ≡ closed group.now }
+{
+    match group {
+        None => Ok(()),
+        Some(open) => Err(CaptureFault::Line(LineFault {
+            line: open.line,
+            kind: LineKind::Group,
+        })),
+    }
 }
 
 /// The phases that were read.
@@ -101,6 +116,7 @@ fn capture_after(
 {
     let mut read = reading_from(alloc, &head, line)?;
     take_lines(alloc, &head, &mut read, lines)?;
+    closed(&read.group)?;
     let phases = phases_of(alloc, read)?;
     Ok(Capture { head, phases })
 }

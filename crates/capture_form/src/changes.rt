@@ -1,16 +1,21 @@
 //! What the lines of an operator change.
-ghost use Rattle.std.specs.Prelude.{◌≡◌};
-ghost use Rattle.capture_form.specs.Inner.Words.{texts};
-ghost use Rattle.capture_form.specs.Changes.{indicator_of, carried, selector_of, second_of, row_of, add_form, del_form, row_form, status_form, service_form, change_of};
+ghost use Rattle.std.specs.Prelude.{◌≡◌, IfOk, OnOk};
+ghost use Rattle.plant_core.specs.Changes.{alone};
+ghost use Rattle.capture_form.specs.Groups.{with_change};
+ghost use Rattle.capture_form.specs.Inner.Words.{texts, States};
+ghost use Rattle.capture_form.specs.Line.{change_form};
+ghost use Rattle.capture_form.specs.Changes.{indicator_of, carried, selector_of, second_of, row_of, add_form, without_row, del_form, row_form, status_form, service_form, change_of};
 
 use crate::fault::LineKind;
+use crate::refused::LineRefused;
 use crate::words::{lead, octet, other_point, prefix, user};
 use gtt_table::{Entity, Row};
 use node_head::Head;
-use plant_core::Change;
+use plant_core::{Change, ChangeList, ControlEvent, Group};
 use relay_base::limits::OCTET_VALUES;
-use relay_base::{Pc, Ssn};
+use relay_base::{Memory, Pc, Ssn};
 use sccp_address::{NATURES, NUMBERING_PLANS, Selector};
+use std::alloc::Global;
 
 /// A global title indicator: 1, 3 or 4.
 fn indicator(word: &[u8]) -> Result<u8, LineKind>
@@ -93,6 +98,21 @@ fn add_form(own: Pc, words: &[&[u8]]) -> Result<Change, LineKind>
     Ok(Change::AddRow(row))
 }
 
+/// The row with the selector and the prefix of these words is taken away.
+fn without_row(
+    gti: &[u8],
+    tt: &[u8],
+    np: &[u8],
+    nai: &[u8],
+    digits: &[u8],
+) -> Result<Change, LineKind>
+    ensures { result ≡ without_row gti.now tt.now np.now nai.now digits.now }
+{
+    let selector = selector(gti, tt, np, nai)?;
+    let prefix = prefix(digits)?;
+    Ok(Change::DelRow(selector, prefix))
+}
+
 /// `e del <gti> <tt> <np> <nai> <digits>`, of which the words after `del`.
 fn del_form(words: &[&[u8]]) -> Result<Change, LineKind>
     ensures { result ≡ del_form (texts words.now) }
@@ -100,13 +120,11 @@ fn del_form(words: &[&[u8]]) -> Result<Change, LineKind>
     if words.len() != 5 {
         return Err(LineKind::Words);
     }
-    let selector = selector(words[0], words[1], words[2], words[3])?;
-    let prefix = prefix(words[4])?;
-    Ok(Change::DelRow(selector, prefix))
+    without_row(words[0], words[1], words[2], words[3], words[4])
 }
 
 /// A row is added, or taken away.
-fn row_form(own: Pc, words: &[&[u8]]) -> Result<Change, LineKind>
+pub fn row_form(own: Pc, words: &[&[u8]]) -> Result<Change, LineKind>
     ensures { result ≡ row_form own (texts words.now) }
 {
     if words.is_empty() {
@@ -157,17 +175,55 @@ fn service_form(users: &[Ssn], words: &[&[u8]]) -> Result<Change, LineKind>
     }
 }
 
-/// What a line changes, by its first word and those after it.
-pub fn change_of(head: &Head, first: &[u8], words: &[&[u8]]) -> Result<Change, LineKind>
+/// What a status line changes, by its first word and those after it.
+fn change_of(head: &Head, first: &[u8], words: &[&[u8]]) -> Result<Change, LineKind>
     ensures { result ≡ change_of head.now first.now (texts words.now) }
 {
-    if first == b"e".as_slice() {
-        row_form(head.point, words)
-    } else if first == b"p".as_slice() {
+    if first == b"p".as_slice() {
         status_form(head.point, words)
     } else if first == b"s".as_slice() {
         service_form(head.users.as_slice(), words)
     } else {
         Err(LineKind::Words)
+    }
+}
+
+/// A change alone, as an event.
+pub fn alone(alloc: Global, change: Change) -> Result<ControlEvent, Memory>
+    ensures { IfOk result (λ event. event ≡ ControlEvent.Change (alone change)) }
+{
+    let group = Group::of(alloc, change)?;
+    Ok(ControlEvent::Change(group))
+}
+
+/// A status line, which is a change alone.
+pub fn change_form(
+    alloc: Global,
+    head: &Head,
+    first: &[u8],
+    words: &[&[u8]],
+) -> Result<(u8, ControlEvent), LineRefused>
+    ensures value { States result (change_form head.now first.now (texts words.now)) }
+    ensures link { IfOk result (λ e. e.0 ≡ 0) }
+{
+    match change_of(head, first, words) {
+        Ok(change) => Ok((0, alone(alloc, change)?)),
+        Err(kind) => Err(LineRefused::Kind(kind)),
+    }
+}
+
+/// A group of edits that has not ended: the number of the line that began it, and its changes so far.
+#[derive(Drop)]
+pub struct OpenGroup {
+    pub line: u32,
+    pub changes: ChangeList,
+}
+
+impl OpenGroup {
+    /// Puts a change at the end.
+    pub fn put(&mut self, change: Change) -> Result<(), Memory>
+        ensures { OnOk result (self.new ≡ with_change change self.old) }
+    {
+        self.changes.extend(&[change])
     }
 }

@@ -14,6 +14,8 @@ use thiserror::Error;
 pub enum LineKind {
     /// No form has these words, or not so many.
     Words,
+    /// The line may not stand where it does, within a group or outside, or no `e commit` ends the group.
+    Group,
     /// A word is no number of 1 to 10 digits, or one out of range.
     Number,
     /// A word is not an even number of hex digits.

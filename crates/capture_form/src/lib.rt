@@ -4,8 +4,10 @@
 mod capture;
 mod changes;
 mod fault;
+mod groups;
 mod lane_place;
 mod line;
+mod meaning;
 mod note;
 mod reading;
 mod refused;
@@ -16,6 +18,7 @@ mod words;
 
 pub use capture::{Capture, read_capture};
 pub use fault::{CaptureFault, Limit, LineFault, LineKind};
+pub use groups::MOST_CHANGES;
 pub use journal_text::{Book, WriteFault, print_book, write_book};
 pub use lane_place::{LanePlace, place};
 pub use note::fault_note;

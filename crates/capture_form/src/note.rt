@@ -25,6 +25,7 @@ pub(crate) fn line_word(kind: LineKind) -> &'static str
 {
     match kind {
         LineKind::Words => "words",
+        LineKind::Group => "group",
         LineKind::Number => "number",
         LineKind::Hex => "hex",
         LineKind::Address => "address",

@@ -1,5 +1,6 @@
 //! Lines that are read one after the other.
 
+use crate::changes::OpenGroup;
 use plant_core::ControlEvent;
 use relay_base::{PlainList, Stamp};
 
@@ -12,8 +13,8 @@ pub type Phase = PlainList<StampedControlList>;
 /// Phases, the first of which is number 1.
 pub type PhaseList = PlainList<Phase>;
 
-/// What was read so far: the phases that ended, the one that stands, its number, that of the next line, and how many
-/// events there are, and ticks among them.
+/// What was read so far: the phases that ended, the one that stands, its number, that of the next line, how many event
+/// lines there are, and tick lines among them, and the group that stands open.
 #[derive(Drop)]
 pub struct Reading {
     pub phases: PhaseList,
@@ -22,4 +23,5 @@ pub struct Reading {
     pub line: u32,
     pub events: u32,
     pub ticks: u32,
+    pub group: Option<OpenGroup>,
 }

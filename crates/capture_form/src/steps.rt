@@ -1,18 +1,22 @@
 //! What one line adds to what was read.
-ghost use Rattle.std.specs.Prelude.{◌≡◌, ◌<◌, ◌≤◌, ◌+◌, ◌^◌, length, IfOk, OnOk, OnErr, Ok};
-ghost use Rattle.capture_form.specs.Inner.Words.{texts, FaultAt};
-ghost use Rattle.capture_form.specs.Capture.{Reads, begins, is_skipped};
-ghost use Rattle.capture_form.specs.Inner.Reader.{Takes, IsNext, IsStill, pushed, empty_phase, phase_ended, barrier_taken, tick_counted, line_counted, event_put, event_taken, line_taken, at_line};
-ghost use Rattle.capture_form.specs.Line.{event_of};
+ghost use Rattle.std.specs.Prelude.{◌≡◌, ◌<◌, ◌≤◌, ◌+◌, ◌-◌, ◌^◌, length, Some, IfOk, OnOk, Ok, Err};
+ghost use Rattle.capture_form.specs.Inner.Words.{texts, States, FaultAt};
+ghost use Rattle.capture_form.specs.Capture.{Reads, begins, is_skipped, barrier_form};
+ghost use Rattle.capture_form.specs.Inner.Reader.{Takes, IsNext, IsStill, IsWithin, pushed, with_event, empty_phase, phase_ended, barrier_taken, tick_counted, line_counted, meaning_taken, event_put, event_taken, line_taken, at_line};
+ghost use Rattle.capture_form.specs.Groups.{may_stand, placed, event_in};
+ghost use Rattle.capture_form.specs.Line.{Linked, meaning_of};
 ghost use Rattle.capture_form.specs.Text.{words};
 
+use crate::changes::{OpenGroup, alone};
 use crate::fault::{CaptureFault, Limit, LineFault, LineKind};
-use crate::line::event_of;
+use crate::groups::{may_stand, out_of_place};
+use crate::line::meaning_of;
+use crate::meaning::Meaning;
 use crate::reading::{Phase, Reading, StampedControlList};
 use crate::refused::LineRefused;
 use crate::text::split_words;
 use node_head::Head;
-use plant_core::ControlEvent;
+use plant_core::{Change, ChangeList, ControlEvent, Group};
 use relay_base::{Memory, Stamp};
 use std::alloc::Global;
 use std::mem;
@@ -81,19 +85,51 @@ fn fault_at(line: u32, refused: LineRefused) -> CaptureFault
     }
 }
 
-/// The event of a line that is no barrier.
-fn event_at(
+/// What a line means, if it may stand where it does.
+fn placed_meaning(
     alloc: Global,
     head: &Head,
-    line: u32,
+    stands: bool,
     words: &[&[u8]],
-) -> Result<(u8, ControlEvent), CaptureFault>
-    ensures value { Reads result (at_line line (event_of head.now (texts words.now))) }
-    ensures within { IfOk result (λ e. e.0 ≤ head.now.links) }
+) -> Result<Meaning, LineRefused>
+    ensures value { States result (placed stands (meaning_of head.now (texts words.now))) }
+    ensures within { IfOk result (IsWithin head.now.links) }
 {
-    match event_of(alloc, head, words) {
-        Ok(event) => Ok(event),
-        Err(refused) => Err(fault_at(line, refused)),
+    match meaning_of(alloc, head, words) {
+        Ok(meaning) if stands => Ok(meaning),
+        Ok(_) => Err(LineRefused::Kind(LineKind::Group)),
+        Err(LineRefused::Kind(kind)) if !stands => Err(LineRefused::Kind(out_of_place(kind))),
+        Err(refused) => Err(refused),
+    }
+}
+
+/// What an event line means.
+fn meaning_at(
+    alloc: Global,
+    head: &Head,
+    read: &Reading,
+    words: &[&[u8]],
+) -> Result<Meaning, CaptureFault>
+    ensures value { Reads result (at_line read.now.line
+        (placed (may_stand read.now.group (texts words.now)) (meaning_of head.now (texts words.now)))) }
+    ensures within { IfOk result (IsWithin head.now.links) }
+{
+    match placed_meaning(alloc, head, may_stand(&read.group, words), words) {
+        Ok(meaning) => Ok(meaning),
+        Err(refused) => Err(fault_at(read.line, refused)),
+    }
+}
+
+/// What is wrong with a barrier, which is one word and may stand outside groups.
+fn barrier_form(stands: bool, words: &[&[u8]]) -> Result<(), LineKind>
+    ensures { result ≡ placed stands (barrier_form (texts words.now)) }
+{
+    if words.len() != 1 {
+        Err(LineKind::Words)
+    } else if !stands {
+        Err(LineKind::Group)
+    } else {
+        Ok(())
     }
 }
 
@@ -139,8 +175,9 @@ fn take_barrier(
     if read.phase > MOST_BARRIERS {
         return Err(CaptureFault::TooLong(Limit::Barriers));
     }
-    if words.len() != 1 {
-        return Err(fault_at(read.line, LineRefused::Kind(LineKind::Words)));
+    let stands = may_stand(&read.group, words);
+    if let Err(kind) = barrier_form(stands, words) {
+        return Err(fault_at(read.line, LineRefused::Kind(kind)));
     }
     end_phase(alloc, head, read)
 }
@@ -175,7 +212,72 @@ fn count_line(read: &mut Reading, words: &[&[u8]]) -> Result<(), CaptureFault>
 }
 
 /// Puts the event of a line on the list of its link.
-fn put_event(
+fn put_event(alloc: Global, read: &mut Reading, link: u8, event: ControlEvent) -> Result<(), Memory>
+    requires { link < length read.old.current }
+    ensures { OnOk result (read.new ≡ record read.old { current = with_event read.old (Some (link, event)) }) }
+{
+    let stamp = Stamp {
+        phase: read.phase,
+        link,
+        line: read.line,
+    };
+    put(alloc, &mut read.current, usize::from(link), (stamp, event))
+}
+
+/// Takes an edit, alone or into the group that stands open.
+fn take_edit(alloc: Global, read: &mut Reading, change: Change) -> Result<(), Memory>
+    requires { 0 < length read.old.current }
+    ensures { OnOk result (read.new ≡ meaning_taken read.old (Meaning.Edit change)) }
+{
+    if let Some(group) = &mut read.group {
+        return group.put(change);
+    }
+    let event = alone(alloc, change)?;
+    put_event(alloc, read, 0, event)
+}
+
+/// Begins a group at this line.
+fn begin_group(alloc: Global, read: &mut Reading)
+    ensures { read.new ≡ meaning_taken read.old Meaning.Begin }
+{
+    read.group = Some(OpenGroup {
+        line: read.line,
+        changes: ChangeList::new(alloc),
+    });
+}
+
+/// Ends the group that stands open: its changes are one event.
+fn end_group(alloc: Global, read: &mut Reading) -> Result<(), Memory>
+    requires { 0 < length read.old.current }
+    ensures { OnOk result (read.new ≡ meaning_taken read.old Meaning.Commit) }
+{
+    match read.group.take() {
+        None => Ok(()),
+        Some(OpenGroup { changes, .. }) => {
+            put_event(alloc, read, 0, ControlEvent::Change(Group { changes }))
+        }
+    }
+}
+
+/// Takes what an event line means.
+fn take_meaning(alloc: Global, read: &mut Reading, meaning: Meaning) -> Result<(), Memory>
+    requires some { 0 < length read.old.current }
+    requires within { IsWithin (length read.old.current - 1) meaning }
+    ensures { OnOk result (read.new ≡ meaning_taken read.old meaning) }
+{
+    match meaning {
+        Meaning::Event(link, event) => put_event(alloc, read, link, event),
+        Meaning::Edit(change) => take_edit(alloc, read, change),
+        Meaning::Begin => {
+            begin_group(alloc, read);
+            Ok(())
+        }
+        Meaning::Commit => end_group(alloc, read),
+    }
+}
+
+/// Reads what an event line means.
+fn put_meaning(
     alloc: Global,
     head: &Head,
     words: &[&[u8]],
@@ -187,13 +289,8 @@ fn put_event(
     ensures value { Takes read.new result (event_put head.now (texts words.now) read.old) }
     ensures kept { OnOk result (IsNext head.now read.old read.new) }
 {
-    let (link, event) = event_at(alloc, head, read.line, words)?;
-    let stamp = Stamp {
-        phase: read.phase,
-        link,
-        line: read.line,
-    };
-    put(alloc, &mut read.current, usize::from(link), (stamp, event))?;
+    let meaning = meaning_at(alloc, head, read, words)?;
+    take_meaning(alloc, read, meaning)?;
     read.events += 1;
     read.line += 1;
     Ok(())
@@ -212,7 +309,7 @@ fn take_event(
     ensures kept { OnOk result (IsNext head.now read.old read.new) }
 {
     count_line(read, words)?;
-    put_event(alloc, head, words, read)
+    put_meaning(alloc, head, words, read)
 }
 
 /// Reads a line.

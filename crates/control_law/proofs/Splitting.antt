@@ -1,6 +1,6 @@
 -- A journal parts anywhere.
 use Rattle.std.proofs.Common.{◌≡◌, ℕ, ◌+◌, List, [], ◌∷◌, ◌++◌, length, Option, Some, None, refl, sym, subst, arith, add-zero}
-use Rattle.plant_core.specs.declared.change.Change.{Change}
+use Rattle.plant_core.specs.declared.change.Group.{Group}
 use Rattle.plant_core.specs.declared.entry.ControlEntry.{ControlEntry}
 use Rattle.scmg.specs.declared.head.ControlHead.{ControlHead}
 use Rattle.scmg.specs.Control.{Control, managed, count_after, after_entry, changes_from, LegalFrom}
@@ -9,10 +9,10 @@ use Rattle.std.specs.Option.{option_to_list}
 use Rattle.control_law.specs.Played.{JournalSplits}
 
 -- the editions after an entry and others
-counted : (edition : ℕ) (published : Option Change) (more : List Change)
+counted : (edition : ℕ) (published : Option Group) (more : List Group)
     → count_after edition published + length more ≡ edition + length (option_to_list published ++ more)
 counted edition None more = refl
-counted edition (Some change) more = omega arith
+counted edition (Some group) more = omega arith
 
 abbrev Parted : ControlHead → Control → ℕ → List ControlEntry → List ControlEntry → ℕ → Type 0
 Parted head c edition one other editions = LegalFrom head c edition one × LegalFrom head (after_entries head c one) editions other

@@ -23,7 +23,7 @@ LegalIsPlayed =
     (head : ControlHead) (start : RoutingData) (journal : List ControlEntry) →
     IsControlJournal head start journal ↔ (map (λ e. (e.outs, e.published)) journal ≡ played head start (map (λ e. e.event) journal))
 
--- wherever a journal is parted, whatever it began with; each change that is published makes an edition
+-- wherever a journal is parted, whatever it began with; each group of changes that is published makes an edition
 abbrev pub JournalSplits : Type 0
 JournalSplits =
     (head : ControlHead) (c : Control) (edition : ℕ) (one other : List ControlEntry) →

@@ -2,8 +2,9 @@
 ghost use Rattle.std.specs.Prelude.{◌≡◌, [], length};
 
 use gtt_editions::{Place, Publisher, editions};
-use plant_core::{Change, Plant};
+use plant_core::{Change, Group, Plant};
 use relay_base::{Memory, Pc, Ssn};
+use std::alloc::Global;
 use std::sync::Wait;
 use std::test::Fail;
 use std::thread;
@@ -16,16 +17,21 @@ struct Looks {
     rising: bool,
 }
 
-// Publishes ten changes: a user goes out of service and in again.
-fn publish_ten<'r, R: Wait>(publisher: Publisher<'r, R>) -> Result<Publisher<'r, R>, Memory>
+// Publishes ten groups of one change: a user goes out of service and in again.
+fn publish_ten<'r, R: Wait>(
+    alloc: Global,
+    publisher: Publisher<'r, R>,
+) -> Result<Publisher<'r, R>, Memory>
     requires first { publisher.opened.number ≡ 0 }
     requires none { publisher.seen.changes ≡ [] }
 {
     let mut publisher = publisher;
     let user = Ssn::from(8);
+    let down = Group::of(alloc, Change::LocalDown(user))?;
+    let up = Group::of(alloc, Change::LocalUp(user))?;
     for _ in 0..5u32 {
-        publisher.publish(&Change::LocalDown(user))?;
-        publisher.publish(&Change::LocalUp(user))?;
+        publisher.publish(&down)?;
+        publisher.publish(&up)?;
     }
     Ok(publisher)
 }
@@ -53,14 +59,15 @@ fn look_often<'r, R: Wait>(place: Place<'r, R>) -> (Place<'r, R>, Looks) {
 }
 
 #[test]
-fn sees_ten_changes_come_in(rt: HostRuntime) -> Result<(), Fail> {
+fn sees_ten_groups_come_in(rt: HostRuntime) -> Result<(), Fail> {
     let point = Pc::new(100).expect(&rt, "a point code");
-    let plant = Plant::start(rt.alloc(), point, &[Ssn::from(8)])?;
-    let (publisher, mut places) = editions(&rt, rt.alloc(), plant, 1)?;
+    let alloc = rt.alloc();
+    let plant = Plant::start(alloc, point, &[Ssn::from(8)])?;
+    let (publisher, mut places) = editions(&rt, alloc, plant, 1)?;
     let place = places.pop().expect(&rt, "a place");
     let (published, (mut place, during)) = thread::join(
         &rt,
-        || publish_ten(publisher),
+        || publish_ten(alloc, publisher),
         || look_often(place),
     );
     let publisher = published?;

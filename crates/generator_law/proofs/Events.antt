@@ -1,4 +1,4 @@
--- Each generated line reads as its event.
+-- Each generated line means its event.
 use Rattle.std.proofs.Common.{◌≡◌, ℕ, ◌+◌, ◌%◌, ◌≤◌, ◌<◌, ◌==◌, codes, Bool, true, false, cond, List, [], ◌∷◌, ◌++◌, length, Ok, refl, arith, length-append}
 use Rattle.std.specs.List.{AllByRecursion}
 use Rattle.std.specs.Fmt.{decimal}
@@ -10,7 +10,9 @@ use Rattle.relay_base.specs.declared.words.Request.TheVariants.{Accept}
 use Rattle.plant_core.specs.declared.entry.ControlEvent.TheVariants.{Plain}
 use Rattle.journal_text.specs.Print.{spaced, octets_text}
 use Rattle.capture_form.specs.Text.{hex_of}
-use Rattle.capture_form.specs.Line.{event_of}
+use Rattle.capture_form.specs.Line.{meaning_of}
+use Rattle.capture_form.specs.Groups.{is_commit}
+use Rattle.capture_form.specs.declared.meaning.Meaning.TheVariants.{Event as Brings}
 use Rattle.capture_form.specs.Capture.{is_skipped, begins}
 use Rattle.q713_codec.specs.Messages.{octets3}
 use Rattle.capture_generator.specs.Generator.{generator_head, reference_at, unit_octets, request_octets, data_octets, message_at, event_of_kind}
@@ -20,14 +22,15 @@ use Rattle.generator_law.proofs.Words.{AreOctets, are_octets, IsShort, below-dec
 
 -- ---- one line
 
--- what is said of the words of a line: they are words of an event line, they read as this event, and they are short
+-- what is said of the words of a line: they are words of an event line, they mean this event, and they are short
 pub record Writes (ws : List (List ℕ)) (event : Event) : Type 0 where
   pub each : AllByRecursion IsWord ws
-  pub reads : event_of generator_head ws ≡ Ok (1, Plain event)
+  pub means : meaning_of generator_head ws ≡ Ok (Brings 1 (Plain event))
   pub short : length (spaced ws) ≤ 60
   pub stated : is_skipped (spaced ws) ≡ false
   pub no_barrier : begins (codes "w") ws ≡ false
   pub no_tick : begins (codes "t") ws ≡ false
+  pub no_commit : is_commit ws ≡ false
 
 message-writes : (i b : ℕ) (octets : List ℕ) → AreOctets (b ∷ octets) → length (b ∷ octets) ≤ 13 → Writes (message_words i (b ∷ octets)) (message_at i (b ∷ octets))
 unfolding number_of
@@ -35,7 +38,7 @@ message-writes i b octets h few =
     let small : IsShort (i % LINK_SELECTIONS) = omega arith in
     record {
       each = (word (codes "m") refl, (word (codes "1") refl, (word (codes "2") refl, (decimal-word (i % LINK_SELECTIONS) small, (octets-word b octets h, tt)))));
-      reads = rw (below-decimal LINK_SELECTIONS (i % LINK_SELECTIONS) small (omega arith), octets-hex b octets h) refl;
+      means = rw (below-decimal LINK_SELECTIONS (i % LINK_SELECTIONS) small (omega arith), octets-hex b octets h) refl;
       short = omega (
         arith,
         few,
@@ -46,6 +49,7 @@ message-writes i b octets h few =
       stated = stated 109 (32 ∷ spaced (codes "1" ∷ codes "2" ∷ decimal (i % LINK_SELECTIONS) ∷ octets_text (b ∷ octets) ∷ [])) refl;
       no_barrier = refl;
       no_tick = refl;
+      no_commit = refl;
     }
 
 acceptance-writes : (i : ℕ) → Writes (acceptance_words i) (Asked 8 (Accept (reference_at i) 2 0 []))
@@ -75,7 +79,7 @@ acceptance-writes i =
           ),
         ),
       );
-      reads = rw (below-decimal REFERENCES (reference_at i) small (omega arith)) refl;
+      means = rw (below-decimal REFERENCES (reference_at i) small (omega arith)) refl;
       short = omega (
         arith,
         length-append (decimal (reference_at i)) (32 ∷ spaced (codes "2" ∷ codes "0" ∷ codes "-" ∷ [])),
@@ -84,6 +88,7 @@ acceptance-writes i =
       stated = stated 117 (32 ∷ spaced (codes "1" ∷ codes "8" ∷ codes "accept" ∷ decimal (reference_at i) ∷ codes "2" ∷ codes "0" ∷ codes "-" ∷ [])) refl;
       no_barrier = refl;
       no_tick = refl;
+      no_commit = refl;
     }
 
 -- ---- the octets of the messages

@@ -1,5 +1,5 @@
 -- What the reader has read after so many generated lines.
-use Rattle.std.proofs.Common.{◌≡◌, ℕ, zero, suc, ◌+◌, ◌*◌, ◌/◌, ◌%◌, ◌≤◌, ◌<◌, ◌==◌, nat_lt, nat_le, codes, false, cond, List, [], ◌∷◌, ◌++◌, Result, Ok, Err, refl, sym, ap, ◌∙◌, arith, append_assoc, inl, inr}
+use Rattle.std.proofs.Common.{◌≡◌, ℕ, zero, suc, ◌+◌, ◌*◌, ◌/◌, ◌%◌, ◌≤◌, ◌<◌, ◌==◌, nat_lt, nat_le, codes, false, cond, List, [], ◌∷◌, ◌++◌, None, Result, Ok, Err, refl, sym, ap, ◌∙◌, arith, append_assoc, inl, inr}
 use Rattle.std.specs.Prelude.{◌≢◌}
 use Rattle.std.proofs.lemmas.Bool.{cases_Bool, eqb-true, eqb-false}
 use Rattle.std.proofs.lemmas.Bool.Decides.{nat_tests}
@@ -17,8 +17,9 @@ use Rattle.node_head.specs.declared.head.Head.{Head}
 use Rattle.capture_form.specs.Events.{Stamped}
 use Rattle.capture_form.specs.Text.{words}
 use Rattle.capture_form.specs.declared.fault.CaptureFault.{CaptureFault}
+use Rattle.capture_form.specs.declared.meaning.Meaning.TheVariants.{Event as Brings}
 use Rattle.capture_form.specs.declared.reading.Reading.{Reading}
-use Rattle.capture_form.specs.Inner.Reader.{phase_ended, event_added, line_taken, lines_taken, reading_from}
+use Rattle.capture_form.specs.Inner.Reader.{phase_ended, meaning_taken, line_added, line_taken, lines_taken, reading_from}
 use Rattle.capture_generator.specs.Generator.{generator_head, Phases, number_after, event_at, stamp_at, stamped_at, events_after, block_phase, tick_phase, whole_blocks}
 use Rattle.capture_generator.specs.Text.{Lines, line_at, words_of_kind, barriers_after, lines_after}
 use Rattle.capture_generator.proofs.StepLemmas.{number-add}
@@ -50,26 +51,27 @@ pub not_above : (n most : ℕ) → n ≤ most → nat_lt most n ≡ false
 not_above n most h = grind (arith, nat_tests)
 
 -- an event line
-event_line : (ws : Lines) (event : Event) (r : Reading) → Writes ws event → r.events < MOST_LINES
-    → line_taken generator_head r (spaced ws) ≡ Ok (event_added r (1, Plain event))
+event_line : (ws : Lines) (event : Event) (r : Reading) → Writes ws event → r.group ≡ None → r.events < MOST_LINES
+    → line_taken generator_head r (spaced ws) ≡ Ok (line_added (meaning_taken r (Brings 1 (Plain event))))
 unfolding line_taken
-event_line ws event r h few =
-    rw (h.stated, words-spaced ws h.each, h.no_barrier, not_yet r.events MOST_LINES few, h.no_tick, h.reads) refl
+event_line ws event r h alone few =
+    rw (h.stated, words-spaced ws h.each, h.no_barrier, not_yet r.events MOST_LINES few, h.no_tick, alone, h.no_commit, h.means) refl
 
 -- a barrier, and a tick
-barrier_line : (r : Reading) → r.phase ≤ MOST_BARRIERS → line_taken generator_head r (codes "w") ≡ Ok (phase_ended generator_head r)
+barrier_line : (r : Reading) → r.group ≡ None → r.phase ≤ MOST_BARRIERS → line_taken generator_head r (codes "w") ≡ Ok (phase_ended generator_head r)
 unfolding line_taken words
-barrier_line r h = rw (not_above r.phase MOST_BARRIERS h) refl
+barrier_line r alone h = rw (not_above r.phase MOST_BARRIERS h, alone) refl
 
-tick_line : (r : Reading) → r.events < MOST_LINES → r.ticks < MOST_TICK_LINES → line_taken generator_head r (codes "t") ≡ Ok (event_added (record r { ticks = r.ticks + 1 }) (0, Plain Tick))
+tick_line : (r : Reading) → r.group ≡ None → r.events < MOST_LINES → r.ticks < MOST_TICK_LINES
+    → line_taken generator_head r (codes "t") ≡ Ok (line_added (meaning_taken (record r { ticks = r.ticks + 1 }) (Brings 0 (Plain Tick))))
 unfolding line_taken words
-tick_line r few h = rw (not_yet r.events MOST_LINES few, not_yet r.ticks MOST_TICK_LINES h) refl
+tick_line r alone few h = rw (not_yet r.events MOST_LINES few, not_yet r.ticks MOST_TICK_LINES h, alone) refl
 
 -- ---- what was read
 
 abbrev reading : Phases → List Stamped → ℕ → ℕ → ℕ → ℕ → Reading
 reading phases current phase line events ticks =
-    record { phases = phases; current = current; phase = phase; line = line; events = events; ticks = ticks }
+    record { phases = phases; current = current; phase = phase; line = line; events = events; ticks = ticks; group = None }
 
 -- after q blocks and r lines more
 abbrev pub read_at : ℕ → ℕ → ℕ → Reading
@@ -112,7 +114,7 @@ event-read : (x q r n : ℕ) → n ≡ BLOCK * q + r → r < BLOCK → n < MOST_
     → line_taken generator_head (read_at x q r) (line_at (number_after x (n + 1)) n) ≡ Ok (read_at x q (r + 1))
 event-read x q r n at h few =
     let picked : ℕ = number_after x (n + 1) in
-    event_line (words_of_kind (picked / 65536 % 4) n) (event_at picked n) (read_at x q r) (kind-writes (picked / 65536 % 4) n) (omega (arith, at, h, few))
+    event_line (words_of_kind (picked / 65536 % 4) n) (event_at picked n) (read_at x q r) (kind-writes (picked / 65536 % 4) n) refl (omega (arith, at, h, few))
     ∙ ap Ok (reading_same (whole_blocks x q) ([] ∷ (events_after (number_after x (BLOCK * q)) (BLOCK * q) r ++ event_read x q r n ∷ []) ∷ []) (block_phase x q (r + 1)) (1 + 2 * q)
     (6 + (BLOCK + 3) * q + r + 1) (6 + (BLOCK + 3) * q + (r + 1)) ((BLOCK + 1) * q + r + 1) ((BLOCK + 1) * q + (r + 1)) q
     (ap (λ (es : Stamped). [] ∷ es ∷ []) (one_more x q r n at h)) (omega arith) (omega arith))
@@ -154,10 +156,10 @@ unfolding lines_taken
 block-read x q h =
     let first : Reading = read_at x q BLOCK in
     let second : Reading = phase_ended generator_head first in
-    let third : Reading = event_added (record second { ticks = second.ticks + 1 }) (0, Plain Tick) in
-    next_line generator_head first second (codes "w") (codes "t" ∷ codes "w" ∷ []) (barrier_line first (omega (arith, h)))
-    ∙ next_line generator_head second third (codes "t") (codes "w" ∷ []) (tick_line second (omega (arith, h)) (omega (arith, h)))
-    ∙ next_line generator_head third (phase_ended generator_head third) (codes "w") [] (barrier_line third (omega (arith, h)))
+    let third : Reading = line_added (meaning_taken (record second { ticks = second.ticks + 1 }) (Brings 0 (Plain Tick))) in
+    next_line generator_head first second (codes "w") (codes "t" ∷ codes "w" ∷ []) (barrier_line first refl (omega (arith, h)))
+    ∙ next_line generator_head second third (codes "t") (codes "w" ∷ []) (tick_line second refl (omega (arith, h)) (omega (arith, h)))
+    ∙ next_line generator_head third (phase_ended generator_head third) (codes "w") [] (barrier_line third refl (omega (arith, h)))
     ∙ ap Ok (ended_same x q)
 
 -- ---- all lines

@@ -24,7 +24,7 @@ use Rattle.capture_form.specs.declared.fault.CaptureFault.TheVariants as refused
 use Rattle.capture_form.specs.declared.fault.Limit.TheVariants as limit
 use Rattle.capture_form.specs.declared.reading.Reading.{Reading}
 use Rattle.capture_form.specs.Capture.{at_head, capture_after, capture_from, capture_within, capture_of}
-use Rattle.capture_form.specs.Inner.Reader.{phases_read}
+use Rattle.capture_form.specs.Inner.Reader.{closed, phases_read}
 use Rattle.capture_form.proofs.ReaderLemmas.{reader-agrees}
 use Rattle.capture_generator.proofs.CaptureLemmas.{all-append}
 use Rattle.capture_generator.specs.Generator.{generator_head, Phases, number_after, block_phase, whole_blocks, phases_after}
@@ -106,7 +106,7 @@ phases-read x n = ap (λ (t : Bool). cond {A = Phases} t [] (whole_blocks x (n /
 lines-capture : (x n : ℕ) → n ≤ MOST_GENERATED_LINES → capture_after generator_head 6 (lines_after x n) ≡ Ok (record { head = generator_head; phases = phases_after x n })
 lines-capture x n h =
     sym (reader-agrees generator_head 6 (lines_after x n))
-    ∙ ap (λ (m : Result Reading CaptureFault). m >>= (λ r. Ok (record { head = generator_head; phases = phases_read r }))) (lines-read x n h)
+    ∙ ap (λ (m : Result Reading CaptureFault). m >>= (λ r. closed r.group >>= (λ _. Ok (record { head = generator_head; phases = phases_read r })))) (lines-read x n h)
     ∙ ap (λ (phases : Phases). Ok (record { head = generator_head; phases = phases })) (phases-read x n)
 
 within-read : (x n : ℕ) → n ≤ MOST_GENERATED_LINES → capture_within (joined (head_lines ++ lines_after x n)) ≡ Ok (record { head = generator_head; phases = phases_after x n })

@@ -1,7 +1,7 @@
 -- On beginnings of the published list.
 use Rattle.std.proofs.Common.{◌≡◌, List, length, true, false, [], ◌∷◌, ◌++◌, refl, sym, ap, ◌∙◌, append_assoc, length-append, arith}
 use Rattle.std.proofs.lemmas.List.{append-nil, nil_from_length}
-use Rattle.plant_core.specs.declared.change.Change.{Change}
+use Rattle.plant_core.specs.declared.change.Group.{Group}
 use Rattle.gtt_editions.specs.declared.step.Step.{Step}
 use Rattle.gtt_editions.specs.declared.step.Step.TheVariants.{Open, Room, Change as Changed, End}
 use Rattle.gtt_editions.specs.Shown.{Shown}
@@ -20,12 +20,12 @@ begins_trans a b c ab bc = record {
 
 pub marked_begins : (x : Shown) (step : Step) → x.ended ≡ false → Begins (list_of (marked x step)) (list_of x)
 marked_begins x Open going = begins_refl (list_of x)
-marked_begins x Room going = begins_refl (list_of x)
-marked_begins x (Changed change) going = record { rest = change ∷ []; longer = refl; closed = λ e. cc }
+marked_begins x (Room group) going = begins_refl (list_of x)
+marked_begins x (Changed group) going = record { rest = group ∷ []; longer = refl; closed = λ e. cc }
 marked_begins x End going = record { rest = []; longer = sym (append-nil x.changes); closed = λ e. cc }
 
 -- what comparing shows
-pub begins_from : (long short : Shown) → (rest : List Change) × (long.changes ≡ short.changes ++ rest) → (short.ended ≡ true → (long.ended ≡ true) × (length long.changes ≡ length short.changes)) → Begins (list_of long) (list_of short)
+pub begins_from : (long short : Shown) → (rest : List Group) × (long.changes ≡ short.changes ++ rest) → (short.ended ≡ true → (long.ended ≡ true) × (length long.changes ≡ length short.changes)) → Begins (list_of long) (list_of short)
 begins_from long short tail closed = record {
   rest = tail.0;
   longer = tail.1;

@@ -6,7 +6,7 @@ use Rattle.atomic_table.proofs.Lists.{at_set, at_snoc}
 use Rattle.crossbeam_utils.specs.Register.{Admits, TurnsAt, Turns, Forks, Merges}
 use Rattle.gtt_editions.specs.Editions.{Edition, edition_of, edition_after, edition_after_all}
 use Rattle.gtt_editions.proofs.EditionLemmas.{after_none, after_one_more}
-use Rattle.plant_core.specs.declared.change.Change.{Change}
+use Rattle.plant_core.specs.declared.change.Group.{Group}
 use Rattle.gtt_editions.specs.declared.step.Step.{Step}
 use Rattle.gtt_editions.specs.declared.step.Step.TheVariants.{Open, Room, Change as Changed, End}
 use Rattle.gtt_editions.specs.declared.store.Store.{Store}
@@ -68,14 +68,14 @@ sees seat v s views h at =
 
 pub marked-edition : (x : Shown) (opened : Edition) (step : Step) → x.edition ≡ edition_after_all opened x.changes → (marked x step).edition ≡ edition_after_all opened (marked x step).changes
 marked-edition x opened Open is = is
-marked-edition x opened Room is = is
-marked-edition x opened (Changed change) is = ap (λ z. edition_after z change) is ∙ sym (after_one_more opened x.changes change)
+marked-edition x opened (Room group) is = is
+marked-edition x opened (Changed group) is = ap (λ z. edition_after z group) is ∙ sym (after_one_more opened x.changes group)
 marked-edition x opened End is = is
 
 pub marked-open : (x : Shown) (step : Step) → x.opened ≡ true → (marked x step).opened ≡ true
 marked-open x Open is = refl
-marked-open x Room is = is
-marked-open x (Changed change) is = is
+marked-open x (Room group) is = is
+marked-open x (Changed group) is = is
 marked-open x End is = is
 
 -- a step of the publisher, whose view becomes w
@@ -180,7 +180,7 @@ answers (Ok u) v w s t step pending left now one values seen =
     (record { current = seen.current; opened = same_opened v.opened w.opened now.opens seen.current.opens seen.agrees; shown = shown }, values.1, tt, tt)
 answers (Err e) v w s t step pending left now one values seen = (tt, tt, seen, values.0)
 
--- what is published after a change
-pub one_more : (v w : View) (s t : Store) (change : Change) → IsCurrent v (shown_by s) → s.ended ≡ false → IsCurrent w (shown_by t) → shown_by t ≡ marked (shown_by s) (Changed change) → w.seen ≡ published (v.seen.changes ++ change ∷ []) false
-one_more v w s t change was going now is =
-    now.list_is ∙ (ap list_of is ∙ (λ i. published (sym (ap (λ z. z.changes) was.list_is) i ++ change ∷ []) (going i)))
+-- what is published after a group
+pub one_more : (v w : View) (s t : Store) (group : Group) → IsCurrent v (shown_by s) → s.ended ≡ false → IsCurrent w (shown_by t) → shown_by t ≡ marked (shown_by s) (Changed group) → w.seen ≡ published (v.seen.changes ++ group ∷ []) false
+one_more v w s t group was going now is =
+    now.list_is ∙ (ap list_of is ∙ (λ i. published (sym (ap (λ z. z.changes) was.list_is) i ++ group ∷ []) (going i)))

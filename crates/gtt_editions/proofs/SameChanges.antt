@@ -1,4 +1,4 @@
--- Changes that compare as equal are equal.
+-- Changes that compare as equal are equal, and groups of them too.
 use Rattle.std.proofs.Common.{◌≡◌, ◌==◌, ◌&&◌, ℕ, ◌-◌, Bool, true, false, Option, Some, None, List, [], ◌∷◌, ◌++◌, length, take, drop, refl, sym, ap, ◌∙◌}
 use mathlib.Core.Bool.{beq}
 use lib.Dec.{eqb}
@@ -19,6 +19,8 @@ use Rattle.gtt_table.specs.contracts.row.RowPartialEq.TheImpl.{eq-value as row-e
 use Rattle.plant_core.specs.declared.change.Change.{Change}
 use Rattle.plant_core.specs.declared.change.Change.TheVariants.{AddRow, DelRow, BarPoint, FreePoint, BarSub, FreeSub, LocalUp, LocalDown}
 use Rattle.plant_core.specs.contracts.change.ChangePartialEq.TheImpl.{eq-value as change-eq}
+use Rattle.plant_core.specs.declared.change.Group.{Group}
+use Rattle.plant_core.specs.contracts.change.GroupPartialEq.TheImpl.{eq-value as group-eq}
 
 beq_same : (a b : Bool) → beq a b ≡ true → a ≡ b
 beq_same true true e = refl
@@ -88,8 +90,11 @@ change_same (LocalUp a) (LocalUp b) e = ap LocalUp (eqb-true a b e)
 change_same (LocalDown a) (LocalDown b) e = ap LocalDown (eqb-true a b e)
 change_same a b e = cc
 
+pub group_same : (a b : Group) → group-eq.it a b ≡ true → a ≡ b
+group_same a b e = let changes : a.changes ≡ b.changes = pointwise_same change-eq.it change_same a.changes b.changes e in λ i. record { changes = changes i }
+
 -- a list of which a front compares as equal to another begins with it
-pub begins_by : (long short : List Change) → pointwise change-eq.it short (take (length short) long) ≡ true → (rest : List Change) × (long ≡ short ++ rest)
+pub begins_by : (long short : List Group) → pointwise group-eq.it short (take (length short) long) ≡ true → (rest : List Group) × (long ≡ short ++ rest)
 begins_by long short e =
-    let front : short ≡ take (length short) long = pointwise_same change-eq.it change_same short (take (length short) long) e in
+    let front : short ≡ take (length short) long = pointwise_same group-eq.it group_same short (take (length short) long) e in
     (drop (length short) long, sym (take-append-drop (length short) long) ∙ ap (λ l. l ++ drop (length short) long) (sym front))

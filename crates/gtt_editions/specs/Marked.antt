@@ -15,6 +15,6 @@ list_of x = published x.changes x.ended
 
 abbrev pub marked : Shown → Step → Shown
 marked x Open = record x { opened = true }
-marked x Room = x
-marked x (Changed change) = record x { edition = edition_after x.edition change; changes = x.changes ++ change ∷ [] }
+marked x (Room group) = x
+marked x (Changed group) = record x { edition = edition_after x.edition group; changes = x.changes ++ group ∷ [] }
 marked x End = record x { ended = true }

@@ -1,13 +1,13 @@
 -- What is published.
 use Rattle.std.specs.Prelude.{◌≡◌, Bool, true, false, List, [], ◌++◌}
-use Rattle.plant_core.specs.declared.change.Change.{Change}
+use Rattle.plant_core.specs.declared.change.Group.{Group}
 
--- the changes since the opening, and whether the end is marked
+-- the groups of changes since the opening, and whether the end is marked
 pub record Published : Type 0 where
-  pub changes : List Change
+  pub changes : List Group
   pub ended : Bool
 
-abbrev pub published : List Change → Bool → Published
+abbrev pub published : List Group → Bool → Published
 published changes ended = record { changes = changes; ended = ended }
 
 abbrev pub nothing : Published
@@ -15,6 +15,6 @@ nothing = published [] false
 
 -- `long` begins with `short`, and is `short` where the end is marked in it
 pub record Begins (long short : Published) : Type 0 where
-  pub rest : List Change
+  pub rest : List Group
   pub longer : long.changes ≡ short.changes ++ rest
   pub closed : short.ended ≡ true → long ≡ short

@@ -1,14 +1,14 @@
 -- What the two copies show, and what is known of it from each seat.
 use Rattle.std.specs.Prelude.{Bool, false, List, [], Option, None}
 use Rattle.plant_core.specs.Plant.{start_of}
-use Rattle.plant_core.specs.declared.change.Change.{Change}
+use Rattle.plant_core.specs.declared.change.Group.{Group}
 use Rattle.gtt_editions.specs.Editions.{Edition}
 use Rattle.gtt_editions.specs.Published.{Published, nothing}
 
--- an edition, the changes since the opening, and whether the opening and the end are marked
+-- an edition, the groups of changes since the opening, and whether the opening and the end are marked
 pub record Shown : Type 0 where
   pub edition : Edition
-  pub changes : List Change
+  pub changes : List Group
   pub opened : Bool
   pub ended : Bool
 

@@ -1,7 +1,7 @@
 -- What a contract sees of a place, a look and a publisher.
 use Rattle.std.specs.Prelude.{◌≡◌, Bool, true, false, [], ◌∷◌, ◌++◌}
 use Rattle.plant_core.specs.Plant.{PlantState}
-use Rattle.plant_core.specs.declared.change.Change.{Change}
+use Rattle.plant_core.specs.declared.change.Group.{Group}
 use Rattle.gtt_editions.specs.Editions.{Edition, edition_of, edition_after_all}
 use Rattle.gtt_editions.specs.Published.{Published, published, nothing, Begins}
 
@@ -36,9 +36,9 @@ pub record IsOpenedOn (plant : PlantState) (p : Publishing) : Type 0 where
   pub seen : p.seen ≡ nothing
   pub fresh : p.spent ≡ false
 
--- a change more is published
-abbrev pub with_change : Publishing → Change → Publishing
-with_change p change = record p { seen = published (p.seen.changes ++ change ∷ []) false }
+-- a group of changes more is published
+abbrev pub with_change : Publishing → Group → Publishing
+with_change p group = record p { seen = published (p.seen.changes ++ group ∷ []) false }
 
 -- the end of what this publisher published
 pub record IsEndOf (p : Publishing) (ended : Standing) : Type 0 where

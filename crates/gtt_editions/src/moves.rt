@@ -1,5 +1,5 @@
 //! What a reader and the writer do, under the rule.
-ghost use Rattle.std.specs.Prelude.{◌≡◌, [], false, drop, OnOk, OnErr};
+ghost use Rattle.std.specs.Prelude.{◌≡◌, [], ◌∷◌, false, drop, OnOk, OnErr};
 ghost use Rattle.left_right.specs.Sides.{view};
 ghost use Rattle.gtt_editions.specs.Marked.{shown_by};
 ghost use Rattle.gtt_editions.specs.Rule.{Seen, IsCurrent, IsGoing, HasOpened, HasPublished};
@@ -33,6 +33,18 @@ pub fn enter<R: Wait>(rt: &R, reader: PlaceReader) -> PlaceReading
     unreachable!()
 }
 
+/// The writer has a step to publish.
+fn append(writer: &mut PlantWriter, step: Step) -> Result<(), AllocError>
+    requires { drop writer.old.behind writer.old.log.items ≡ [] }
+    ensures desk { writer.new.desk ≡ writer.old.desk }
+    ensures pending { OnOk result (drop writer.new.behind writer.new.log.items ≡ step ∷ []) }
+{
+    match writer.append(step) {
+        Ok(()) => Ok(()),
+        Err(_) => Err(AllocError),
+    }
+}
+
 /// The publisher notes the edition at the opening.
 pub fn note_opening<R: Wait>(
     rt: &R,
@@ -46,9 +58,9 @@ pub fn note_opening<R: Wait>(
         OnOk result.1 (HasOpened shown (view new.place) (shown_by new.shown.value)) }
     ensures settled { OnOk result.1 (drop result.0.behind result.0.log.items ≡ []) }
 {
-    match writer.append(Step::Open) {
+    match append(&mut writer, Step::Open) {
         Ok(()) => writer.publish_as::<Opens, R>(rt),
-        Err(_) => (writer, Err(AllocError)),
+        Err(refused) => (writer, Err(refused)),
     }
 }
 
@@ -68,9 +80,9 @@ fn published_in<R: Wait>(
     ensures err { OnErr result.1 (view result.0.desk.place ≡ view writer.desk.place) }
     ensures kept { OnErr result.1 (result.0.desk.shown.value ≡ writer.desk.shown.value) }
 {
-    match writer.append(step) {
+    match append(&mut writer, step) {
         Ok(()) => writer.publish_as::<Sees, R>(rt),
-        Err(_) => (writer, Err(AllocError)),
+        Err(refused) => (writer, Err(refused)),
     }
 }
 

@@ -8,8 +8,8 @@ use crate::moves::{PlaceReader, PlantWriter, publish};
 use crate::place::Place;
 use crate::rule::Notes;
 use crate::step::Step;
-use crate::store::Store;
-use plant_core::Change;
+use crate::store::{Store, copied};
+use plant_core::Group;
 use relay_base::Memory;
 use std::marker::Model;
 use std::sync::Wait;
@@ -29,7 +29,7 @@ impl<'p> Model for Notice<'p> {
     ghost view = { λ n. list_of (shown_by n.store.now) };
 }
 
-/// Publishes changes. To a contract it is the edition at the opening, what is published, and whether memory was refused to it.
+/// Publishes groups of changes. To a contract it is the edition at the opening, what is published, and whether memory was refused to it.
 pub struct Publisher<'r, R: Wait> {
     pub(crate) rt: &'r R,
     pub(crate) writer: PlantWriter,
@@ -121,11 +121,12 @@ impl<'r, R: Wait> Publisher<'r, R> {
         }
     }
 
-    /// Publishes a change, and gives the number of the new edition. A change that doesn't alter the routing data raises the number alone.
+    /// Publishes a group of changes, whole, and gives the number of the new edition: no look shows a part of it. A group that doesn't alter
+    /// the routing data raises the number alone.
     /// It may wait for looks to end. After `Memory` what is published is as before, and each later call here and of `end` answers `Memory`.
-    pub fn publish(&mut self, change: &Change) -> Result<u64, Memory>
+    pub fn publish(&mut self, group: &Group) -> Result<u64, Memory>
         requires { self.old.opened.number + length self.old.seen.changes < 2 ^ 64 - 1 }
-        ensures ok { OnOk result (self.new ≡ with_change self.old change.now) }
+        ensures ok { OnOk result (self.new ≡ with_change self.old group.now) }
         ensures err { OnErr result (self.new ≡ record self.old { spent = true }) }
         ensures edition { IfOk result (λ number.
             number ≡ self.new.opened.number + length self.new.seen.changes) }
@@ -135,9 +136,9 @@ impl<'r, R: Wait> Publisher<'r, R> {
             return Err(Memory);
         }
         self.spent = true;
-        // Either copy has room for the change before the first one has it.
-        publish(self.rt, &mut self.writer, Step::Room)?;
-        publish(self.rt, &mut self.writer, Step::Change(*change))?;
+        // Either copy has room for the group before the first one has it.
+        publish(self.rt, &mut self.writer, Step::Room(copied(group)?))?;
+        publish(self.rt, &mut self.writer, Step::Change(copied(group)?))?;
         self.spent = false;
         Ok(self.writer.published().plant.edition())
     }

@@ -1,14 +1,15 @@
 //! What is published.
-use plant_core::Change;
+use plant_core::Group;
 
 /// One step of what is published.
-#[derive(Clone, Copy)]
+#[derive(Drop)]
 pub enum Step {
     /// From now on the publisher knows the edition at the opening.
     Open,
-    /// Each copy takes memory for the next change.
-    Room,
-    Change(Change),
+    /// Each copy takes memory for the next group of changes, which is this one.
+    Room(Group),
+    /// A group of changes, whole.
+    Change(Group),
     /// Nothing is published after it.
     End,
 }

@@ -1,21 +1,20 @@
 //! The value of which there are two copies.
-ghost use Rattle.std.specs.Prelude.{◌≡◌, ◌++◌, List, length, true, IsTrue};
-ghost use Rattle.plant_core.specs.declared.change.Change.{Change};
+ghost use Rattle.std.specs.Prelude.{◌≡◌, ◌++◌, List, length, true, IsTrue, IfOk};
+ghost use Rattle.plant_core.specs.declared.change.Group.{Group};
 ghost use Rattle.gtt_editions.specs.Published.{Begins};
 ghost use Rattle.gtt_editions.specs.Marked.{list_of, shown_by};
 
 use crate::step::Step;
 use crate::view::Common;
 use left_right::Absorb;
-use plant_core::{Change, Plant};
+use plant_core::{Group, Plant};
 use std::alloc::AllocError;
-use std::slice;
 
-/// The routing data, with the changes since the opening.
+/// The routing data, with the groups of changes since the opening.
 #[derive(Drop)]
 pub struct Store {
     pub plant: Plant,
-    pub changes: Vec<Change>,
+    pub changes: Vec<Group>,
     pub opened: bool,
     pub ended: bool,
 }
@@ -35,8 +34,8 @@ impl Absorb<Step> for Store {
                 self.opened = true;
                 Ok(())
             }
-            Step::Room => self.make_room(),
-            Step::Change(change) => self.absorb_change(change),
+            Step::Room(group) => self.make_room(group),
+            Step::Change(group) => self.absorb_group(group),
             Step::End => {
                 self.ended = true;
                 Ok(())
@@ -45,11 +44,21 @@ impl Absorb<Step> for Store {
     }
 
     fn absorb_second(&mut self, operation: Step, other: &Store) -> Result<(), Step> {
-        match self.absorb_first(&operation, other) {
-            Ok(()) => Ok(()),
-            Err(_) => Err(operation),
+        match operation {
+            Step::Change(group) => self.take_group(group),
+            step => match self.absorb_first(&step, other) {
+                Ok(()) => Ok(()),
+                Err(_) => Err(step),
+            },
         }
     }
+}
+
+/// An equal group.
+pub fn copied(group: &Group) -> Result<Group, AllocError>
+    ensures { IfOk result (λ copy. copy ≡ group.now) }
+{
+    group.clone()
 }
 
 impl Store {
@@ -58,37 +67,48 @@ impl Store {
     ghost use Rattle.gtt_editions.specs.Marked.{marked};
     ghost use Rattle.gtt_editions.specs.declared.step.Step.TheVariants as step;
 
-    /// Takes memory for the next change, which changes nothing that is shown.
-    fn make_room(&mut self) -> Result<(), AllocError>
+    /// Takes memory for a group, which changes nothing that is shown.
+    fn make_room(&mut self, group: &Group) -> Result<(), AllocError>
         ensures { shown_by self.new ≡ shown_by self.old }
     {
         self.changes.reserve(1)?;
-        match self.plant.make_room() {
+        match self.plant.make_room(group) {
             Ok(()) => Ok(()),
             Err(_) => Err(AllocError),
         }
     }
 
-    fn absorb_change(&mut self, change: &Change) -> Result<(), AllocError>
+    /// Makes the changes of a group and keeps it, without memory where room was made for it. A group that is refused comes back.
+    fn take_group(&mut self, group: Group) -> Result<(), Step>
         ensures { MatchResult result
-            (λ _. shown_by self.new ≡ marked (shown_by self.old) (step.Change change.now))
+            (λ _. shown_by self.new ≡ marked (shown_by self.old) (step.Change group))
+            (λ back. (back ≡ step.Change group) × (shown_by self.new ≡ shown_by self.old)) }
+    {
+        if self.plant.edition() == u64::MAX || self.changes.reserve(1).is_err() {
+            return Err(Step::Change(group));
+        }
+        if self.plant.absorb(&group).is_err() {
+            return Err(Step::Change(group));
+        }
+        self.changes.push_reserved(group);
+        Ok(())
+    }
+
+    /// The same by a copy of the group.
+    fn absorb_group(&mut self, group: &Group) -> Result<(), AllocError>
+        ensures { MatchResult result
+            (λ _. shown_by self.new ≡ marked (shown_by self.old) (step.Change group.now))
             (λ _. shown_by self.new ≡ shown_by self.old) }
     {
-        if self.plant.edition() == u64::MAX {
-            return Err(AllocError);
+        match self.take_group(copied(group)?) {
+            Ok(()) => Ok(()),
+            Err(_) => Err(AllocError),
         }
-        let count = self.changes.len();
-        self.changes.extend_from_slice(slice::from_ref(change))?;
-        if self.plant.absorb(change).is_err() {
-            self.changes.truncate(count);
-            return Err(AllocError);
-        }
-        Ok(())
     }
 
     fn has_beginning(&self, short: &Store) -> bool
         ensures { IsTrue result →
-            (rest : List Change) × (self.now.changes.items ≡ short.now.changes.items ++ rest) }
+            (rest : List Group) × (self.now.changes.items ≡ short.now.changes.items ++ rest) }
     {
         self.changes
             .as_slice()

@@ -1,17 +1,16 @@
 -- Lists of the same rows under distinct keys answer alike, in whatever order they are.
-use Rattle.std.proofs.Common.{◌≡◌, ℕ, zero, suc, ◌+◌, ◌<◌, ◌≤◌, List, [], ◌∷◌, ◌++◌, length, take, get_or, Bool, true, false, not, find, filter, All, refl, sym, ap, ap₂, ◌∙◌, arith, subst, cond, Option, None, Some, inl, inr, take_all, length-append, length-take}
+use Rattle.std.proofs.Common.{◌≡◌, ℕ, zero, suc, ◌<◌, ◌≤◌, List, [], ◌∷◌, length, take, get_or, Bool, true, false, not, find, filter, All, refl, sym, ap, ap₂, ◌∙◌, arith, subst, cond, Option, None, Some, inl, inr}
 use Rattle.std.specs.Prelude.{◌&&◌, ◌||◌, nat_eq, Contains}
 use Rattle.std.specs.List.{list_any, starts_with, remove}
 use Rattle.std.specs.Cmp.Lexicographic.{same_text}
 use Rattle.std.proofs.lemmas.Bool.Decides.{leb_tells}
 use Rattle.std.proofs.lemmas.Cmp.{nat_list_eq_equiv}
-use Rattle.std.proofs.lemmas.List.{get_or_default, take-append-le}
+use Rattle.std.proofs.lemmas.List.{get_or_default}
 use Rattle.std.proofs.lemmas.List.Elements.{All-contains, All-head, All-tail, All-filter, filter_passes}
-use lib.Pointwise.{pointwise}
 use Rattle.sccp_address.specs.declared.address.Selector.{Selector}
 use Rattle.gtt_table.specs.declared.row.Row.{Row}
 use Rattle.gtt_table.specs.Rows.{is_same_selector, has_key, is_match, HasDistinctKeys, without}
-use Rattle.gtt_table.specs.Translation.{longest_match, longer}
+use Rattle.gtt_table.specs.Translation.{longest_match, has_selector}
 use Rattle.gtt_table.proofs.RowLemmas.{find-none}
 use Rattle.gtt_table.proofs.KeyLemmas.{same_key, other_key, fails_at, both}
 use Rattle.gtt_table.proofs.LongestLemmas.{longest_match-longest, IsBest, IsBest-longest_match}
@@ -86,7 +85,8 @@ find_same selector prefix xs ys h sub sup = by_found (find (has_key selector pre
         let there = found_there (has_key selector prefix) xs a e in
         e ∙ sym (found_is selector prefix ys a h (All-contains (Contains ys) xs a sub there.0) there.1)
 
-begins : (digits p : List ℕ) → starts_with nat_eq digits p ≡ true → p ≡ take (length p) digits
+-- a prefix of digits is their front
+pub begins : (digits p : List ℕ) → starts_with nat_eq digits p ≡ true → p ≡ take (length p) digits
 begins digits p h = same_text p (take (length p) digits) (sym h)
 
 matching_key : (selector : Selector) (digits : List ℕ) (row : Row) → is_match selector digits row ≡ true → has_key selector row.prefix row ≡ true
@@ -136,79 +136,6 @@ longest_same selector digits xs ys h sub sup = by_best (longest_match selector d
         e ∙ sym (longest_is selector digits ys a h (All-contains (Contains ys) xs a sub best.present) best.matches
         (carried (λ x. is_match selector digits x ≡ true → length x.prefix ≤ length a.prefix) ys xs sup best.longest))
 
--- the row under all digits is their longest match
-pub longest_here : (selector : Selector) (digits : List ℕ) (rows : List Row) (a : Row) → HasDistinctKeys rows → find (has_key selector digits) rows ≡ Some a
-    → longest_match selector digits rows ≡ Some a
-longest_here selector digits rows a h e =
-    let there = found_there (has_key selector digits) rows a e in
-    let parts = both (is_same_selector a.selector selector) (pointwise nat_eq a.prefix digits) there.1 in
-    let all : a.prefix ≡ digits = same_text a.prefix digits (sym parts.1) in
-    let whole : take (length a.prefix) digits ≡ a.prefix = ap (λ p. take (length p) digits) all ∙ take_all (length digits) digits (omega arith) ∙ sym all in
-    let matches : is_match selector digits a ≡ true = ap₂ (λ x y. x && y) parts.0 (ap (pointwise nat_eq a.prefix) whole ∙ nat_list_eq_equiv.refl a.prefix) in
-    longest_is selector digits rows a h there.0 matches (λ k d below m.
-    let other = both (is_same_selector (get_or rows k d).selector selector) (starts_with nat_eq digits (get_or rows k d).prefix) m in
-    let short = ap length (begins digits (get_or rows k d).prefix other.1) ∙ length-take (length (get_or rows k d).prefix) digits in
-    omega (arith, short, ap length all))
-
-fewer_match : (selector : Selector) (digits fewer : List ℕ) (d : ℕ) (row : Row) → digits ≡ fewer ++ d ∷ [] → has_key selector digits row ≡ false
-    → is_match selector digits row ≡ is_match selector fewer row
-fewer_match selector digits fewer d row e h = by_selector (is_same_selector row.selector selector) refl
-  where
-    size : length digits ≡ length fewer + 1
-    size = ap length e ∙ length-append fewer (d ∷ [])
-
-    by_prefix : is_same_selector row.selector selector ≡ true → (b : Bool) → starts_with nat_eq digits row.prefix ≡ b → (b' : Bool) → starts_with nat_eq fewer row.prefix ≡ b'
-        → starts_with nat_eq digits row.prefix ≡ starts_with nat_eq fewer row.prefix
-    by_prefix same true t true t' = t ∙ sym t'
-    by_prefix same false t false t' = t ∙ sym t'
-    by_prefix same true t false t' =
-        let is = begins digits row.prefix t in
-        elim (leb_tells (length row.prefix) (length fewer)) [
-          | inl short ↦ (
-              let cut : take (length row.prefix) digits ≡ take (length row.prefix) fewer = ap (take (length row.prefix)) e ∙ take-append-le (length row.prefix) fewer (d ∷ []) short.1 in
-              t ∙ sym t ∙ ap (pointwise nat_eq row.prefix) cut)
-          | inr long ↦ (
-              let whole : take (length row.prefix) digits ≡ digits = take_all (length row.prefix) digits (omega (arith, size, long.1)) in
-              let key : has_key selector digits row ≡ true = ap₂ (λ x y. x && y) same (sym (ap (pointwise nat_eq row.prefix) whole) ∙ t) in
-              let no : true ≡ false = sym key ∙ h in cc)
-        ]
-    by_prefix same false t true t' =
-        let is = begins fewer row.prefix t' in
-        let short = ap length is ∙ length-take (length row.prefix) fewer in
-        let cut : take (length row.prefix) digits ≡ take (length row.prefix) fewer =
-        ap (take (length row.prefix)) e ∙ take-append-le (length row.prefix) fewer (d ∷ []) (omega (arith, short)) in
-        ap (pointwise nat_eq row.prefix) cut
-
-    by_selector : (b : Bool) → is_same_selector row.selector selector ≡ b → is_match selector digits row ≡ is_match selector fewer row
-    by_selector true same = ap (λ t. is_same_selector row.selector selector && t) (by_prefix same (starts_with nat_eq digits row.prefix) refl (starts_with nat_eq fewer row.prefix) refl)
-    by_selector false other = ap (λ b. b && starts_with nat_eq digits row.prefix) other ∙ sym (ap (λ b. b && starts_with nat_eq fewer row.prefix) other)
-
--- where no row stands under all digits, the longest match is that of all but the last
-pub longest_fewer : (selector : Selector) (digits fewer : List ℕ) (d : ℕ) (rows : List Row) → digits ≡ fewer ++ d ∷ [] → All (λ row. has_key selector digits row ≡ false) rows
-    → longest_match selector digits rows ≡ longest_match selector fewer rows
-longest_fewer selector digits fewer d [] e h = refl
-longest_fewer selector digits fewer d (row ∷ rows) e h =
-    ap₂ (λ b o. longer (cond b (Some row) None) o) (fewer_match selector digits fewer d row e (All-head (λ x. has_key selector digits x ≡ false) row rows h))
-    (longest_fewer selector digits fewer d rows e (All-tail (λ x. has_key selector digits x ≡ false) row rows h))
-
--- no digits are begun by the empty prefix alone
-pub longest_none : (selector : Selector) (rows : List Row) → All (λ row. has_key selector [] row ≡ false) rows → longest_match selector [] rows ≡ None
-longest_none selector rows h = no_match selector [] rows (λ k d below. empty_match (get_or rows k d) (h k d below))
-  where
-    and_false : (b : Bool) → (b && false) ≡ false
-    and_false true = refl
-    and_false false = refl
-
-    by_prefix : (row : Row) (p : List ℕ) → row.prefix ≡ p → has_key selector [] row ≡ false → is_match selector [] row ≡ false
-    by_prefix row [] same e =
-        ap (λ p. is_same_selector row.selector selector && pointwise nat_eq p (take (length p) [])) same
-        ∙ sym (ap (λ p. is_same_selector row.selector selector && pointwise nat_eq p []) same) ∙ e
-    by_prefix row (x ∷ p) same e =
-        ap (λ p. is_same_selector row.selector selector && pointwise nat_eq p (take (length p) [])) same ∙ and_false (is_same_selector row.selector selector)
-
-    empty_match : (row : Row) → has_key selector [] row ≡ false → is_match selector [] row ≡ false
-    empty_match row e = by_prefix row row.prefix refl e
-
 filter_keeps : {X : Type 0} (test : X → Bool) (xs : List X) (y : X) → Contains xs y → test y ≡ true → Contains (filter test xs) y
 filter_keeps test [] y c t = absurd (omega (arith, c.1))
 filter_keeps test (x ∷ xs) y (zero, below, e) t = rw (ap test e ∙ t) (zero, omega arith, e)
@@ -253,3 +180,10 @@ some_any test (x ∷ xs) (suc k) d below t = rw (some_any test xs k d (omega (ar
     or_true : (b : Bool) → (b || true) ≡ true
     or_true true = refl
     or_true false = refl
+
+-- where there is a longest match, a row has the selector
+pub match_has_selector : (selector : Selector) (digits : List ℕ) (rows : List Row) (row : Row) → Some row ≡ longest_match selector digits rows → has_selector selector rows ≡ true
+match_has_selector selector digits rows row e =
+    let best = longest_match-longest selector digits rows row e in
+    let parts = both (is_same_selector row.selector selector) (starts_with nat_eq digits row.prefix) best.matches in
+    some_any (λ x. is_same_selector x.selector selector) rows best.present.0 row best.present.1 (ap (λ (x : Row). is_same_selector x.selector selector) best.present.2 ∙ parts.0)

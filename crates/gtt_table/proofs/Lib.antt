@@ -3,4 +3,6 @@ pub mod KeyLemmas
 pub mod LongestLemmas
 pub mod OrderLemmas
 pub mod KeptLemmas
+pub mod PrefixLemmas
+pub mod UptoLemmas
 pub mod TableLemmas

@@ -9,7 +9,7 @@ use Rattle.std.specs.Cmp.Lexicographic.{slice_cmp}
 use Rattle.std.specs.declared.cmp.Ordering.{Ordering}
 use Rattle.std.specs.declared.cmp.Ordering.TheVariants.{Less, Equal, Greater}
 use Rattle.std.specs.Ordering.{nat_cmp, ordering_then, ordering_reverse, ordering_index, is_lt, is_eq}
-use Rattle.std.proofs.lemmas.Cmp.{nat_cmp_total, nat_list_cmp_total, then_total, on_total}
+use Rattle.std.proofs.lemmas.Cmp.{nat_cmp_total, nat_list_cmp_total, then_total, on_total, tied_itself}
 use Rattle.std.proofs.lemmas.List.Sorted.{searchable_from_sorted}
 use Rattle.std.proofs.lemmas.Bool.Decides.{leb_tells}
 use Rattle.std.proofs.lemmas.List.Elements.{All-head, All-tail, All-cons, All-append, All-take, All-weaker}
@@ -22,7 +22,7 @@ use Rattle.gtt_table.specs.Translation.{has_selector}
 use Rattle.gtt_table.specs.Inner.Order.{selector_cmp, row_cmp, IsOrdered}
 use Rattle.gtt_table.proofs.KeptLemmas.{none_any, some_any}
 
-same_number : (a b : ℕ) → (a == b) ≡ is_eq (nat_cmp a b)
+pub same_number : (a b : ℕ) → (a == b) ≡ is_eq (nat_cmp a b)
 same_number a b = grind arith
 
 same_both : (o p : Ordering) → (is_eq o && is_eq p) ≡ is_eq (ordering_then o p)
@@ -53,7 +53,7 @@ same_key_cmp selector prefix row =
     ap₂ (λ a b. a && b) (same_selector row.selector selector) (same_list row.prefix prefix)
     ∙ same_both (selector_cmp row.selector selector) (slice_cmp nat_cmp row.prefix prefix)
 
-selector_total : IsTotalOrder selector_cmp
+pub selector_total : IsTotalOrder selector_cmp
 selector_total =
     then_total (then_total (then_total (on_total (λ (s : Selector). s.gti) nat_cmp_total) (on_total (λ (s : Selector). s.tt) nat_cmp_total))
     (on_total (λ (s : Selector). s.np) nat_cmp_total)) (on_total (λ (s : Selector). s.nai) nat_cmp_total)
@@ -67,6 +67,10 @@ key_of row = (row.selector, row.prefix)
 key_total : IsTotalOrder key_cmp
 unfolding key_cmp
 key_total = then_total (on_total (λ (k : Selector × List ℕ). k.0) selector_total) (on_total (λ (k : Selector × List ℕ). k.1) nat_list_cmp_total)
+
+pub tied_row : (row : Row) → row_cmp row.selector row.prefix row ≡ Equal
+unfolding key_cmp key_of key_total
+tied_row row = tied_itself key_total (key_of row)
 
 not_less : (o p : Ordering) → o ≡ ordering_reverse p → p ≡ Less → is_lt o ≡ false
 not_less o p h e = rw (h, e) refl
@@ -116,7 +120,7 @@ pairs_append R (x ∷ xs) ys h k between =
     AllPairs-cons R x (xs ++ ys) (All-append (R x) xs ys (λ j d below. h 0 (suc j) d (omega arith) (omega (arith, below))) (All-head (λ x. All (R x) ys) x xs between))
     (pairs_append R xs ys (λ i j d before below. h (suc i) (suc j) d (omega (arith, before)) (omega (arith, below))) k (All-tail (λ x. All (R x) ys) x xs between))
 
-pairs_take : {X : Type 0} (R : X → X → Type 0) (n : ℕ) (xs : List X) → AllPairs R xs → AllPairs R (take n xs)
+pub pairs_take : {X : Type 0} (R : X → X → Type 0) (n : ℕ) (xs : List X) → AllPairs R xs → AllPairs R (take n xs)
 pairs_take R zero xs h = λ i j d before below. absurd (omega (arith, below))
 pairs_take R (suc n) [] h = h
 pairs_take R (suc n) (x ∷ xs) h =

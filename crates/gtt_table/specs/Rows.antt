@@ -5,10 +5,10 @@ use lib.Pointwise.{pointwise}
 use Rattle.sccp_address.specs.declared.address.Selector.{Selector}
 use Rattle.gtt_table.specs.declared.row.Row.{Row}
 
--- what a table holds: its rows, and whether one more can be added without memory
+-- what a table holds: its rows, and how many more can be added without memory
 pub record Rows : Type 0 where
   pub rows : List Row
-  pub has_room : Bool
+  pub room : ℕ
 
 abbrev pub is_same_selector : Selector → Selector → Bool
 is_same_selector s t = s.gti == t.gti && s.tt == t.tt && s.np == t.np && s.nai == t.nai

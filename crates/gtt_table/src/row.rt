@@ -1,6 +1,6 @@
 //! A row of the translation.
 ghost use Rattle.std.specs.Prelude.{◌≡◌};
-ghost use Rattle.gtt_table.specs.Rows.{has_key};
+ghost use Rattle.gtt_table.specs.Rows.{has_key, is_same_selector};
 ghost use Rattle.gtt_table.specs.Inner.Order.{row_cmp};
 
 use crate::search::selector_order;
@@ -30,7 +30,14 @@ impl Row {
     pub fn has_key(&self, selector: &Selector, prefix: &Digits) -> bool
         ensures { result ≡ has_key selector.now prefix.now self.now }
     {
-        self.selector == *selector && self.prefix.as_slice() == prefix.as_slice()
+        self.has_selector(selector) && self.prefix.as_slice() == prefix.as_slice()
+    }
+
+    /// Whether the row has this selector.
+    pub(crate) fn has_selector(&self, selector: &Selector) -> bool
+        ensures { result ≡ is_same_selector self.now.selector selector.now }
+    {
+        self.selector == *selector
     }
 
     /// Where the row stands to a selector and a prefix: rows stand by selector, and then by prefix.

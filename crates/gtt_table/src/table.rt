@@ -1,9 +1,8 @@
 //! The table of rows.
-ghost use Rattle.std.specs.Prelude.{◌≡◌, ◌+◌, ◌∷◌, [], ◌++◌, true, false, ◌<◌, length, vec_len, IsTrue, IsOk, IfOk, OnOk, OnErr, Some, find};
+ghost use Rattle.std.specs.Prelude.{◌≡◌, ◌+◌, ◌∷◌, [], ◌++◌, true, false, ◌<◌, ◌≤◌, length, IsOk, IfOk, OnOk, OnErr, Some, find};
 ghost use Rattle.std.specs.Option.{option_copied};
 ghost use Rattle.gtt_table.specs.Rows.{has_key, has_row, without, HasDistinctKeys};
 ghost use Rattle.gtt_table.specs.Translation.{seen_look, IfRow, IsLongestMatch, longer, longest_match, has_selector, translation_of};
-ghost use Rattle.std.specs.Vec.{vec_capacity};
 ghost use Rattle.gtt_table.specs.Adding.{add_refusal, Refuses, HasMemory};
 
 use crate::row::Row;
@@ -14,7 +13,7 @@ use sccp_address::Selector;
 use std::alloc::Global;
 use std::marker::Model;
 
-/// Rows of which no two have one selector and one prefix, at most 4,096. Memory for one more can be taken first.
+/// Rows of which no two have one selector and one prefix, at most 4,096. Memory for more can be taken first.
 /// A clause sees them in the order in which they were added.
 #[derive(Drop)]
 pub struct Table {
@@ -25,7 +24,7 @@ pub struct Table {
 }
 
 impl Model for Table {
-    ghost use Rattle.std.specs.Prelude.{nat_lt, vec_len};
+    ghost use Rattle.std.specs.Prelude.{◌-◌, vec_len};
     ghost use Rattle.std.specs.Vec.{vec_capacity};
     ghost use Rattle.gtt_table.specs.Rows.{Rows};
     ghost use Rattle.gtt_table.specs.Inner.Order.{AreKept};
@@ -34,7 +33,7 @@ impl Model for Table {
 
     ghost view = { λ t. record {
       rows = t.added.value;
-      has_room = nat_lt (vec_len t.rows) (vec_capacity t.rows);
+      room = vec_capacity t.rows - vec_len t.rows;
     } };
 
     ghost invariant = { λ t. AreKept t.rows.items t.added.value };
@@ -92,12 +91,23 @@ impl Table {
         })
     }
 
-    /// Takes memory for one more row.
-    pub fn make_room(&mut self) -> Result<(), Memory>
-        ensures rows { self.new.rows ≡ self.old.rows }
-        ensures room { OnOk result (IsTrue self.new.has_room) }
+    /// How many rows there are.
+    pub fn len(&self) -> usize
+        ensures value { result ≡ length self.now.rows }
+        ensures distinct { HasDistinctKeys self.now.rows }
     {
-        self.rows.reserve(1)?;
+        self.rows.len()
+    }
+
+    /// Takes memory for so many more rows.
+    pub fn make_room(&mut self, rows: usize) -> Result<(), Memory>
+        ensures rows { self.new.rows ≡ self.old.rows }
+        ensures room { OnOk result (rows ≤ self.new.room) }
+        ensures memory { rows ≤ self.old.room → IsOk result }
+    {
+        if rows > 0 {
+            self.rows.reserve(rows)?;
+        }
         Ok(())
     }
 
@@ -130,7 +140,8 @@ impl Table {
         ensures ok { OnOk result (self.new.rows ≡ self.old.rows ++ row ∷ []) }
         ensures err { OnErr result (self.new.rows ≡ self.old.rows) }
         ensures refusal { Refuses result (add_refusal self.old.rows row) }
-        ensures memory { IsTrue self.old.has_room → HasMemory result }
+        ensures room { OnOk result (self.old.room ≤ self.new.room + 1) }
+        ensures memory { 0 < self.old.room → HasMemory result }
     {
         if let Some(fault) = self.refusal(&row) {
             return Err(fault);
@@ -146,7 +157,8 @@ impl Table {
         requires { has_row row.selector row.prefix self.old.rows ≡ false }
         ensures ok { OnOk result (self.new.rows ≡ self.old.rows ++ row ∷ []) }
         ensures err { OnErr result (self.new.rows ≡ self.old.rows) }
-        ensures memory { IsTrue self.old.has_room → IsOk result }
+        ensures room { OnOk result (self.old.room ≤ self.new.room + 1) }
+        ensures memory { 0 < self.old.room → IsOk result }
     {
         let Err(at) = place(&self.rows, &row.selector, row.prefix.as_slice()) else {
             unreachable!()
@@ -165,6 +177,7 @@ impl Table {
         ensures one { OnOk result (length self.new.rows + 1 ≡ length self.old.rows) }
         ensures err { OnErr result (has_row selector.now prefix.now self.old.rows ≡ false) }
         ensures same { OnErr result (self.new.rows ≡ self.old.rows) }
+        ensures room { self.old.room ≤ self.new.room }
     {
         let Ok(at) = place(&self.rows, selector, prefix.as_slice()) else {
             return Err(NoSuchRow);
@@ -219,12 +232,13 @@ impl Table {
         ensures value { seen_look result ≡ translation_of self.now.rows selector.now digits.now }
         ensures longest { IfRow result (IsLongestMatch self.now.rows selector.now digits.now) }
     {
-        if !self.has_selector(selector) {
-            return Look::NoSelector;
+        if let Some(row) = self.longest_match(selector, digits) {
+            return Look::Row(row);
         }
-        match self.longest_match(selector, digits) {
-            Some(row) => Look::Row(row),
-            None => Look::NoPrefix,
+        if self.has_selector(selector) {
+            Look::NoPrefix
+        } else {
+            Look::NoSelector
         }
     }
 }

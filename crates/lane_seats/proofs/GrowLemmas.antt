@@ -6,7 +6,7 @@ use Rattle.std.specs.List.{AllByRecursion}
 use Rattle.relay_base.specs.declared.words.Event.{Event}
 use Rattle.relay_base.specs.declared.words.Stamp.{Stamp}
 use Rattle.plant_core.specs.Asking.{Question, asked_at}
-use Rattle.plant_core.specs.declared.change.Change.{Change}
+use Rattle.plant_core.specs.declared.change.Group.{Group}
 use Rattle.plant_core.specs.declared.terms.LaneHead.{LaneHead}
 use Rattle.plant_core.specs.declared.entry.Entry.{Entry}
 use Rattle.plant_core.specs.declared.entry.ControlEntry.{ControlEntry}
@@ -21,14 +21,14 @@ use Rattle.lane_seats.specs.Seats.{SeatKind, Seated, Takes, GoneOn, IsSeenEntry}
 use Rattle.lane_seats.specs.Controls.{ControlSeatState, ControlTakes, ControlGoneOn, IsUnchanged}
 use Rattle.lane_seats.proofs.SeenLemmas.{pairs_push, routed_later, routed_more, rising_more}
 
--- ---- looks and published changes, one after the other
+-- ---- looks and published groups of changes, one after the other
 
 pub looks_on : (r s t : Standing) → LooksFrom r s → LooksFrom s t → LooksFrom r t
 looks_on r s t a b = record {
   opened = b.opened ∙ a.opened;
   seen = record {
     rest = a.seen.rest ++ b.seen.rest;
-    longer = b.seen.longer ∙ (ap (λ (l : List Change). l ++ b.seen.rest) a.seen.longer ∙ append_assoc r.seen.changes a.seen.rest b.seen.rest);
+    longer = b.seen.longer ∙ (ap (λ (l : List Group). l ++ b.seen.rest) a.seen.longer ∙ append_assoc r.seen.changes a.seen.rest b.seen.rest);
     closed = λ ended. let one : s.seen ≡ r.seen = a.seen.closed ended in b.seen.closed (ap (λ p. p.ended) one ∙ ended) ∙ one;
   };
 }
@@ -40,14 +40,14 @@ pub looked_no_less : (s t : Standing) → LooksFrom s t → (newest_of s).number
 looked_no_less s t looks =
     omega (arith, ap (λ o. o.number) looks.opened, ap length looks.seen.longer, length-append s.seen.changes looks.seen.rest)
 
-pub grow_on : (a b c x y z : List Change) → GrowAlike a b x y → GrowAlike b c y z → GrowAlike a c x z
+pub grow_on : (a b c x y z : List Group) → GrowAlike a b x y → GrowAlike b c y z → GrowAlike a c x z
 grow_on a b c x y z g h = record {
   more = g.more ++ h.more;
-  here = h.here ∙ (ap (λ (l : List Change). l ++ h.more) g.here ∙ append_assoc a g.more h.more);
-  there = h.there ∙ (ap (λ (l : List Change). l ++ h.more) g.there ∙ append_assoc x g.more h.more);
+  here = h.here ∙ (ap (λ (l : List Group). l ++ h.more) g.here ∙ append_assoc a g.more h.more);
+  there = h.there ∙ (ap (λ (l : List Group). l ++ h.more) g.there ∙ append_assoc x g.more h.more);
 }
 
-pub grow_none : (a x : List Change) → GrowAlike a a x x
+pub grow_none : (a x : List Group) → GrowAlike a a x x
 grow_none a x = record { more = []; here = sym (append-nil a); there = sym (append-nil x) }
 
 -- ---- the pairs of a journal that grew

@@ -14,7 +14,7 @@ pub record ControlSeatState : Type 0 where
   pub lane : ControlState
   pub publisher : Publishing
 
--- what was published before the phase and in it is as many changes as the control lane published
+-- what was published before the phase and in it is as many groups of changes as the control lane published
 abbrev pub IsOpen : Publishing → ControlState → Type 0
 IsOpen p lane = p.opened.number + length p.seen.changes ≡ length (changes_by lane)
 

@@ -3,12 +3,12 @@ ghost use Rattle.std.specs.Prelude.{IfOk};
 ghost use Rattle.gtt_editions.specs.Standing.{IsEndOf};
 
 use gtt_editions::{Ended, Publisher};
-use plant_core::Change;
+use plant_core::Group;
 use relay_base::Memory;
 use scmg::Publish;
 use std::sync::Wait;
 
-/// Publishes the changes of the control lane to all lanes of a phase.
+/// Publishes the groups of changes of the control lane to all lanes of a phase.
 #[derive(Drop)]
 pub struct PhasePublisher<'r, R: Wait> {
     pub publisher: Publisher<'r, R>,
@@ -29,7 +29,7 @@ impl<'r, R: Wait> Publish for PhasePublisher<'r, R> {
 
     ghost published = { λ p. p.publisher.seen.changes };
 
-    fn publish(&mut self, change: &Change) -> Result<u64, Memory> {
-        self.publisher.publish(change)
+    fn publish(&mut self, group: &Group) -> Result<u64, Memory> {
+        self.publisher.publish(group)
     }
 }

@@ -45,12 +45,12 @@ total_less (suc n) f g i lt here others = dite (ℕ_discrete i n)
 conn_plain : (head : Head) (number : ℕ) (event : ControlEvent) → is_in (name.Conn number) (place_of head event) ≡ true → IsPlain event
 unfolding place_of
 conn_plain head number (Plain e) mine = tt
-conn_plain head number (Changing change) mine = let both : false ≡ true = mine in absurd (cc)
+conn_plain head number (Changing group) mine = let both : false ≡ true = mine in absurd (cc)
 
 data_plain : (head : Head) (number : ℕ) (event : ControlEvent) → is_in (name.Data number) (place_of head event) ≡ true → IsPlain event
 unfolding place_of
 data_plain head number (Plain e) mine = tt
-data_plain head number (Changing change) mine = let both : false ≡ true = mine in absurd (cc)
+data_plain head number (Changing group) mine = let both : false ≡ true = mine in absurd (cc)
 
 -- the lane can take an event that is placed in it
 can_take : (Own : Stamped → Type 0) (head : Head) (event : ControlEvent) (events : ℕ) (n : LaneName) (a b : PhaseLane) → 0 < events → is_in n (place_of head event) ≡ true → IsNamed n a → HasGoneOn Own a b → HasRoom events b → CanTake event b

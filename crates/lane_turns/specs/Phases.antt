@@ -1,7 +1,7 @@
 -- What the lanes of a phase do with its events.
 use Rattle.std.specs.Prelude.{◌≡◌, ◌+◌, ◌++◌, ◌<◌, ℕ, List, length, map}
 use Rattle.std.specs.List.{AllByRecursion}
-use Rattle.plant_core.specs.declared.change.Change.{Change}
+use Rattle.plant_core.specs.declared.change.Group.{Group}
 use Rattle.plant_core.specs.declared.entry.ControlEntry.{ControlEntry}
 use Rattle.gtt_editions.specs.Standing.{Publishing}
 use Rattle.data_lane.specs.Legal.{LaneState}
@@ -36,7 +36,7 @@ pub record GoesOn (head : Head) (lists : List Stamped) (old : ControlState) (fro
   pub own : AreWhole (planned in_control head lists) (control_pairs_of more)
   pub head_kept : new.head ≡ old.head
   pub start_kept : new.start ≡ old.start
-  pub published : List Change
+  pub published : List Group
   pub here : changes_by new ≡ changes_by old ++ published
   pub there : to.publisher.seen.changes ≡ from.publisher.seen.changes ++ published
   pub first : to.publisher.opened.number ≡ from.publisher.opened.number

@@ -1,5 +1,5 @@
 //! A lane of a phase takes an event.
-ghost use Rattle.std.specs.Prelude.{◌≡◌, ◌++◌, ◌<◌, length, vec_capacity, OnOk, OnErr};
+ghost use Rattle.std.specs.Prelude.{◌≡◌, option_to_list, OnOk, OnErr};
 ghost use Rattle.plant_core.specs.declared.entry.ControlEvent.TheVariants.{Plain};
 ghost use Rattle.lane_turns.specs.LaneStates.{Control, Conn, Data};
 ghost use Rattle.lane_turns.specs.Turns.{CanTake, IsPlain, TakesEvent, IsAsBefore};
@@ -102,21 +102,17 @@ impl<'r, R: Wait> PhaseLane<'r, R> {
         seat
     }
 
-    /// Another lane goes to those of its kind.
-    pub fn put(self, conns: &mut Vec<Seat<'r, R, ConnLane>>, units: &mut Vec<Seat<'r, R, DataLane>>)
-        requires seated { IsSeated self }
-        requires conns_room { length conns.old.items < vec_capacity conns.old }
-        requires units_room { length units.old.items < vec_capacity units.old }
-        ensures conns { conns.new.items ≡ conns.old.items ++ conn_of self.entry }
-        ensures conns_room { vec_capacity conns.new ≡ vec_capacity conns.old }
-        ensures units { units.new.items ≡ units.old.items ++ data_of self.entry }
-        ensures units_room { vec_capacity units.new ≡ vec_capacity units.old }
+    /// A connection lane or a data lane at its place, by its kind.
+    pub fn by_kind(self) -> (Option<Seat<'r, R, ConnLane>>, Option<Seat<'r, R, DataLane>>)
+        requires { IsSeated self }
+        ensures conn { option_to_list result.0 ≡ conn_of self.entry }
+        ensures unit { option_to_list result.1 ≡ data_of self.entry }
     {
         let Self { kind } = self;
         match kind {
             LaneKind::Control(_) => unreachable!(),
-            LaneKind::Conn(seat) => conns.push_reserved(seat),
-            LaneKind::Data(seat) => units.push_reserved(seat),
+            LaneKind::Conn(seat) => (Some(seat), None),
+            LaneKind::Data(seat) => (None, Some(seat)),
         }
     }
 }

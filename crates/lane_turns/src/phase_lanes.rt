@@ -1,5 +1,5 @@
 //! The lanes of a phase, each at its place.
-ghost use Rattle.std.specs.Prelude.{◌≡◌, ◌+◌, ◌++◌, ◌∷◌, [], ◌<◌, ◌≤◌, length, vec_capacity, All, IfOk};
+ghost use Rattle.std.specs.Prelude.{◌≡◌, ◌+◌, ◌++◌, ◌∷◌, [], ◌<◌, ◌≤◌, length, vec_capacity, option_to_list, All, IfOk};
 ghost use Rattle.std.specs.List.{flat_map};
 ghost use Rattle.capture_form.specs.Events.{phase_events};
 ghost use Rattle.lane_seats.specs.Controls.{IsOpen};
@@ -98,25 +98,26 @@ fn count<'r, R: Wait>(conns: &ConnSeatList<'r, R>, units: &DataSeatList<'r, R>) 
     conns.len() + units.len() + 1
 }
 
-/// A row of connection lanes and data lanes, behind which the control lane stands.
+/// A row of connection lanes and data lanes, behind which the control lane stands, in the memory of an empty one.
 fn in_row<'p, 'r, R: Wait>(
-    alloc: Global,
+    mut row: Vec<LaneTurn<'p, 'r, R>>,
     head: &'p Head,
     phase: &'p Phase,
     conns: ConnSeatList<'r, R>,
     units: DataSeatList<'r, R>,
     last: LaneTurn<'p, 'r, R>,
-) -> Result<Vec<LaneTurn<'p, 'r, R>>, Memory>
-    requires { let events = length (phase_events phase.now) in
+) -> Vec<LaneTurn<'p, 'r, R>>
+    requires empty { row.items ≡ [] }
+    requires reserved { length conns.items + length units.items + 1 ≤ vec_capacity row }
+    requires room { let events = length (phase_events phase.now) in
         All (λ s. HasRoom events (Conn s)) conns.items }
     ensures { let first = turns_from (conn_turn head.now phase.now) 0 conns.entry.items in
         let second = turns_from (data_turn head.now phase.now) 0 units.entry.items in
-        IfOk result (λ v. v.items ≡ first ++ (second ++ last.entry ∷ [])) }
+        result.items ≡ first ++ (second ++ last.entry ∷ []) }
 {
-    let mut turns = Vec::with_capacity(alloc, count(&conns, &units))?;
-    add_both(&mut turns, head, phase, conns, units);
-    turns.push_reserved(last);
-    Ok(turns)
+    add_both(&mut row, head, phase, conns, units);
+    row.push_reserved(last);
+    row
 }
 
 /// The control lane, before the first event of the phase.
@@ -137,6 +138,28 @@ fn control_turn<'p, 'r, R: Wait>(
     Ok(LaneTurn::new(head, phase, LaneName::Control, lane))
 }
 
+/// An empty row, with memory for so many lanes.
+fn empty_row<'p, 'r, R: Wait>(
+    alloc: Global,
+    lanes: usize,
+) -> Result<Vec<LaneTurn<'p, 'r, R>>, Memory>
+    ensures empty { IfOk result (λ row. row.items ≡ []) }
+    ensures reserved { IfOk result (λ row. lanes ≤ vec_capacity row) }
+{
+    Ok(Vec::with_capacity(alloc, lanes)?)
+}
+
+/// A lane, where there is one, goes to those of its kind.
+fn put<T>(seats: &mut Vec<T>, seat: Option<T>)
+    requires { length seats.old.items < vec_capacity seats.old }
+    ensures seats { seats.new.items ≡ seats.old.items ++ option_to_list seat }
+    ensures capacity { vec_capacity seats.new ≡ vec_capacity seats.old }
+{
+    if let Some(seat) = seat {
+        seats.push_reserved(seat);
+    }
+}
+
 /// Lanes go to those of their kinds, once they have taken the events of the phase.
 fn put_apart<'p, 'r, R: Wait>(
     turns: Vec<LaneTurn<'p, 'r, R>>,
@@ -153,7 +176,9 @@ fn put_apart<'p, 'r, R: Wait>(
     ensures turns { All IsTurn turns.entry.items }
 {
     for turn in turns {
-        turn.into_lane().put(conns, units);
+        let (conn, unit) = turn.into_lane().by_kind();
+        put(conns, conn);
+        put(units, unit);
     }
 }
 
@@ -206,9 +231,28 @@ impl<'r, R: Wait> PhaseLanes<'r, R> {
         requires open { IsOpen self.publisher control }
         ensures { IfOk result (λ v. v.items ≡ turns_of head.now phase.now control self.entry) }
     {
+        let row = empty_row(alloc, count(&self.conns, &self.units))?;
+        self.into_row(alloc, row, head, phase, control)
+    }
+
+    /// The same, into an empty row.
+    fn into_row<'p>(
+        self,
+        alloc: Global,
+        row: Vec<LaneTurn<'p, 'r, R>>,
+        head: &'p Head,
+        phase: &'p Phase,
+        control: ControlLane,
+    ) -> Result<Vec<LaneTurn<'p, 'r, R>>, Memory>
+        requires empty { row.items ≡ [] }
+        requires reserved { length self.conns + length self.units + 1 ≤ vec_capacity row }
+        requires room { HasRoomFor (length (phase_events phase.now)) control self }
+        requires open { IsOpen self.publisher control }
+        ensures { IfOk result (λ v. v.items ≡ turns_of head.now phase.now control self.entry) }
+    {
         let (publisher, conns, units) = self.into_parts();
         let last = control_turn(alloc, head, phase, control, publisher)?;
-        in_row(alloc, head, phase, conns, units, last)
+        Ok(in_row(row, head, phase, conns, units, last))
     }
 
     /// The lanes of a row, each where it belongs, once they have taken the events of the phase.

@@ -9,7 +9,7 @@ use Rattle.relay_base.specs.declared.words.Stamp.{Stamp}
 use Rattle.plant_core.specs.Asking.{Question, answer_to}
 use Rattle.plant_core.specs.Plant.{RoutingData}
 use Rattle.plant_core.specs.Changes.{plant_after, plant_after_all}
-use Rattle.plant_core.specs.declared.change.Change.{Change}
+use Rattle.plant_core.specs.declared.change.Group.{Group}
 use Rattle.plant_core.specs.declared.entry.Asked.{Asked}
 use Rattle.plant_core.specs.declared.entry.Entry.{Entry}
 use Rattle.plant_core.specs.declared.entry.ControlEntry.{ControlEntry}
@@ -68,7 +68,7 @@ take-past n [] ys h = ap (λ k. take k ys) (omega arith)
 take-past zero (x ∷ xs) ys h = absurd (omega (arith, h))
 take-past (suc n) (x ∷ xs) ys h = ap (λ l. x ∷ l) (take-past n xs ys (omega (arith, h)) ∙ ap (λ k. xs ++ take k ys) (omega arith))
 
-after-both : (p : RoutingData) (xs ys : List Change) → plant_after_all p (xs ++ ys) ≡ plant_after_all (plant_after_all p xs) ys
+after-both : (p : RoutingData) (xs ys : List Group) → plant_after_all p (xs ++ ys) ≡ plant_after_all (plant_after_all p xs) ys
 after-both p [] ys = refl
 after-both p (x ∷ xs) ys = after-both (plant_after p x) xs ys
 
@@ -111,7 +111,7 @@ record StoodRight (question : Event → Option Question) (told : LaneHead) (head
   pub number : s.place.opened.number ≡ length (changes_of head control)
   pub seen : s.place.seen ≡ nothing
 
-module _ (kind : SeatKind) (told : LaneHead) (head : Head) (phase : ℕ) (old new : List ControlEntry) (lists : List Stamped) (list : List Change)
+module _ (kind : SeatKind) (told : LaneHead) (head : Head) (phase : ℕ) (old new : List ControlEntry) (lists : List Stamped) (list : List Group)
     (was : IsCounted head old) (counted : IsCounted head new) (grows : Grows head phase old new) (within : AllByRecursion (λ c. c.stamp.phase ≤ phase) new)
     (published_is : changes_of head new ≡ changes_of head old ++ list) (at : AreOfLinks phase 0 lists) where
   abbrev asks : Event → Option Question
@@ -196,7 +196,7 @@ module _ {A : Type 0} (seated : SeatState A → Seated) (journal_of : A → List
         (pairs-map (λ k (s : Seated). Unit {0}) (WentOn kind head lists) (LaneTook form head lists) (λ (s : Seated). s.journal) 0 (map seated xs) (map seated ys)
         (λ k a b u w. took-seat kind form head lists k a b same w) (any-lanes 0 (map seated xs)) went))
 
-    right-after : (phase : ℕ) (old new : List ControlEntry) (start : ControlState) (list : List Change) → IsCounted head old → IsCounted head new → Grows head phase old new → AllByRecursion (λ c. c.stamp.phase ≤ phase) new
+    right-after : (phase : ℕ) (old new : List ControlEntry) (start : ControlState) (list : List Group) → IsCounted head old → IsCounted head new → Grows head phase old new → AllByRecursion (λ c. c.stamp.phase ≤ phase) new
         → changes_of head new ≡ changes_of head old ++ list → AreOfLinks phase 0 lists
         → routing_after start.start (changes_by start) ≡ routing_after (routing_of head) (changes_of head old) → length (changes_by start) ≡ length (changes_of head old)
         → LanesFrom IsLane 0 (map (λ s. s.lane) xs) → AllByRecursion (IsAtOpening start) (map (λ s. s.place) xs) → AllByRecursion (λ s. Begins (published list true) s.place.seen) ys

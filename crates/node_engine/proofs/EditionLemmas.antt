@@ -6,7 +6,7 @@ use Rattle.std.proofs.lemmas.Bool.Decides.{nat_tests}
 use Rattle.std.proofs.lemmas.List.{take-append-le}
 use Rattle.std.proofs.lemmas.List.Sums.{sum_by-append}
 use Rattle.plant_core.specs.Asking.{Question, answer_to}
-use Rattle.plant_core.specs.declared.change.Change.{Change}
+use Rattle.plant_core.specs.declared.change.Group.{Group}
 use Rattle.plant_core.specs.declared.entry.Asked.{Asked}
 use Rattle.plant_core.specs.declared.entry.ControlEntry.{ControlEntry}
 use Rattle.node_head.specs.declared.head.Head.{Head}
@@ -70,11 +70,11 @@ pub record Grows (head : Head) (phase : ℕ) (old new : List ControlEntry) : Typ
   pub more : List ControlEntry
   pub journal : new ≡ old ++ more
   pub of_phase : AllByRecursion (λ e. e.stamp.phase ≡ phase) more
-  pub published : List Change
+  pub published : List Group
   pub changes : changes_of head new ≡ changes_of head old ++ published
 
 -- an edition that was there is the same later on
-edition-kept : (head : Head) (old new : List ControlEntry) (published : List Change) (n : ℕ) → changes_of head new ≡ changes_of head old ++ published → n ≤ length (changes_of head old) → edition_of head new n ≡ edition_of head old n
+edition-kept : (head : Head) (old new : List ControlEntry) (published : List Group) (n : ℕ) → changes_of head new ≡ changes_of head old ++ published → n ≤ length (changes_of head old) → edition_of head new n ≡ edition_of head old n
 edition-kept head old new published n grown le =
     ap (λ l. routing_after (routing_of head) (take n l)) grown ∙ ap (routing_after (routing_of head)) (take-append-le n (changes_of head old) published le)
 

@@ -87,7 +87,7 @@ pub record IsRightSoFar (question : Event → Option Question) (head : Head) (ph
   pub routed : AllByRecursion (IsRouted question head control) journal
   pub rising : IsNonDecreasing (editions_in journal)
 
--- as many entries published as there are changes
+-- as many entries published as there are groups of changes
 abbrev pub IsCounted : Head → List ControlEntry → Type 0
 IsCounted head control = count_by (λ e. is_some e.published) control ≡ length (changes_of head control)
 

@@ -1,2 +1,3 @@
 pub mod AddressLengths
 pub mod MemberLemmas
+pub mod GroupLemmas

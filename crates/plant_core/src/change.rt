@@ -1,9 +1,14 @@
 //! Changes of the routing data.
-use gtt_table::Row;
-use relay_base::{Digits, Pc, Ssn};
-use sccp_address::Selector;
+ghost use Rattle.std.specs.Prelude.{◌≡◌, count_by, IfOk};
+ghost use Rattle.plant_core.specs.Changes.{alone, adds_row, bars_subsystem};
 
-/// A change of the routing data.
+use gtt_table::Row;
+use relay_base::{Digits, Memory, Pc, PlainList, Ssn};
+use sccp_address::Selector;
+use std::alloc::Global;
+use std::slice;
+
+/// A single change of the routing data.
 #[derive(Clone, Copy, PartialEq, Eq)]
 pub enum Change {
     /// A row of the translation (Q.714, 2.4) is added.
@@ -24,7 +29,49 @@ pub enum Change {
     LocalDown(Ssn),
 }
 
-/// What a change would do: alter the routing data; nothing, since the status is there already;
+/// Changes, in order.
+pub type ChangeList = PlainList<Change>;
+
+/// Changes of the routing data that are made together, in order. Each edition is one group, whole.
+#[derive(Clone, PartialEq, Eq, Drop)]
+pub struct Group {
+    pub changes: ChangeList,
+}
+
+impl Group {
+    /// The group of one change.
+    pub fn of(alloc: Global, change: Change) -> Result<Group, Memory>
+        ensures { IfOk result (λ group. group ≡ alone change) }
+    {
+        Ok(Group {
+            changes: ChangeList::from_slice(alloc, slice::from_ref(&change))?,
+        })
+    }
+
+    /// How many rows it adds.
+    pub(crate) fn rows_added(&self) -> usize
+        ensures { result ≡ count_by adds_row self.now.changes }
+    {
+        self.changes
+            .as_slice()
+            .iter()
+            .filter(|change| matches!(change, Change::AddRow(_)))
+            .count()
+    }
+
+    /// How many subsystems of other points it prohibits.
+    pub(crate) fn subsystems_barred(&self) -> usize
+        ensures { result ≡ count_by bars_subsystem self.now.changes }
+    {
+        self.changes
+            .as_slice()
+            .iter()
+            .filter(|change| matches!(change, Change::BarSub(..)))
+            .count()
+    }
+}
+
+/// What a change, or a group of them, would do: alter the routing data; nothing, since the status is there already;
 /// or nothing, since the row is there already, 4,096 rows are there, or no such row is.
 #[derive(Clone, Copy, Debug, PartialEq, Eq)]
 pub enum Verdict {

@@ -2,7 +2,7 @@
 ghost use Rattle.std.specs.Prelude.{◌≡◌};
 
 use crate::answer::Answer;
-use crate::change::Change;
+use crate::change::Group;
 use relay_base::{Event, Outs, PlainList, Stamp};
 
 /// A routing, with the edition of the routing data that it read.
@@ -25,7 +25,8 @@ pub struct Entry {
 #[derive(Clone, PartialEq, Eq, Drop)]
 pub enum ControlEvent {
     Plain(Event),
-    Change(Change),
+    /// Changes that are made together.
+    Change(Group),
 }
 
 /// What the control lane did with one event: the number of the edition that it published, where it did, and what came of it.

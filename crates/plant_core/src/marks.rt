@@ -156,7 +156,7 @@ impl Members {
         self.marks.has(number)
     }
 
-    /// Takes memory: the next one that is put in isn't refused.
+    /// Takes memory: none that is put in is refused.
     pub fn make_room(&mut self) -> Result<(), Memory>
         ensures members { self.new.members ≡ self.old.members }
         ensures size { self.new.size ≡ self.old.size }
@@ -175,6 +175,7 @@ impl Members {
         requires room { IsTrue self.old.has_room }
         ensures members { self.new.members ≡ with_number number self.old.members }
         ensures size { self.new.size ≡ self.old.size }
+        ensures room { IsTrue self.new.has_room }
     {
         fill(self.alloc, &mut self.marks, &mut self.spare, self.size);
         self.marks.put(number);
@@ -186,6 +187,7 @@ impl Members {
         ensures ok { OnOk result (self.new.members ≡ with_number number self.old.members) }
         ensures err { OnErr result (self.new.members ≡ self.old.members) }
         ensures size { self.new.size ≡ self.old.size }
+        ensures room { OnOk result (IsTrue self.new.has_room) }
         ensures memory { IsTrue self.old.has_room → IsOk result }
     {
         self.make_room()?;
@@ -197,6 +199,7 @@ impl Members {
     pub fn take(&mut self, number: usize)
         ensures members { self.new.members ≡ but_for number self.old.members }
         ensures size { self.new.size ≡ self.old.size }
+        ensures room { self.new.has_room ≡ self.old.has_room }
     {
         self.marks.take(number);
     }

@@ -1,14 +1,16 @@
 //! The routing data, and its changes.
-ghost use Rattle.std.specs.Prelude.{◌≡◌, ◌+◌, ◌^◌, ◌<◌, ◌++◌, ◌∷◌, [], IsTrue, IsOk, None, IfOk, OnOk, OnErr};
+ghost use Rattle.std.specs.Prelude.{◌≡◌, ◌&&◌, ◌+◌, ◌^◌, ◌<◌, ◌++◌, ◌∷◌, [], List, length, IsTrue, IsOk, None, IfOk, OnOk, OnErr};
 ghost use Rattle.plant_core.specs.Changes.{alters_if};
+ghost use Rattle.plant_core.specs.Inner.Subjects.{stands};
 ghost use Rattle.gtt_table.specs.Adding.{add_refusal, Refuses, HasMemory};
 ghost use Rattle.gtt_table.specs.Translation.{seen_look, translation_of};
 ghost use Rattle.sccp_address.specs.Form.{seen};
 
 use crate::answer::{Answer, Ask, Origin, Rewrite, RouteCause};
-use crate::change::{Change, Verdict};
+use crate::change::{Change, Group, Verdict};
 use crate::marks::Members;
 use crate::statuses::{BarredSubsystems, POINTS, SUBSYSTEMS};
+use crate::subject::{Subject, puts};
 use gtt_table::{AddFault, Entity, Look, Row, Table};
 use relay_base::{Digits, Memory, Pc, Ssn};
 use sccp_address::Selector;
@@ -45,10 +47,9 @@ impl Model for Plant {
         out_of_service = p.out_of_service.members;
       };
       edition = p.edition;
-      has_room = p.rows.has_room
-          && p.barred_points.has_room
-          && p.barred_subsystems.has_room
-          && p.out_of_service.has_room;
+      row_room = p.rows.room;
+      subsystem_room = p.barred_subsystems.room;
+      has_room = p.barred_points.has_room && p.out_of_service.has_room;
     } };
 
     ghost invariant = { λ p.
@@ -57,8 +58,9 @@ impl Model for Plant {
 
 impl Plant {
     ghost use Rattle.plant_core.specs.Plant.{start_of, is_among, is_barred_subsystem, is_in_service};
-    ghost use Rattle.plant_core.specs.Changes.{verdict_on, changed, plant_after};
+    ghost use Rattle.plant_core.specs.Changes.{verdict_on, changed, changed_all, first_verdict, group_verdict, plant_after, HasRoomFor};
     ghost use Rattle.plant_core.specs.Routing.{local_answer, is_barred_at, remote_answer, availability_of, route_of};
+    ghost use Rattle.plant_core.specs.declared.change.Change.{Change};
     ghost use Rattle.plant_core.specs.declared.change.Change.TheVariants as change;
     ghost use Rattle.plant_core.specs.declared.change.Verdict.TheVariants as verdict;
 
@@ -171,49 +173,104 @@ impl Plant {
         }
     }
 
-    #[tactic(auto, unfolding(crate::specs::Changes::verdict_on, gtt_table::specs::Adding::add_refusal))]
-    fn row_verdict(&self, row: &Row) -> Verdict
-        ensures { result ≡ verdict_on self.now.routing (change.AddRow row.now) }
+    /// Whether a subject stands in its list.
+    fn stands_now(&self, subject: Subject) -> bool
+        ensures { result ≡ stands self.now.routing subject }
     {
-        match self.rows.refusal(row) {
-            Some(AddFault::Duplicate) => Verdict::Duplicate,
-            Some(_) => Verdict::RowsFull,
-            None => Verdict::Alters,
+        match subject {
+            Subject::Row(selector, prefix) => self.rows.has_row(&selector, &prefix),
+            Subject::Point(point) => self.is_barred_point(point),
+            Subject::Subsystem(point, ssn) => self.is_barred_subsystem(point, ssn),
+            Subject::User(ssn) => self.is_out(ssn),
         }
     }
 
-    /// What this change would do.
-    #[tactic(auto, unfolding(crate::specs::Changes::verdict_on))]
-    pub fn verdict(&self, change: &Change) -> Verdict
-        ensures { result ≡ verdict_on self.now.routing change.now }
+    /// Whether a subject would stand in its list after these changes.
+    fn stands_after(&self, changes: &[Change], subject: Subject) -> bool
+        ensures { result ≡ stands (changed_all self.now.routing changes.now) subject }
     {
-        match change {
-            Change::AddRow(row) => self.row_verdict(row),
-            Change::DelRow(selector, prefix) => {
-                if self.rows.has_row(selector, prefix) {
-                    Verdict::Alters
-                } else {
-                    Verdict::NoRow
-                }
+        let mut there = self.stands_now(subject);
+        for change in changes {
+            if subject.is_of(change) {
+                there = puts(change);
             }
-            Change::BarPoint(point) => alters_if(!self.is_barred_point(*point)),
-            Change::FreePoint(point) => alters_if(self.is_barred_point(*point)),
-            Change::BarSub(point, ssn) => alters_if(!self.is_barred_subsystem(*point, *ssn)),
-            Change::FreeSub(point, ssn) => alters_if(self.is_barred_subsystem(*point, *ssn)),
-            Change::LocalUp(ssn) => alters_if(self.is_user(*ssn) && self.is_out(*ssn)),
-            Change::LocalDown(ssn) => alters_if(self.is_in_service(*ssn)),
+        }
+        there
+    }
+
+    /// How many rows there would be after these changes.
+    fn rows_after(&self, changes: &[Change]) -> usize
+        requires { first_verdict self.now.routing changes.now ≡ verdict.Alters }
+        ensures { result ≡ length (changed_all self.now.routing changes.now).rows }
+    {
+        let mut count = self.rows.len();
+        for change in changes {
+            match change {
+                Change::AddRow(_) => count += 1,
+                Change::DelRow(..) => count -= 1,
+                _ => {}
+            }
+        }
+        count
+    }
+
+    /// What it would do that a user's service begins or ends.
+    fn service_verdict(&self, ssn: Ssn, alters: bool) -> Verdict
+        ensures { result ≡ alters_if (is_among ssn self.now.routing.users && alters) }
+    {
+        alters_if(self.is_user(ssn) && alters)
+    }
+
+    /// What a change would do after others that each alter the routing data.
+    #[tactic(auto, unfolding(crate::specs::Changes::verdict_on, gtt_table::specs::Adding::add_refusal))]
+    fn verdict_after(&self, changes: &[Change], change: &Change) -> Verdict
+        requires { first_verdict self.now.routing changes.now ≡ verdict.Alters }
+        ensures { let routing = changed_all self.now.routing changes.now
+            in result ≡ verdict_on routing change.now }
+    {
+        let there = self.stands_after(changes, Subject::of(change));
+        match change {
+            Change::AddRow(_) if there => Verdict::Duplicate,
+            Change::AddRow(_) if self.rows_after(changes) >= Table::MOST => Verdict::RowsFull,
+            Change::AddRow(_) => Verdict::Alters,
+            Change::DelRow(..) if !there => Verdict::NoRow,
+            Change::DelRow(..) => Verdict::Alters,
+            Change::BarPoint(_) | Change::BarSub(..) => alters_if(!there),
+            Change::FreePoint(_) | Change::FreeSub(..) => alters_if(there),
+            Change::LocalUp(ssn) => self.service_verdict(*ssn, there),
+            Change::LocalDown(ssn) => self.service_verdict(*ssn, !there),
         }
     }
 
-    /// Takes memory for one change: the next one that is absorbed isn't refused.
-    pub fn make_room(&mut self) -> Result<(), Memory>
+    /// What this group would do: the verdict on its first change that doesn't alter the routing data that those before it left,
+    /// or else that it alters them. An empty one does nothing.
+    #[tactic(auto, unfolding(crate::specs::Changes::group_verdict))]
+    pub fn verdict(&self, group: &Group) -> Verdict
+        ensures { result ≡ group_verdict self.now.routing group.now }
+    {
+        let changes = group.changes.as_slice();
+        if changes.is_empty() {
+            return Verdict::Same;
+        }
+        for (at, change) in changes.iter().enumerate() {
+            match self.verdict_after(&changes[..at], change) {
+                Verdict::Alters => {}
+                refused => return refused,
+            }
+        }
+        Verdict::Alters
+    }
+
+    /// Takes memory for one group: the next that is absorbed isn't refused.
+    pub fn make_room(&mut self, group: &Group) -> Result<(), Memory>
         ensures routing { self.new.routing ≡ self.old.routing }
         ensures edition { self.new.edition ≡ self.old.edition }
-        ensures room { OnOk result (IsTrue self.new.has_room) }
+        ensures room { OnOk result (HasRoomFor group.now.changes self.new) }
+        ensures memory { HasRoomFor group.now.changes self.old → IsOk result }
     {
-        self.rows.make_room()?;
+        self.rows.make_room(group.rows_added())?;
+        self.barred_subsystems.make_room(group.subsystems_barred())?;
         self.barred_points.make_room()?;
-        self.barred_subsystems.make_room()?;
         self.out_of_service.make_room()
     }
 
@@ -224,7 +281,9 @@ impl Plant {
             in OnOk result (self.new.routing ≡ routing) }
         ensures err { OnErr result (self.new.routing ≡ self.old.routing) }
         ensures edition { self.new.edition ≡ self.old.edition }
-        ensures memory { IsTrue self.old.has_room → IsOk result }
+        ensures room { OnOk result ((more : List Change)
+            → HasRoomFor (change.AddRow row.now ∷ more) self.old → HasRoomFor more self.new) }
+        ensures memory { HasRoomFor (change.AddRow row.now ∷ []) self.old → IsOk result }
     {
         match self.rows.add(*row) {
             Ok(()) => Ok(()),
@@ -238,7 +297,9 @@ impl Plant {
             in OnOk result (self.new.routing ≡ routing) }
         ensures err { OnErr result (self.new.routing ≡ self.old.routing) }
         ensures edition { self.new.edition ≡ self.old.edition }
-        ensures memory { IsTrue self.old.has_room → IsOk result }
+        ensures room { OnOk result ((more : List Change)
+            → HasRoomFor (change.BarPoint point ∷ more) self.old → HasRoomFor more self.new) }
+        ensures memory { HasRoomFor (change.BarPoint point ∷ []) self.old → IsOk result }
     {
         self.barred_points.put(point.number() as usize)
     }
@@ -249,19 +310,22 @@ impl Plant {
             in OnOk result (self.new.routing ≡ routing) }
         ensures err { OnErr result (self.new.routing ≡ self.old.routing) }
         ensures edition { self.new.edition ≡ self.old.edition }
-        ensures memory { IsTrue self.old.has_room → IsOk result }
+        ensures room { OnOk result ((more : List Change)
+            → HasRoomFor (change.BarSub point ssn ∷ more) self.old → HasRoomFor more self.new) }
+        ensures memory { HasRoomFor (change.BarSub point ssn ∷ []) self.old → IsOk result }
     {
         self.barred_subsystems.put(point, ssn)
     }
 
-    /// Makes a change that alters the routing data.
+    /// Makes a single change that alters the routing data.
     #[tactic(auto, unfolding(crate::specs::Changes::changed, crate::specs::Changes::verdict_on, gtt_table::specs::Adding::add_refusal))]
     fn apply(&mut self, change: &Change) -> Result<(), Memory>
         requires { verdict_on self.old.routing change.now ≡ verdict.Alters }
         ensures ok { OnOk result (self.new.routing ≡ changed self.old.routing change.now) }
-        ensures err { OnErr result (self.new.routing ≡ self.old.routing) }
         ensures edition { self.new.edition ≡ self.old.edition }
-        ensures memory { IsTrue self.old.has_room → IsOk result }
+        ensures room { OnOk result ((more : List Change)
+            → HasRoomFor (change.now ∷ more) self.old → HasRoomFor more self.new) }
+        ensures memory { HasRoomFor (change.now ∷ []) self.old → IsOk result }
     {
         match change {
             Change::AddRow(row) => return self.add_row(row),
@@ -278,18 +342,33 @@ impl Plant {
         Ok(())
     }
 
-    /// Raises the edition by one, and makes the change where it alters the routing data. After want of memory all is as before.
+    /// Makes changes that each alter the routing data, and for which room was made.
+    fn apply_all(&mut self, changes: &[Change])
+        requires alters { first_verdict self.old.routing changes.now ≡ verdict.Alters }
+        requires room { HasRoomFor changes.now self.old }
+        ensures routing { self.new.routing ≡ changed_all self.old.routing changes.now }
+        ensures edition { self.new.edition ≡ self.old.edition }
+    {
+        for change in changes {
+            let Ok(()) = self.apply(change) else {
+                unreachable!()
+            };
+        }
+    }
+
+    /// Raises the edition by one, and makes all changes of a group that alters the routing data. After want of memory all is as before.
     #[tactic(auto, unfolding(crate::specs::Changes::plant_after))]
-    pub fn absorb(&mut self, change: &Change) -> Result<(), Memory>
+    pub fn absorb(&mut self, group: &Group) -> Result<(), Memory>
         requires { self.old.edition + 1 < 2 ^ 64 }
-        ensures routing { OnOk result (self.new.routing ≡ plant_after self.old.routing change.now) }
+        ensures routing { OnOk result (self.new.routing ≡ plant_after self.old.routing group.now) }
         ensures edition { OnOk result (self.new.edition ≡ self.old.edition + 1) }
         ensures err { let routing = self.new.routing ≡ self.old.routing
             in OnErr result (routing × (self.new.edition ≡ self.old.edition)) }
-        ensures memory { IsTrue self.old.has_room → IsOk result }
+        ensures memory { HasRoomFor group.now.changes self.old → IsOk result }
     {
-        if self.verdict(change) == Verdict::Alters {
-            self.apply(change)?;
+        if let Verdict::Alters = self.verdict(group) {
+            self.make_room(group)?;
+            self.apply_all(group.changes.as_slice());
         }
         self.edition += 1;
         Ok(())

@@ -1,13 +1,13 @@
 //! The subsystems of other points that are barred.
 ghost use Rattle.std.specs.List.{list_any};
-ghost use Rattle.std.specs.Prelude.{◌≡◌, ◌⊎◌, ◌<◌, ◌≤◌, [], All, false, filter, get_or, length, not, replicate, set, vec_len, IsTrue, IsOk, IfOk, OnOk, OnErr};
+ghost use Rattle.std.specs.Prelude.{◌≡◌, ◌+◌, ◌<◌, ◌≤◌, [], All, false, filter, get_or, length, not, set, vec_len, IsOk, IfOk, OnOk, OnErr};
 ghost use Rattle.std.specs.Vec.{vec_capacity};
 ghost use Rattle.relay_base.specs.declared.limits.TheConstants.{POINT_CODES, SUBSYSTEM_NUMBERS};
 ghost use Rattle.plant_core.specs.Plant.{is_same_subsystem};
 ghost use Rattle.plant_core.specs.Changes.{with_subsystem};
-ghost use Rattle.plant_core.specs.Inner.Members.{IsWhole, subsystem, subsystems_from};
+ghost use Rattle.plant_core.specs.Inner.Members.{IsWhole, IsCleared, marked_from, subsystem, subsystems_from};
 
-use crate::marks::{Marks, fill};
+use crate::marks::Marks;
 use relay_base::limits::{POINT_CODES, SUBSYSTEM_NUMBERS};
 use relay_base::{Memory, Pc, Ssn};
 use std::alloc::Global;
@@ -31,26 +31,26 @@ pub struct RemoteSubsystem {
 pub struct BarredSubsystems {
     /// The marks of each point's subsystems, by the number of the point. Points of which none was barred have none.
     rows: Vec<Marks>,
-    /// The marks of the next point that has none; or none.
-    spare: Marks,
+    /// The marks of the next points that have none.
+    spare: Vec<Marks>,
     alloc: Global,
 }
 
 impl Model for BarredSubsystems {
-    ghost use Rattle.std.specs.Prelude.{◌≡◌, ◌==◌, ◌&&◌, ◌≤◌, ◌⊎◌, [], All, false, length, nat_le, replicate};
+    ghost use Rattle.std.specs.Prelude.{◌≤◌, All, cond, length, nat_le, vec_len};
     ghost use Rattle.std.specs.Vec.{vec_capacity};
     ghost use Rattle.relay_base.specs.declared.limits.TheConstants.{POINT_CODES, SUBSYSTEM_NUMBERS};
-    ghost use Rattle.plant_core.specs.Inner.Members.{SubsystemsState, IsWhole, subsystems_from};
+    ghost use Rattle.plant_core.specs.Inner.Members.{SubsystemsState, IsWhole, IsCleared, subsystems_from};
 
     ghost Value = { SubsystemsState };
 
     ghost view = { λ s. record {
       members = subsystems_from 0 s.rows.items;
-      has_room = length s.spare == SUBSYSTEM_NUMBERS && nat_le POINT_CODES (vec_capacity s.rows);
+      room = cond (nat_le POINT_CODES (vec_capacity s.rows)) (vec_len s.spare) 0;
     } };
 
     ghost invariant = { λ s. (length s.rows.items ≤ POINT_CODES) × All IsWhole s.rows.items
-        × ((s.spare ≡ []) ⊎ (s.spare ≡ replicate SUBSYSTEM_NUMBERS false)) };
+        × All IsCleared s.spare.items };
 }
 
 /// Lets rows reach up to a point.
@@ -62,24 +62,60 @@ fn reach(alloc: Global, rows: &mut Vec<Marks>, point: Pc)
     ensures whole { All IsWhole rows.new.items }
     ensures reaches { point < vec_len rows.new }
     ensures few { vec_len rows.new ≤ POINT_CODES }
+    ensures room { POINT_CODES ≤ vec_capacity rows.new }
 {
     for _ in rows.len()..point.number() as usize + 1 {
         rows.push_reserved(Marks::none(alloc));
     }
 }
 
+/// Gives a point marks for its subsystems, where it has none.
+fn begin(row: &mut Marks, spare: &mut Vec<Marks>)
+    requires whole { IsWhole row.old }
+    requires cleared { All IsCleared spare.old.items }
+    requires room { 0 < vec_len spare.old }
+    ensures members { marked_from 0 row.new ≡ marked_from 0 row.old }
+    ensures len { length row.new ≡ SUBSYSTEM_NUMBERS }
+    ensures cleared { All IsCleared spare.new.items }
+    ensures count { vec_len spare.old ≤ vec_len spare.new + 1 }
+{
+    if row.is_none() {
+        let Some(marks) = spare.pop() else {
+            unreachable!()
+        };
+        *row = marks;
+    }
+}
+
 /// Gives a point that rows reach marks for its subsystems, where it has none.
-fn open(alloc: Global, rows: &mut Vec<Marks>, spare: &mut Marks, point: Pc)
+fn open(rows: &mut Vec<Marks>, spare: &mut Vec<Marks>, point: Pc)
     requires reaches { point < vec_len rows.old }
     requires whole { All IsWhole rows.old.items }
-    requires spare { spare.old ≡ replicate SUBSYSTEM_NUMBERS false }
+    requires cleared { All IsCleared spare.old.items }
+    requires room { 0 < vec_len spare.old }
     ensures members { subsystems_from 0 rows.new.items ≡ subsystems_from 0 rows.old.items }
     ensures whole { All IsWhole rows.new.items }
     ensures row { length (get_or rows.new.items point []) ≡ SUBSYSTEM_NUMBERS }
     ensures len { vec_len rows.new ≡ vec_len rows.old }
-    ensures spare { (spare.new ≡ []) ⊎ (spare.new ≡ replicate SUBSYSTEM_NUMBERS false) }
+    ensures capacity { vec_capacity rows.new ≡ vec_capacity rows.old }
+    ensures cleared { All IsCleared spare.new.items }
+    ensures count { vec_len spare.old ≤ vec_len spare.new + 1 }
 {
-    fill(alloc, &mut rows[point.number() as usize], spare, SUBSYSTEMS);
+    begin(&mut rows[point.number() as usize], spare);
+}
+
+/// Takes spare marks, until there are so many.
+fn clear(alloc: Global, spare: &mut Vec<Marks>, count: usize) -> Result<(), Memory>
+    requires { All IsCleared spare.old.items }
+    ensures cleared { All IsCleared spare.new.items }
+    ensures count { OnOk result (count ≤ vec_len spare.new) }
+    ensures kept { vec_len spare.old ≤ vec_len spare.new }
+    ensures memory { count ≤ vec_len spare.old → IsOk result }
+{
+    for _ in spare.len()..count {
+        spare.push(Marks::cleared(alloc, SUBSYSTEMS)?)?;
+    }
+    Ok(())
 }
 
 fn is_marked(rows: &[Marks], point: usize, ssn: usize) -> bool
@@ -92,8 +128,9 @@ fn is_marked(rows: &[Marks], point: usize, ssn: usize) -> bool
 }
 
 fn take_from(rows: &mut Vec<Marks>, point: usize, ssn: usize)
-    ensures { let row = get_or rows.old.items point []
+    ensures items { let row = get_or rows.old.items point []
         in rows.new.items ≡ set rows.old.items point (set row ssn false) }
+    ensures capacity { vec_capacity rows.new ≡ vec_capacity rows.old }
 {
     if point < rows.len() {
         rows[point].take(ssn);
@@ -117,7 +154,7 @@ impl BarredSubsystems {
     {
         BarredSubsystems {
             rows: Vec::new(alloc),
-            spare: Marks::none(alloc),
+            spare: Vec::new(alloc),
             alloc,
         }
     }
@@ -128,7 +165,7 @@ impl BarredSubsystems {
     {
         Ok(BarredSubsystems {
             rows: copy_of(self.alloc, &self.rows)?,
-            spare: Marks::none(self.alloc),
+            spare: Vec::new(self.alloc),
             alloc: self.alloc,
         })
     }
@@ -140,27 +177,29 @@ impl BarredSubsystems {
         is_marked(&self.rows, point.number() as usize, ssn.number() as usize)
     }
 
-    /// Takes memory: the next one that is put in isn't refused.
-    pub fn make_room(&mut self) -> Result<(), Memory>
+    /// Takes memory: so many that are put in next aren't refused.
+    pub fn make_room(&mut self, count: usize) -> Result<(), Memory>
         ensures members { self.new.members ≡ self.old.members }
-        ensures room { OnOk result (IsTrue self.new.has_room) }
-        ensures memory { IsTrue self.old.has_room → IsOk result }
+        ensures room { OnOk result (count ≤ self.new.room) }
+        ensures kept { OnOk result (self.old.room ≤ self.new.room) }
+        ensures memory { count ≤ self.old.room → IsOk result }
     {
-        self.rows.reserve(POINTS - self.rows.len())?;
-        if self.spare.is_none() {
-            self.spare = Marks::cleared(self.alloc, SUBSYSTEMS)?;
+        if count == 0 {
+            return Ok(());
         }
-        Ok(())
+        self.rows.reserve(POINTS - self.rows.len())?;
+        clear(self.alloc, &mut self.spare, count)
     }
 
     /// Puts a subsystem in its place, for which room was made.
     fn mark(&mut self, point: Pc, ssn: Ssn)
-        requires { IsTrue self.old.has_room }
-        ensures { let members = with_subsystem (subsystem point ssn) self.old.members
+        requires { 0 < self.old.room }
+        ensures members { let members = with_subsystem (subsystem point ssn) self.old.members
             in self.new.members ≡ members }
+        ensures room { self.old.room ≤ self.new.room + 1 }
     {
         reach(self.alloc, &mut self.rows, point);
-        open(self.alloc, &mut self.rows, &mut self.spare, point);
+        open(&mut self.rows, &mut self.spare, point);
         self.rows[point.number() as usize].put(ssn.number() as usize);
     }
 
@@ -169,17 +208,19 @@ impl BarredSubsystems {
         ensures ok { let members = with_subsystem (subsystem point ssn) self.old.members
             in OnOk result (self.new.members ≡ members) }
         ensures err { OnErr result (self.new.members ≡ self.old.members) }
-        ensures memory { IsTrue self.old.has_room → IsOk result }
+        ensures room { OnOk result (self.old.room ≤ self.new.room + 1) }
+        ensures memory { 0 < self.old.room → IsOk result }
     {
-        self.make_room()?;
+        self.make_room(1)?;
         self.mark(point, ssn);
         Ok(())
     }
 
     /// Takes a subsystem out.
     pub fn take(&mut self, point: Pc, ssn: Ssn)
-        ensures { let others = filter (λ x. not (is_same_subsystem point ssn x)) self.old.members
+        ensures members { let others = filter (λ x. not (is_same_subsystem point ssn x)) self.old.members
             in self.new.members ≡ others }
+        ensures room { self.new.room ≡ self.old.room }
     {
         take_from(
             &mut self.rows,

@@ -6,6 +6,8 @@ mod captures;
 #[cfg(test)]
 mod connections;
 #[cfg(test)]
+mod groups;
+#[cfg(test)]
 mod hostile;
 #[cfg(test)]
 mod paces;

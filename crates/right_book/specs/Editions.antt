@@ -4,18 +4,18 @@ use Rattle.std.specs.List.{flat_map}
 use Rattle.plant_core.specs.Asking.{Question, answer_to}
 use Rattle.node_head.specs.declared.head.Head.{Head}
 use Rattle.plant_core.specs.Plant.{RoutingData}
-use Rattle.plant_core.specs.declared.change.Change.{Change}
+use Rattle.plant_core.specs.declared.change.Group.{Group}
 use Rattle.plant_core.specs.declared.entry.Asked.{Asked}
 use Rattle.plant_core.specs.declared.entry.Entry.{Entry}
 use Rattle.plant_core.specs.declared.entry.ControlEntry.{ControlEntry}
 use Rattle.scmg.specs.Control.{changes_in, routing_after}
 use Rattle.right_book.specs.Heads.{routing_of, control_head_of}
 
--- the changes that a control journal published, in order
-abbrev pub changes_of : Head → List ControlEntry → List Change
+-- the groups of changes that a control journal published, in order
+abbrev pub changes_of : Head → List ControlEntry → List Group
 changes_of head control = changes_in (control_head_of head) (routing_of head) control
 
--- the routing data of an edition: those of the head, after so many of the changes
+-- the routing data of an edition: those of the head, after so many of these groups, each whole
 abbrev pub edition_of : Head → List ControlEntry → ℕ → RoutingData
 edition_of head control n = routing_after (routing_of head) (take n (changes_of head control))
 

@@ -1,40 +1,46 @@
 //! Worked rows of management.
-ghost use Rattle.std.specs.Prelude.{◌≡◌, [], ◌∷◌, ◌++◌, OnOk, OnErr};
+ghost use Rattle.std.specs.Prelude.{◌≡◌, [], ◌∷◌, ◌++◌, IfOk, OnOk, OnErr};
 
 use crate::common::{octets, point, row, selection, ticks};
-use plant_core::{Change, ControlEvent, Plant, Replicate, ReplicateList};
+use plant_core::{Change, ChangeList, ControlEvent, Group, Plant, Replicate, ReplicateList};
 use relay_base::{
     Event, Lost, Memory, Output, Outs, PcList, Reason, Request, Ssn, SsnList, Stamp, Tell,
 };
 use scmg::{ControlHead, ControlLane, Publish};
-use std::alloc::Global;
+use std::alloc::{AllocError, Global};
 use std::process::Abort;
 
-/// Puts a copy of an item at the end.
-fn put<T: Copy>(list: &mut Vec<T>, item: &T) -> Result<(), Memory>
-    ensures ok { OnOk result (list.new.items ≡ list.old.items ++ item.now ∷ []) }
-    ensures err { OnErr result (list.new.items ≡ list.old.items) }
+/// Puts a copy of a group at the end.
+fn put(groups: &mut Vec<Group>, group: &Group) -> Result<(), Memory>
+    ensures ok { OnOk result (groups.new.items ≡ groups.old.items ++ group.now ∷ []) }
+    ensures err { OnErr result (groups.new.items ≡ groups.old.items) }
 {
-    list.reserve(1)?;
-    list.push_reserved(*item);
+    let copy = copy_of(group)?;
+    groups.push(copy)?;
     Ok(())
+}
+
+fn copy_of(group: &Group) -> Result<Group, AllocError>
+    ensures { IfOk result (λ copy. copy ≡ group.now) }
+{
+    group.clone()
 }
 
 /// Publishes into a list, from an edition on.
 #[derive(Drop)]
 struct Published {
     first: u64,
-    changes: Vec<Change>,
+    groups: Vec<Group>,
 }
 
 impl Publish for Published {
     ghost first = { λ p. p.first };
 
-    ghost published = { λ p. p.changes.items };
+    ghost published = { λ p. p.groups.items };
 
-    fn publish(&mut self, change: &Change) -> Result<u64, Memory> {
-        put(&mut self.changes, change)?;
-        Ok(self.first + self.changes.len() as u64)
+    fn publish(&mut self, group: &Group) -> Result<u64, Memory> {
+        put(&mut self.groups, group)?;
+        Ok(self.first + self.groups.len() as u64)
     }
 }
 
@@ -51,35 +57,48 @@ fn message(format: u8, ssn: u8, of: [u8; 2]) -> [u8; 17] {
     ]
 }
 
-/// An event: a message from point 300 about a subsystem of a point, by its format; a request or a change about subsystem 8 and point 300.
-/// So many ticks are one event after the other, and nothing comes of any but the last.
+/// A change of the row from 4917 to point 400, or about subsystem 8 and point 300.
 #[derive(Clone, Copy)]
-enum Line {
-    Arrives(u8, u8, [u8; 2]),
-    Coord,
-    Grant,
+enum Edit {
     AddRow,
     DelRow,
     Pause,
     Down,
     Up,
     BarSub,
-    Ticks(u32),
 }
 
-fn change_of(rt: &impl Abort, line: Line) -> Option<Change> {
+fn change_of(rt: &impl Abort, edit: Edit) -> Change {
     let user = Ssn::from(8);
     let far = point(rt, 300);
     let row = row(rt, &[4, 9, 1, 7], 400);
-    match line {
-        Line::AddRow => Some(Change::AddRow(row)),
-        Line::DelRow => Some(Change::DelRow(row.selector, row.prefix)),
-        Line::Pause => Some(Change::BarPoint(far)),
-        Line::BarSub => Some(Change::BarSub(far, user)),
-        Line::Down => Some(Change::LocalDown(user)),
-        Line::Up => Some(Change::LocalUp(user)),
-        _ => None,
+    match edit {
+        Edit::AddRow => Change::AddRow(row),
+        Edit::DelRow => Change::DelRow(row.selector, row.prefix),
+        Edit::Pause => Change::BarPoint(far),
+        Edit::BarSub => Change::BarSub(far, user),
+        Edit::Down => Change::LocalDown(user),
+        Edit::Up => Change::LocalUp(user),
     }
+}
+
+fn group_of(rt: &impl Abort, alloc: Global, edits: &[Edit]) -> Group {
+    let mut changes = ChangeList::new(alloc);
+    for edit in edits {
+        changes.push(change_of(rt, *edit)).expect(rt, "memory");
+    }
+    Group { changes }
+}
+
+/// An event: a message from point 300 about a subsystem of a point, by its format; a request about subsystem 8 and point 300; changes together.
+/// So many ticks are one event after the other, and nothing comes of any but the last.
+#[derive(Clone, Copy)]
+enum Line<'a> {
+    Arrives(u8, u8, [u8; 2]),
+    Coord,
+    Grant,
+    Group(&'a [Edit]),
+    Ticks(u32),
 }
 
 fn arrives(rt: &impl Abort, alloc: Global, bytes: &[u8]) -> Event {
@@ -97,16 +116,14 @@ fn asks(request: Request) -> Event {
     }
 }
 
-fn event_of(rt: &impl Abort, alloc: Global, line: Line) -> ControlEvent {
-    if let Some(change) = change_of(rt, line) {
-        return ControlEvent::Change(change);
-    }
+fn event_of(rt: &impl Abort, alloc: Global, line: Line<'_>) -> ControlEvent {
     let point = point(rt, 300);
     ControlEvent::Plain(match line {
+        Line::Group(edits) => return ControlEvent::Change(group_of(rt, alloc, edits)),
         Line::Arrives(format, ssn, of) => arrives(rt, alloc, &message(format, ssn, of)),
         Line::Coord => asks(Request::Coord),
         Line::Grant => asks(Request::Grant { point }),
-        _ => Event::Tick,
+        Line::Ticks(_) => Event::Tick,
     })
 }
 
@@ -180,11 +197,11 @@ fn lane(rt: &impl Abort, alloc: Global) -> ControlLane {
 }
 
 /// Takes an event, and publishes into a new list, from the edition that is reached.
-fn take(rt: &impl Abort, alloc: Global, lane: &mut ControlLane, line: Line) {
+fn take(rt: &impl Abort, alloc: Global, lane: &mut ControlLane, line: Line<'_>) {
     let event = event_of(rt, alloc, line);
     let mut publish = Published {
         first: lane.plant().edition(),
-        changes: Vec::new(alloc),
+        groups: Vec::new(alloc),
     };
     let stamp = Stamp {
         phase: 1,
@@ -213,7 +230,7 @@ fn passes(rt: &impl Abort, alloc: Global, lane: &mut ControlLane, ticks: u32) {
 }
 
 /// Plays rows from the start of a lane: an event, the edition that it publishes, and what comes of it.
-fn plays(rt: &impl Abort, alloc: Global, rows: &[(Line, Option<u64>, &[Came])]) {
+fn plays(rt: &impl Abort, alloc: Global, rows: &[(Line<'_>, Option<u64>, &[Came])]) {
     let mut lane = lane(rt, alloc);
     for (line, published, came) in rows {
         if let Line::Ticks(ticks) = line {
@@ -227,16 +244,40 @@ fn plays(rt: &impl Abort, alloc: Global, rows: &[(Line, Option<u64>, &[Came])]) 
 
 #[test]
 fn takes_edits_and_statuses(rt: HostRuntime) {
-    let rows: [(Line, Option<u64>, &[Came]); 9] = [
-        (Line::AddRow, Some(1), &[]),
-        (Line::AddRow, None, &[Came::Lost(Lost::Duplicate)]),
-        (Line::DelRow, Some(2), &[]),
-        (Line::DelRow, None, &[Came::Lost(Lost::NoRow)]),
-        (Line::Pause, Some(3), &[Came::Paused]),
-        (Line::Down, Some(4), &[Came::Sent(200, 2, 8, OWN)]),
-        (Line::Down, None, &[Came::Lost(Lost::Same)]),
-        (Line::Up, Some(5), &[Came::Sent(200, 1, 8, OWN)]),
-        (Line::BarSub, None, &[]),
+    let rows: [(Line, Option<u64>, &[Came]); 13] = [
+        (Line::Group(&[Edit::AddRow]), Some(1), &[]),
+        (
+            Line::Group(&[Edit::AddRow]),
+            None,
+            &[Came::Lost(Lost::Duplicate)],
+        ),
+        (Line::Group(&[Edit::DelRow, Edit::AddRow]), Some(2), &[]),
+        (
+            Line::Group(&[Edit::DelRow, Edit::DelRow]),
+            None,
+            &[Came::Lost(Lost::NoRow)],
+        ),
+        (Line::Group(&[Edit::DelRow, Edit::Pause]), None, &[]),
+        (Line::Group(&[Edit::DelRow]), Some(3), &[]),
+        (
+            Line::Group(&[Edit::DelRow]),
+            None,
+            &[Came::Lost(Lost::NoRow)],
+        ),
+        (Line::Group(&[]), None, &[Came::Lost(Lost::Same)]),
+        (Line::Group(&[Edit::Pause]), Some(4), &[Came::Paused]),
+        (
+            Line::Group(&[Edit::Down]),
+            Some(5),
+            &[Came::Sent(200, 2, 8, OWN)],
+        ),
+        (Line::Group(&[Edit::Down]), None, &[Came::Lost(Lost::Same)]),
+        (
+            Line::Group(&[Edit::Up]),
+            Some(6),
+            &[Came::Sent(200, 1, 8, OWN)],
+        ),
+        (Line::Group(&[Edit::BarSub]), None, &[]),
     ];
     plays(&rt, rt.alloc(), &rows);
 }

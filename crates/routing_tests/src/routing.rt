@@ -1,7 +1,7 @@
 //! Asks for a title, and what routing control answers as the routing data change.
 use crate::common::{E164, TITLE, digits, entity, point};
 use gtt_table::{Entity, Row};
-use plant_core::{Answer, Change, Origin, Plant, Rewrite, RouteCause};
+use plant_core::{Answer, Change, Group, Origin, Plant, Rewrite, RouteCause};
 use relay_base::Ssn;
 use routing_control::route;
 use sccp_address::parse;
@@ -22,9 +22,10 @@ fn plant(rt: &impl Abort, alloc: Global, first: Entity, second: Option<Entity>) 
     plant
 }
 
-fn change(rt: &impl Abort, plant: &mut Plant, change: &Change) {
+fn change(rt: &impl Abort, alloc: Global, plant: &mut Plant, change: Change) {
     assert!(rt; plant.edition() < 100);
-    plant.absorb(change).expect(rt, "memory");
+    let group = Group::of(alloc, change).expect(rt, "memory");
+    plant.absorb(&group).expect(rt, "memory");
 }
 
 /// Asserts what an ask of the network is answered.
@@ -90,7 +91,7 @@ fn leads_to_the_first_that_is_available(rt: HostRuntime) {
         ),
     ];
     for (bar, wanted) in rows {
-        change(&rt, &mut plant, &bar);
+        change(&rt, rt.alloc(), &mut plant, bar);
         assert_answers(&rt, &plant, TITLE, None, wanted);
     }
 }
@@ -100,7 +101,7 @@ fn leads_to_the_own_point(rt: HostRuntime) {
     let mut plant = plant(&rt, rt.alloc(), entity(&rt, 100), None);
     let here = Answer::Local(Ssn::from(8));
     assert_answers(&rt, &plant, TITLE, Some(3), here);
-    change(&rt, &mut plant, &Change::LocalDown(Ssn::from(8)));
+    change(&rt, rt.alloc(), &mut plant, Change::LocalDown(Ssn::from(8)));
     let out = Answer::Refused {
         cause: RouteCause::SubsystemBarred,
         local: Some(Ssn::from(8)),

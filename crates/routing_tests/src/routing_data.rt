@@ -3,7 +3,9 @@ ghost use Rattle.std.specs.Prelude.{◌≡◌};
 
 use crate::common::{E164, TITLE, digits, entity, point, row};
 use gtt_table::Look;
-use plant_core::{Answer, Ask, Change, Origin, Plant, Rewrite, RouteCause, Verdict, rewritten};
+use plant_core::{
+    Answer, Ask, Change, ChangeList, Group, Origin, Plant, Rewrite, RouteCause, Verdict, rewritten,
+};
 use relay_base::Ssn;
 use sccp_address::parse;
 use std::alloc::Global;
@@ -16,12 +18,50 @@ fn plant(rt: &impl Abort, alloc: Global) -> Plant
     Plant::start(alloc, point(rt, 100), &[Ssn::from(8)]).expect(rt, "memory")
 }
 
-/// Absorbs a change that has this verdict.
-fn absorbs(rt: &impl Abort, plant: &mut Plant, change: &Change, verdict: Verdict) {
-    assert!(rt; plant.verdict(change) == verdict);
+/// The row from 4917 to point 400 is added or deleted, or the row of 49, or one that isn't there; or the status of point 300, of its subsystem 8
+/// or of the own one changes.
+#[derive(Clone, Copy)]
+enum Edit {
+    Add,
+    Delete,
+    DeleteFirst,
+    DeleteNone,
+    Bar,
+    Free,
+    BarSub,
+    FreeSub,
+    Down,
+    Up,
+}
+
+fn change_of(rt: &impl Abort, edit: Edit) -> Change {
+    let far = point(rt, 300);
+    let ssn = Ssn::from(8);
+    match edit {
+        Edit::Add => Change::AddRow(row(rt, &[4, 9, 1, 7], 400)),
+        Edit::Delete => Change::DelRow(E164, digits(&[4, 9, 1, 7])),
+        Edit::DeleteFirst => Change::DelRow(E164, digits(&[4, 9])),
+        Edit::DeleteNone => Change::DelRow(E164, digits(&[5])),
+        Edit::Bar => Change::BarPoint(far),
+        Edit::Free => Change::FreePoint(far),
+        Edit::BarSub => Change::BarSub(far, ssn),
+        Edit::FreeSub => Change::FreeSub(far, ssn),
+        Edit::Down => Change::LocalDown(ssn),
+        Edit::Up => Change::LocalUp(ssn),
+    }
+}
+
+/// Absorbs a group of changes that has this verdict.
+fn absorbs(rt: &impl Abort, alloc: Global, plant: &mut Plant, edits: &[Edit], verdict: Verdict) {
+    let mut changes = ChangeList::new(alloc);
+    for edit in edits {
+        changes.push(change_of(rt, *edit)).expect(rt, "memory");
+    }
+    let group = Group { changes };
+    assert!(rt; plant.verdict(&group) == verdict);
     assert!(rt; plant.edition() < 1000);
-    plant.make_room().expect(rt, "memory");
-    plant.absorb(change).expect(rt, "memory");
+    plant.make_room(&group).expect(rt, "memory");
+    plant.absorb(&group).expect(rt, "memory");
 }
 
 /// Asserts that a title leads to a point.
@@ -37,36 +77,75 @@ fn assert_leads(rt: &impl Abort, plant: &Plant, title: &[u8], number: u32) {
 fn absorbs_rows(rt: HostRuntime) {
     let mut plant = plant(&rt, rt.alloc());
     assert!(rt; plant.add(row(&rt, &[4, 9], 300)).is_ok());
-    let add = Change::AddRow(row(&rt, &[4, 9, 1, 7], 400));
-    absorbs(&rt, &mut plant, &add, Verdict::Alters);
-    absorbs(&rt, &mut plant, &add, Verdict::Duplicate);
-    assert_leads(&rt, &plant, &[4, 9, 1, 7, 1, 2], 400);
-    let delete = Change::DelRow(E164, digits(&[4, 9, 1, 7]));
-    absorbs(&rt, &mut plant, &delete, Verdict::Alters);
-    absorbs(&rt, &mut plant, &delete, Verdict::NoRow);
+    let rows = [
+        (Edit::Add, Verdict::Alters, 400),
+        (Edit::Add, Verdict::Duplicate, 400),
+        (Edit::Delete, Verdict::Alters, 300),
+        (Edit::Delete, Verdict::NoRow, 300),
+    ];
+    for (edit, verdict, number) in rows {
+        absorbs(&rt, rt.alloc(), &mut plant, &[edit], verdict);
+        assert_leads(&rt, &plant, &[4, 9, 1, 7, 1, 2], number);
+    }
     let copy = plant.copy().expect(&rt, "memory");
     assert_leads(&rt, &copy, &[4, 9, 1, 7, 1, 2], 300);
     assert!(rt; copy.edition() == 4);
 }
 
+/// Asserts the verdict on a group, and where 4917 leads then.
+fn assert_group(rt: &impl Abort, alloc: Global, edits: &[Edit], verdict: Verdict, number: u32) {
+    let mut plant = plant(rt, alloc);
+    assert!(rt; plant.add(row(rt, &[4, 9], 300)).is_ok());
+    absorbs(rt, alloc, &mut plant, edits, verdict);
+    assert_leads(rt, &plant, &[4, 9, 1, 7, 1, 2], number);
+    assert!(rt; plant.edition() == 1);
+}
+
+#[test]
+fn absorbs_groups_whole(rt: HostRuntime) {
+    let rows: [(&[Edit], Verdict, u32); 8] = [
+        (&[], Verdict::Same, 300),
+        (&[Edit::DeleteFirst, Edit::Add], Verdict::Alters, 400),
+        (&[Edit::Add, Edit::DeleteNone], Verdict::NoRow, 300),
+        (&[Edit::DeleteNone, Edit::Add], Verdict::NoRow, 300),
+        (
+            &[Edit::Add, Edit::Add, Edit::DeleteNone],
+            Verdict::Duplicate,
+            300,
+        ),
+        (
+            &[Edit::Add, Edit::Delete, Edit::DeleteFirst],
+            Verdict::Alters,
+            0,
+        ),
+        (
+            &[Edit::DeleteFirst, Edit::Add, Edit::Delete, Edit::Add],
+            Verdict::Alters,
+            400,
+        ),
+        (&[Edit::Add, Edit::Bar, Edit::Bar], Verdict::Same, 300),
+    ];
+    for (edits, verdict, number) in rows {
+        assert_group(&rt, rt.alloc(), edits, verdict, number);
+    }
+}
+
 #[test]
 fn absorbs_statuses(rt: HostRuntime) {
-    let far = point(&rt, 300);
-    let ssn = Ssn::from(8);
     let mut plant = plant(&rt, rt.alloc());
-    for (change, verdict) in [
-        (Change::FreePoint(far), Verdict::Same),
-        (Change::BarPoint(far), Verdict::Alters),
-        (Change::FreePoint(far), Verdict::Alters),
-        (Change::BarSub(far, ssn), Verdict::Alters),
-        (Change::FreeSub(far, ssn), Verdict::Alters),
-        (Change::LocalDown(ssn), Verdict::Alters),
-        (Change::LocalUp(ssn), Verdict::Alters),
+    for (edit, verdict) in [
+        (Edit::Free, Verdict::Same),
+        (Edit::Bar, Verdict::Alters),
+        (Edit::Free, Verdict::Alters),
+        (Edit::BarSub, Verdict::Alters),
+        (Edit::FreeSub, Verdict::Alters),
+        (Edit::Down, Verdict::Alters),
+        (Edit::Up, Verdict::Alters),
     ] {
-        absorbs(&rt, &mut plant, &change, verdict);
+        absorbs(&rt, rt.alloc(), &mut plant, &[edit], verdict);
     }
     assert!(rt; plant.stands(&entity(&rt, 300)).is_ok());
-    assert!(rt; plant.own().number() == 100 && plant.is_in_service(ssn));
+    assert!(rt; plant.own().number() == 100 && plant.is_in_service(Ssn::from(8)));
 }
 
 fn assert_answers(rt: &impl Abort, plant: &Plant, octets: &[u8], origin: Origin, wanted: Answer) {

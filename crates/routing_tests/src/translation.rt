@@ -16,7 +16,7 @@ fn assert_leads(rt: &impl Abort, table: &Table, title: &[u8], number: u32) {
 #[test]
 fn finds_the_longest_prefix(rt: HostRuntime) -> Result<(), Fail> {
     let mut table = Table::new(rt.alloc());
-    table.make_room()?;
+    table.make_room(2)?;
     assert!(rt; table.add(row(&rt, &[4, 9], 300)).is_ok());
     assert_leads(&rt, &table, &[4, 9, 1, 7, 1, 2], 300);
     assert!(rt; table.add(row(&rt, &[4, 9, 1, 7], 400)).is_ok());

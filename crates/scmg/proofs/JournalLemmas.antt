@@ -1,6 +1,6 @@
 -- What a journal leaves, and how it goes on.
 use Rattle.std.proofs.Common.{◌≡◌, ℕ, ◌+◌, ◌≤◌, List, [], ◌∷◌, ◌++◌, length, refl, sym, ap, ◌∙◌, subst, arith, append_assoc, append-nil, length-append, Option, Some, None, option_to_list, Result, Ok, Err, OnOk, OnErr}
-use Rattle.plant_core.specs.declared.change.Change.{Change}
+use Rattle.plant_core.specs.declared.change.Group.{Group}
 use Rattle.plant_core.specs.declared.entry.ControlEntry.{ControlEntry}
 use Rattle.plant_core.specs.declared.entry.ControlEvent.{ControlEvent}
 use Rattle.plant_core.specs.declared.terms.Ticks.{Ticks}
@@ -14,14 +14,14 @@ use Rattle.scmg.specs.Lane.{GrowAlike}
 use Rattle.scmg.specs.Inner.Kept.{KeptState, IsLane, after_entries}
 use Rattle.scmg.specs.Control.{Control, Managed, managed, managed_by, start_of_control, changes_in, control_after, change_of, edition_after, count_after, IsLegalEntry, after_entry, LegalFrom, changes_from, effect_of}
 
-plant-append : (p : RoutingData) (some more : List Change) → plant_after_all p (some ++ more) ≡ plant_after_all (plant_after_all p some) more
+plant-append : (p : RoutingData) (some more : List Group) → plant_after_all p (some ++ more) ≡ plant_after_all (plant_after_all p some) more
 plant-append p [] more = refl
-plant-append p (change ∷ some) more = plant-append (plant_after p change) some more
+plant-append p (group ∷ some) more = plant-append (plant_after p group) some more
 
 act-routing : (ticks : Ticks) (c : Control) (act : Act) → (control_after ticks c act).routing ≡ plant_after_all c.routing (option_to_list (change_of act))
 unfolding control_after
 act-routing ticks c Nothing = refl
-act-routing ticks c (Publish change) = refl
+act-routing ticks c (Publish group) = refl
 act-routing ticks c (Remember g) = refl
 act-routing ticks c (Forget g) = refl
 act-routing ticks c (Begin r) = refl
@@ -40,19 +40,19 @@ routing-after head c (entry ∷ more) =
     ∙ ap (λ p. plant_after_all p (changes_from head (after_entry head c entry) more)) (event-routing head c entry.event)
     ∙ sym (plant-append c.routing (option_to_list (managed head c entry.event).published) (changes_from head (after_entry head c entry) more))
 
-count-more : (n : ℕ) (published : Option Change) (more : List Change) → count_after n published + length more ≡ n + length (option_to_list published ++ more)
+count-more : (n : ℕ) (published : Option Group) (more : List Group) → count_after n published + length more ≡ n + length (option_to_list published ++ more)
 count-more n None more = refl
-count-more n (Some change) more = omega arith
+count-more n (Some group) more = omega arith
 
-count-length : (before : List Change) (published : Option Change) → count_after (length before) published ≡ length (before ++ option_to_list published)
+count-length : (before : List Group) (published : Option Group) → count_after (length before) published ≡ length (before ++ option_to_list published)
 count-length before None = ap length (sym (append-nil before))
-count-length before (Some change) = sym (length-append before (change ∷ []))
+count-length before (Some group) = sym (length-append before (group ∷ []))
 
-few-more : (published : Option Change) (more : List Change) → length (option_to_list published ++ more) ≤ 1 + length more
+few-more : (published : Option Group) (more : List Group) → length (option_to_list published ++ more) ≤ 1 + length more
 few-more None more = omega arith
-few-more (Some change) more = omega arith
+few-more (Some group) more = omega arith
 
--- an entry publishes at most one change
+-- an entry publishes at most one group of changes
 pub few-changes : (head : ControlHead) (c : Control) (journal : List ControlEntry) → length (changes_from head c journal) ≤ length journal
 few-changes head c [] = omega arith
 few-changes head c (entry ∷ more) =
@@ -84,17 +84,17 @@ changes-push head c (first ∷ more) entry =
     ap (λ xs. published ++ xs) (changes-push head after more entry)
     ∙ sym (append_assoc published (changes_from head after more) (option_to_list (managed head (after_entries head after more) entry.event).published))
 
--- an entry with what comes of its event, and the edition that its change makes
+-- an entry with what comes of its event, and the edition that its changes make
 pub record IsOfEffect (head : ControlHead) (event : ControlEvent) (kept : KeptState) (effect : Effect) (entry : ControlEntry) : Type 0 where
   pub of_event : entry.event ≡ event
   pub by : effect ≡ effect_of head kept.control event
   pub outs : entry.outs ≡ effect.outs
-  pub published : entry.published ≡ edition_after kept.edition (change_of effect.act)
+  pub published : entry.published ≡ edition_after kept.plant.edition (change_of effect.act)
 
 -- an entry with the outputs of an event's effect, once the edition is in it
 pub effect-made : (head : ControlHead) (event : ControlEvent) (kept : KeptState) (made : ControlEntry) (act : Act) → made.event ≡ event
     → made.outs ≡ (effect_of head kept.control event).outs → act ≡ (effect_of head kept.control event).act
-    → IsOfEffect head event kept (record { outs = made.outs; act = act }) (record made { published = edition_after kept.edition (change_of act) })
+    → IsOfEffect head event kept (record { outs = made.outs; act = act }) (record made { published = edition_after kept.plant.edition (change_of act) })
 effect-made head event kept made act e o a =
     record { of_event = e; by = λ i. record { outs = o i; act = a i }; outs = refl; published = refl }
 
@@ -126,11 +126,11 @@ changes-grow head start journal event kept effect entry lane made =
 -- the lane goes on with the entry
 lane-goes : (head : ControlHead) (start : RoutingData) (journal : List ControlEntry) (event : ControlEvent) (kept after : KeptState) (effect : Effect) (entry : ControlEntry)
     → IsLane head start journal kept → IsOfEffect head event kept effect entry → after.control ≡ control_after head.ticks kept.control effect.act
-    → after.edition ≡ count_after kept.edition (change_of effect.act) → IsLane head start (journal ++ entry ∷ []) after
+    → after.plant.edition ≡ count_after kept.plant.edition (change_of effect.act) → IsLane head start (journal ++ entry ∷ []) after
 lane-goes head start journal event kept after effect entry lane made control edition =
     let c = after_entries head (start_of_control start) journal in
-    let before : List Change = changes_in head start journal in
-    let published : Option Change = change_of effect.act in
+    let before : List Group = changes_in head start journal in
+    let published : Option Group = change_of effect.act in
     let is : managed head c entry.event ≡ managed_by head kept.control effect = managed-so head start journal event kept effect entry lane made in
     let legal : IsLegalEntry head c (length before) entry = record {
       outputs = made.outs ∙ sym (ap (λ (m : Managed). m.outs) is);
@@ -147,15 +147,15 @@ lane-goes head start journal event kept after effect entry lane made control edi
 -- it goes on, or is as before
 pub lane-either : {T E : Type 0} (r : Result T E) (head : ControlHead) (start : RoutingData) (journal next : List ControlEntry) (event : ControlEvent) (kept after : KeptState) (effect : Effect) (entry : ControlEntry)
     → IsLane head start journal kept → IsOfEffect head event kept effect entry
-    → OnOk r (after.control ≡ control_after head.ticks kept.control effect.act) → OnOk r (after.edition ≡ count_after kept.edition (change_of effect.act)) → OnOk r (next ≡ journal ++ entry ∷ [])
-    → OnErr r ((after.control ≡ kept.control) × (after.edition ≡ kept.edition)) → OnErr r (next ≡ journal) → IsLane head start next after
+    → OnOk r (after.control ≡ control_after head.ticks kept.control effect.act) → OnOk r (after.plant.edition ≡ count_after kept.plant.edition (change_of effect.act)) → OnOk r (next ≡ journal ++ entry ∷ [])
+    → OnErr r ((after.control ≡ kept.control) × (after.plant.edition ≡ kept.plant.edition)) → OnErr r (next ≡ journal) → IsLane head start next after
 lane-either (Ok x) head start journal next event kept after effect entry lane made control edition grown as_before same =
     subst (λ l. IsLane head start l after) (sym grown) (lane-goes head start journal event kept after effect entry lane made control edition)
 lane-either (Err e) head start journal next event kept after effect entry lane made control edition grown as_before same =
     subst (λ l. IsLane head start l after) (sym same) (record { legal = lane.legal; control = as_before.0 ∙ lane.control; edition = as_before.1 ∙ lane.edition })
 
 -- the changes that are published are those of the journal
-pub grow-alike : {T E : Type 0} (r : Result T E) (head : ControlHead) (start : RoutingData) (journal next : List ControlEntry) (event : ControlEvent) (kept : KeptState) (effect : Effect) (entry : ControlEntry) (old new : List Change)
+pub grow-alike : {T E : Type 0} (r : Result T E) (head : ControlHead) (start : RoutingData) (journal next : List ControlEntry) (event : ControlEvent) (kept : KeptState) (effect : Effect) (entry : ControlEntry) (old new : List Group)
     → IsLane head start journal kept → IsOfEffect head event kept effect entry
     → OnOk r (new ≡ old ++ option_to_list (change_of effect.act)) → OnOk r (next ≡ journal ++ entry ∷ []) → OnOk r (GrowAlike old new (changes_in head start journal) (changes_in head start next))
 grow-alike (Ok x) head start journal next event kept effect entry old new lane made here grown = record {

@@ -10,11 +10,12 @@ use Rattle.relay_base.specs.declared.words.Output.TheVariants.{Told}
 use Rattle.relay_base.specs.declared.words.Tell.{Tell}
 use Rattle.plant_core.specs.declared.change.Change.{Change}
 use Rattle.plant_core.specs.declared.change.Change.TheVariants.{AddRow, DelRow, BarPoint, FreePoint, BarSub, FreeSub, LocalUp, LocalDown}
+use Rattle.plant_core.specs.declared.change.Group.{Group}
 use Rattle.plant_core.specs.Plant.{RoutingData, is_among}
 use Rattle.plant_core.proofs.MemberLemmas.{any-append}
-use Rattle.plant_core.specs.Changes.{but_for, with_number, verdict_on, is_alters, changed, plant_after}
+use Rattle.plant_core.specs.Changes.{but_for, with_number, group_verdict, is_alters, changed, changed_all, plant_after}
 use Rattle.scmg.specs.declared.head.ControlHead.{ControlHead}
-use Rattle.scmg.specs.Control.{subsystems, is_told, told_among, told_all, made_known, to_concerned}
+use Rattle.scmg.specs.Control.{subsystems, is_told, told_among, told_all, made_known, to_concerned, only_among, known_by}
 
 -- numbers up to one more
 range-past : (a n : ℕ) → range_with_len a (n + 1) ≡ range_with_len a n ++ (a + n) ∷ []
@@ -117,14 +118,14 @@ comes-back ssn x (y ∷ out) e =
     (λ (t : (y == ssn) ≡ false). rw t (ap (λ b. (y == x) || b) (comes-back ssn x out e)))
     (cases_Bool (y == ssn))
 
--- what holds of the routing data with the change, and of those without, holds of those after the change
-after-change : (P : RoutingData → Type 0) (p : RoutingData) (change : Change) → P (changed p change) → P p → P (plant_after p change)
+-- what holds of the routing data with the changes of a group, and of those without, holds of those after the group
+after-group : (P : RoutingData → Type 0) (p : RoutingData) (group : Group) → P (changed_all p group.changes) → P p → P (plant_after p group)
 unfolding plant_after
-after-change P p change with_it without =
+after-group P p group with_it without =
     ⊎_elim
-    (λ (t : is_alters (verdict_on p change) ≡ true). rw t with_it)
-    (λ (t : is_alters (verdict_on p change) ≡ false). rw t without)
-    (cases_Bool (is_alters (verdict_on p change)))
+    (λ (t : is_alters (group_verdict p group) ≡ true). rw t with_it)
+    (λ (t : is_alters (group_verdict p group) ≡ false). rw t without)
+    (cases_Bool (is_alters (group_verdict p group)))
 
 known-changed : (head : ControlHead) (p : RoutingData) (change : Change) → made_known head (changed p change) change ≡ made_known head p change
 unfolding changed
@@ -141,6 +142,13 @@ known-changed head p (LocalDown ssn) =
     ap (λ outs. outs ++ to_concerned head p false ssn)
     (all-alike ssn p (changed p (LocalDown ssn)) _ (record { users = refl; out = λ x e. goes-out ssn x p.out_of_service e }))
 
--- so what a change makes known is told by the routing data before it too
-pub known-after : (head : ControlHead) (p : RoutingData) (change : Change) → made_known head (plant_after p change) change ≡ made_known head p change
-known-after head p change = after-change (λ q. made_known head q change ≡ made_known head p change) p change (known-changed head p change) refl
+only-changed : (head : ControlHead) (p : RoutingData) (changes : List Change) → known_by head (changed_all p changes) (only_among changes) ≡ known_by head p (only_among changes)
+only-changed head p [] = refl
+only-changed head p (change ∷ []) = known-changed head p change
+only-changed head p (change ∷ other ∷ more) = refl
+
+-- so what a group makes known is told by the routing data before it too
+pub known-after : (head : ControlHead) (p : RoutingData) (group : Group) → known_by head (plant_after p group) (only_among group.changes) ≡ known_by head p (only_among group.changes)
+known-after head p group =
+    let change = only_among group.changes in
+    after-group (λ q. known_by head q change ≡ known_by head p change) p group (only-changed head p group.changes) refl

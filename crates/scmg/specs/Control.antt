@@ -1,6 +1,6 @@
 -- SCCP management (Q.714, 5.2 and 5.3): what each event of the control lane does, and a legal control journal.
-use Rattle.std.specs.Prelude.{◌≡◌, ℕ, pred, ◌+◌, ◌*◌, ◌==◌, ◌&&◌, ◌||◌, nat_lt, nat_le, not, Bool, true, false, List, [], ◌∷◌, ◌++◌, map, filter, find, min, if◌then◌else◌, Option, Some, None, option_map, option_to_list}
-use Rattle.std.specs.List.{list_any, insert, position_or_len, range_with_len}
+use Rattle.std.specs.Prelude.{◌≡◌, ℕ, pred, ◌+◌, ◌*◌, ◌==◌, ◌&&◌, ◌||◌, nat_lt, nat_le, not, Bool, true, false, List, [], ◌∷◌, ◌++◌, length, map, filter, find, min, if◌then◌else◌, Option, Some, None, option_map, option_to_list}
+use Rattle.std.specs.List.{list_any, list_all, insert, position_or_len, range_with_len}
 use Rattle.relay_base.specs.declared.limits.TheConstants.{SUBSYSTEM_NUMBERS}
 use Rattle.relay_base.specs.declared.words.Output.{Output}
 use Rattle.relay_base.specs.declared.words.Output.TheVariants.{Told, Lost as Dropped}
@@ -14,6 +14,7 @@ use Rattle.relay_base.specs.declared.words.Request.TheVariants as request
 use Rattle.relay_base.specs.declared.words.Event.TheVariants.{Message as Arrived, Asked as Requested, Tick as TickEvent}
 use Rattle.plant_core.specs.declared.change.Change.{Change}
 use Rattle.plant_core.specs.declared.change.Change.TheVariants.{AddRow, DelRow, BarPoint, FreePoint, BarSub, FreeSub, LocalUp, LocalDown}
+use Rattle.plant_core.specs.declared.change.Group.{Group}
 use Rattle.plant_core.specs.declared.change.Verdict.{Verdict}
 use Rattle.plant_core.specs.declared.change.Verdict.TheVariants.{Alters, Same, Duplicate, RowsFull, NoRow}
 use Rattle.plant_core.specs.declared.entry.ControlEvent.{ControlEvent}
@@ -23,7 +24,7 @@ use Rattle.plant_core.specs.declared.statuses.RemoteSubsystem.{RemoteSubsystem}
 use Rattle.plant_core.specs.declared.terms.Replicate.{Replicate}
 use Rattle.plant_core.specs.declared.terms.Ticks.{Ticks}
 use Rattle.plant_core.specs.Plant.{RoutingData, is_same_subsystem, is_in_service}
-use Rattle.plant_core.specs.Changes.{verdict_on, is_alters, plant_after, plant_after_all}
+use Rattle.plant_core.specs.Changes.{verdict_on, is_alters, alone, group_verdict, plant_after, plant_after_all}
 use Rattle.scmg.specs.declared.head.ControlHead.{ControlHead}
 use Rattle.scmg.specs.declared.timed.StatusTest.{StatusTest}
 use Rattle.scmg.specs.declared.timed.Coordination.{Coordination}
@@ -81,8 +82,8 @@ subsystems = range_with_len 0 SUBSYSTEM_NUMBERS
 abbrev pub told_all : RoutingData → Option ℕ → Tell → List Output
 told_all p subject t = told_among p subject t subsystems
 
--- A change that alters the routing data is published. What it makes known, by the routing data after it: to the users, and of a
--- local subsystem to each concerned point.
+-- A group of changes that alters the routing data is published whole. What its only change makes known, by the routing data after it: to the
+-- users, and of a local subsystem to each concerned point. Several changes are of rows, which make nothing known.
 
 abbrev pub service_format : Bool → Format
 service_format up = if up then Allowed else Prohibited
@@ -103,10 +104,19 @@ made_known head p (FreeSub point ssn) = told_all p None (tell.State ssn point tr
 made_known head p (LocalUp ssn) = service_known head p true ssn
 made_known head p (LocalDown ssn) = service_known head p false ssn
 
-abbrev pub publishes : ControlHead → RoutingData → Change → Effect
-publishes head p change = record { outs = made_known head (plant_after p change) change; act = Publish change }
+abbrev pub only_among : List Change → Option Change
+only_among (change ∷ []) = Some change
+only_among _ = None
 
--- A change by an operator. A subsystem of another point is barred and freed by messages alone (Q.714, 5.2 and 5.3).
+abbrev pub known_by : ControlHead → RoutingData → Option Change → List Output
+known_by head p None = []
+known_by head p (Some change) = made_known head p change
+
+abbrev pub publishes : ControlHead → RoutingData → Group → Effect
+publishes head p group = record { outs = known_by head (plant_after p group) (only_among group.changes); act = Publish group }
+
+-- A group of changes by an operator. Several changes together are of rows, and a subsystem of another point is barred and freed by messages
+-- alone (Q.714, 5.2 and 5.3).
 
 abbrev pub refusal : Verdict → List Output
 refusal Alters = []
@@ -115,22 +125,31 @@ refusal Duplicate = Dropped lost.Duplicate ∷ []
 refusal RowsFull = Dropped lost.RowsFull ∷ []
 refusal NoRow = Dropped lost.NoRow ∷ []
 
-abbrev pub is_by_operator : Change → Bool
-is_by_operator (BarSub point ssn) = false
-is_by_operator (FreeSub point ssn) = false
-is_by_operator _ = true
+abbrev pub is_by_message : Change → Bool
+is_by_message (BarSub point ssn) = true
+is_by_message (FreeSub point ssn) = true
+is_by_message _ = false
 
-abbrev pub changes : ControlHead → Control → Change → Effect
-changes head c change =
-    if not (is_by_operator change) then quiet
-    else if is_alters (verdict_on c.routing change) then publishes head c.routing change
-    else only (refusal (verdict_on c.routing change))
+abbrev pub is_of_row : Change → Bool
+is_of_row (AddRow row) = true
+is_of_row (DelRow selector prefix) = true
+is_of_row _ = false
+
+abbrev pub is_by_operator : Group → Bool
+is_by_operator group =
+    not (list_any is_by_message group.changes) && (nat_le (length group.changes) 1 || list_all is_of_row group.changes)
+
+abbrev pub changes : ControlHead → Control → Group → Effect
+changes head c group =
+    if not (is_by_operator group) then quiet
+    else if is_alters (group_verdict c.routing group) then publishes head c.routing group
+    else only (refusal (group_verdict c.routing group))
 
 -- A message of management (Q.714, 5.3).
 
 -- a change by a message is published where it alters the routing data, and else nothing comes of it
 abbrev pub announced : ControlHead → Control → Change → Effect
-announced head c change = if is_alters (verdict_on c.routing change) then publishes head c.routing change else quiet
+announced head c change = if is_alters (verdict_on c.routing change) then publishes head c.routing (alone change) else quiet
 
 -- a status test is answered where the subsystem is management or a user in service (Q.714, 5.3.4)
 abbrev pub tested : Control → ℕ → ℕ → Effect
@@ -218,7 +237,7 @@ abbrev pub ticks : Control → Effect
 ticks c = record { outs = tests_sent c.tests ++ map denied (filter is_due_coordination c.coordinations); act = Tick }
 
 unfoldable pub effect_of : ControlHead → Control → ControlEvent → Effect
-effect_of head c (Changing change) = changes head c change
+effect_of head c (Changing group) = changes head c group
 effect_of head c (Plain (Arrived opc sls bytes)) = hears head c opc (data_in bytes)
 effect_of head c (Plain (Requested ssn r)) = asks head c ssn r
 effect_of head c (Plain TickEvent) = ticks c
@@ -240,9 +259,9 @@ abbrev pub with_test : StatusTest → List StatusTest → List StatusTest
 with_test t tests = filter (λ other. is_test_before other t) tests ++ t ∷ filter (is_test_before t) tests
 
 -- a test begins with its subsystem's going out of service, and ends with its coming back (Q.714, 5.3.4)
-abbrev pub tests_after : Ticks → Change → List StatusTest → List StatusTest
-tests_after ticks (BarSub point ssn) tests = with_test (test_begun ticks.status point ssn) tests
-tests_after ticks (FreeSub point ssn) tests = filter (λ t. not (is_test_of point ssn t)) tests
+abbrev pub tests_after : Ticks → Option Change → List StatusTest → List StatusTest
+tests_after ticks (Some (BarSub point ssn)) tests = with_test (test_begun ticks.status point ssn) tests
+tests_after ticks (Some (FreeSub point ssn)) tests = filter (λ t. not (is_test_of point ssn t)) tests
 tests_after ticks _ tests = tests
 
 -- a test that was sent has twice the ticks, but no more than the most (Q.714, 5.3.4)
@@ -280,22 +299,25 @@ with_grant g list = without_grant g list ++ g ∷ []
 
 unfoldable pub control_after : Ticks → Control → Act → Control
 control_after ticks c Nothing = c
-control_after ticks c (Publish change) = record c { routing = plant_after c.routing change; tests = tests_after ticks change c.tests }
+control_after ticks c (Publish group) = record c {
+  routing = plant_after c.routing group;
+  tests = tests_after ticks (only_among group.changes) c.tests;
+}
 control_after ticks c (Remember g) = record c { grants = with_grant g c.grants }
 control_after ticks c (Forget g) = record c { grants = without_grant g c.grants }
 control_after ticks c (Begin r) = record c { coordinations = with_coordination (coordination_begun ticks r) c.coordinations }
 control_after ticks c (End ssn) = record c { coordinations = without_coordination ssn c.coordinations }
 control_after ticks c Tick = record c { tests = map (test_after_tick ticks) c.tests; coordinations = coordinations_after_tick c.coordinations }
 
-abbrev pub change_of : Act → Option Change
-change_of (Publish change) = Some change
+abbrev pub change_of : Act → Option Group
+change_of (Publish group) = Some group
 change_of _ = None
 
--- What an event does: the outputs, what is kept after it, and the change that it publishes.
+-- What an event does: the outputs, what is kept after it, and the group of changes that it publishes.
 pub record Managed : Type 0 where
   pub control : Control
   pub outs : List Output
-  pub published : Option Change
+  pub published : Option Group
 
 abbrev pub managed_by : ControlHead → Control → Effect → Managed
 managed_by head c effect = record { control = control_after head.ticks c effect.act; outs = effect.outs; published = change_of effect.act }
@@ -305,13 +327,13 @@ managed head c event = managed_by head c (effect_of head c event)
 
 -- The journal.
 
--- a change that is published makes the next edition
-abbrev pub edition_after : ℕ → Option Change → Option ℕ
-edition_after edition change = option_map (λ _. edition + 1) change
+-- a group that is published makes the next edition
+abbrev pub edition_after : ℕ → Option Group → Option ℕ
+edition_after edition group = option_map (λ _. edition + 1) group
 
-abbrev pub count_after : ℕ → Option Change → ℕ
+abbrev pub count_after : ℕ → Option Group → ℕ
 count_after edition None = edition
-count_after edition (Some change) = edition + 1
+count_after edition (Some group) = edition + 1
 
 -- an entry: its outputs, and the edition that it published, where so many were published before it
 pub record IsLegalEntry (head : ControlHead) (c : Control) (edition : ℕ) (entry : ControlEntry) : Type 0 where
@@ -327,8 +349,8 @@ LegalFrom head c edition (entry ∷ more) =
     IsLegalEntry head c edition entry
     × LegalFrom head (after_entry head c entry) (count_after edition (managed head c entry.event).published) more
 
--- the changes that the entries publish, one after another
-abbrev pub changes_from : ControlHead → Control → List ControlEntry → List Change
+-- the groups of changes that the entries publish, one after another
+abbrev pub changes_from : ControlHead → Control → List ControlEntry → List Group
 changes_from head c [] = []
 changes_from head c (entry ∷ more) = option_to_list (managed head c entry.event).published ++ changes_from head (after_entry head c entry) more
 
@@ -336,8 +358,8 @@ changes_from head c (entry ∷ more) = option_to_list (managed head c entry.even
 abbrev pub IsControlJournal : ControlHead → RoutingData → List ControlEntry → Type 0
 IsControlJournal head start journal = LegalFrom head (start_of_control start) 0 journal
 
-abbrev pub changes_in : ControlHead → RoutingData → List ControlEntry → List Change
+abbrev pub changes_in : ControlHead → RoutingData → List ControlEntry → List Group
 changes_in head start journal = changes_from head (start_of_control start) journal
 
-abbrev pub routing_after : RoutingData → List Change → RoutingData
+abbrev pub routing_after : RoutingData → List Group → RoutingData
 routing_after = plant_after_all

@@ -1,7 +1,7 @@
 -- What a control lane is seen as.
 use Rattle.std.specs.Prelude.{◌≡◌, List, [], ◌∷◌, ◌++◌}
 use Rattle.relay_base.specs.declared.words.Stamp.{Stamp}
-use Rattle.plant_core.specs.declared.change.Change.{Change}
+use Rattle.plant_core.specs.declared.change.Group.{Group}
 use Rattle.plant_core.specs.declared.entry.ControlEvent.{ControlEvent}
 use Rattle.plant_core.specs.declared.entry.ControlEntry.{ControlEntry}
 use Rattle.plant_core.specs.Plant.{RoutingData}
@@ -14,7 +14,7 @@ pub record ControlState : Type 0 where
   pub start : RoutingData
   pub journal : List ControlEntry
 
-abbrev pub changes_of : ControlState → List Change
+abbrev pub changes_of : ControlState → List Group
 changes_of lane = changes_in lane.head lane.start lane.journal
 
 -- an event was taken: the journal has one entry more
@@ -26,8 +26,8 @@ pub record AddsEntry (stamp : Stamp) (event : ControlEvent) (old new : ControlSt
   pub head : new.head ≡ old.head
   pub start : new.start ≡ old.start
 
--- both lists have grown by the same changes
-pub record GrowAlike (old new from to : List Change) : Type 0 where
-  pub more : List Change
+-- both lists have grown by the same groups of changes
+pub record GrowAlike (old new from to : List Group) : Type 0 where
+  pub more : List Group
   pub here : new ≡ old ++ more
   pub there : to ≡ from ++ more

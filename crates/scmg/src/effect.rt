@@ -1,23 +1,24 @@
 //! What comes of an event of the control lane.
 ghost use Rattle.std.specs.Prelude.{◌≡◌, ◌++◌, [], ◌∷◌, map, filter, IfOk};
 ghost use Rattle.scmg_messages.specs.Messages.{data_in};
-ghost use Rattle.scmg.specs.Control.{is_due_coordination, test_sent, denied, only, one, quiet, dropped, refused, is_by_operator, refusal, is_replicate, replicate_of, publishes, changes, announced, tested, asked_out, granted, hears_notice, hears_data, hears, coordinates_with, grants, asks, ticks, effect_of, change_of};
+ghost use Rattle.scmg.specs.Control.{is_due_coordination, test_sent, denied, only, one, quiet, dropped, refused, refusal, is_replicate, replicate_of, publishes, changes, announced, tested, asked_out, granted, hears_notice, hears_data, hears, coordinates_with, grants, asks, ticks, effect_of};
 
+use crate::groups::is_by_operator;
 use crate::head::ControlHead;
 use crate::kept::Kept;
-use crate::known::made_known;
+use crate::known::known_by;
 use crate::timed::{Coordination, StatusTest};
-use plant_core::{Change, ControlEvent, RemoteSubsystem, Replicate, Verdict};
+use plant_core::{Change, ControlEvent, Group, RemoteSubsystem, Replicate, Verdict};
 use relay_base::{Event, Lost, Memory, Output, Outs, Pc, Reason, Request, Ssn, Tell};
 use scmg_messages::{Format, Notice, data_in, notice_in, sent};
-use std::alloc::Global;
+use std::alloc::{AllocError, Global};
 
 /// What is done with what the lane keeps.
-#[derive(Clone, Copy)]
+#[derive(Drop)]
 pub enum Act {
     Nothing,
-    /// A change of the routing data is published.
-    Publish(Change),
+    /// A group of changes of the routing data is published.
+    Publish(Group),
     /// A user may grant that this subsystem goes out of service.
     Remember(RemoteSubsystem),
     /// The user granted it.
@@ -28,18 +29,6 @@ pub enum Act {
     End(Ssn),
     /// A tick goes by.
     Tick,
-}
-
-impl Act {
-    /// The change of the routing data that is published.
-    pub fn change(&self) -> Option<Change>
-        ensures { result ≡ change_of self.now }
-    {
-        match self {
-            Act::Publish(change) => Some(*change),
-            _ => None,
-        }
-    }
 }
 
 /// What comes of an event.
@@ -86,7 +75,7 @@ impl Effect {
         Effect::only(alloc, Output::Told { ssn, tell })
     }
 
-    /// What comes of an operator's change with this verdict, which is not that it alters the routing data.
+    /// What comes of an operator's changes with this verdict, which is not that it alters the routing data.
     fn refusal(alloc: Global, verdict: Verdict) -> Result<Effect, Memory>
         ensures { IfOk result (λ effect. effect ≡ only (refusal verdict)) }
     {
@@ -101,14 +90,10 @@ impl Effect {
     }
 }
 
-/// Whether an operator makes this change: subsystems of other points are barred and freed by messages alone.
-fn is_by_operator(change: Change) -> bool
-    ensures { result ≡ is_by_operator change }
+fn copy_of(group: &Group) -> Result<Group, AllocError>
+    ensures { IfOk result (λ copy. copy ≡ group.now) }
 {
-    match change {
-        Change::BarSub(_, _) | Change::FreeSub(_, _) => false,
-        _ => true,
-    }
+    group.clone()
 }
 
 fn is_replicate(head: &ControlHead, point: Pc, ssn: Ssn) -> bool
@@ -176,41 +161,43 @@ pub struct Context<'a> {
 }
 
 impl Context<'_> {
-    /// A change that is published, and what it makes known.
-    fn publishes(&self, change: Change) -> Result<Effect, Memory>
+    /// A group of changes that is published, and what it makes known.
+    fn publishes(&self, group: Group) -> Result<Effect, Memory>
         ensures { let head = self.now.head.now in
             let kept = self.now.kept.now.control
-            in IfOk result (λ effect. effect ≡ publishes head kept.routing change) }
+            in IfOk result (λ effect. effect ≡ publishes head kept.routing group) }
     {
         Ok(Effect {
-            outs: made_known(self.alloc, self.head, self.kept.plant(), change)?,
-            act: Act::Publish(change),
+            outs: known_by(self.alloc, self.head, self.kept.plant(), &group)?,
+            act: Act::Publish(group),
         })
     }
 
-    /// What comes of an operator's change.
-    fn changes(&self, change: Change) -> Result<Effect, Memory>
+    /// What comes of an operator's group of changes.
+    fn changes(&self, group: &Group) -> Result<Effect, Memory>
         ensures { let head = self.now.head.now in
             let kept = self.now.kept.now.control
-            in IfOk result (λ effect. effect ≡ changes head kept change) }
+            in IfOk result (λ effect. effect ≡ changes head kept group.now) }
     {
-        if !is_by_operator(change) {
+        if !is_by_operator(group) {
             return Ok(Effect::quiet(self.alloc));
         }
-        match self.kept.plant().verdict(&change) {
-            Verdict::Alters => self.publishes(change),
+        match self.kept.plant().verdict(group) {
+            Verdict::Alters => self.publishes(copy_of(group)?),
             verdict => Effect::refusal(self.alloc, verdict),
         }
     }
 
     /// What comes of a change by a message.
+    #[tactic(auto, using(plant_core::proofs::GroupLemmas::verdict_alone))]
     fn announced(&self, change: Change) -> Result<Effect, Memory>
         ensures { let head = self.now.head.now in
             let kept = self.now.kept.now.control
             in IfOk result (λ effect. effect ≡ announced head kept change) }
     {
-        match self.kept.plant().verdict(&change) {
-            Verdict::Alters => self.publishes(change),
+        let group = Group::of(self.alloc, change)?;
+        match self.kept.plant().verdict(&group) {
+            Verdict::Alters => self.publishes(group),
             _ => Ok(Effect::quiet(self.alloc)),
         }
     }
@@ -349,7 +336,7 @@ impl Context<'_> {
             in IfOk result (λ effect. effect ≡ effect_of head kept event.now) }
     {
         match event {
-            ControlEvent::Change(change) => self.changes(*change),
+            ControlEvent::Change(group) => self.changes(group),
             ControlEvent::Plain(Event::Message { opc, bytes, .. }) => {
                 self.hears(*opc, bytes.as_slice())
             }

@@ -1,14 +1,16 @@
 //! What the control lane keeps, and what an act does with it (Q.714, 5.2 and 5.3).
-ghost use Rattle.std.specs.Prelude.{◌≡◌, ◌+◌, ◌^◌, ◌<◌, ◌≤◌, filter, vec_len, IsTrue, IsOk, IfOk, OnOk};
+ghost use Rattle.std.specs.Prelude.{◌≡◌, ◌+◌, ◌^◌, ◌<◌, ◌≤◌, filter, vec_len, Some, IsTrue, IsOk, IfOk, OnOk};
 ghost use Rattle.std.specs.Vec.{vec_capacity};
-ghost use Rattle.scmg.specs.Control.{is_due_test, without_grant, with_grant};
+ghost use Rattle.scmg.specs.Control.{is_due_test, tests_after, without_grant, with_grant};
+ghost use Rattle.scmg.specs.Inner.Kept.{HasPlantRoom, HasRoomToDo};
 
 use crate::effect::Act;
+use crate::groups::only_among;
 use crate::status_tests::StatusTests;
 use crate::timed::{
     Coordination, StatusTest, drop_coordination, put_coordination, tick_coordinations,
 };
-use plant_core::{Change, Plant, RemoteSubsystem, Replicate, Ticks};
+use plant_core::{Change, Group, Plant, RemoteSubsystem, Replicate, Ticks};
 use relay_base::{Memory, Pc, Ssn};
 use std::alloc::Global;
 use std::marker::Model;
@@ -36,12 +38,23 @@ impl Model for Kept {
         coordinations = k.coordinations.items;
         grants = k.grants.items;
       };
-      edition = k.plant.edition;
-      has_room = k.plant.has_room
-          && k.tests.has_room
+      plant = k.plant;
+      has_room = k.tests.has_room
           && nat_lt (vec_len k.coordinations) (vec_capacity k.coordinations)
           && nat_lt (vec_len k.grants) (vec_capacity k.grants);
     } };
+}
+
+/// Takes memory for what an act does with the routing data.
+fn make_plant_room(plant: &mut Plant, act: &Act) -> Result<(), Memory>
+    ensures routing { plant.new.routing ≡ plant.old.routing }
+    ensures edition { plant.new.edition ≡ plant.old.edition }
+    ensures room { OnOk result (HasPlantRoom act.now plant.new) }
+{
+    match act {
+        Act::Publish(group) => plant.make_room(group),
+        _ => Ok(()),
+    }
 }
 
 /// Takes a request away that a user could grant.
@@ -62,14 +75,27 @@ fn put_grant(grants: &mut Vec<RemoteSubsystem>, grant: &RemoteSubsystem)
     grants.push_reserved(*grant);
 }
 
+/// Begins a test where a subsystem of another point is barred, and ends it where it is freed.
+fn change_tests(tests: &mut StatusTests, ticks: &Ticks, change: Change)
+    requires { IsTrue tests.old.has_room }
+    ensures { tests.new.tests ≡ tests_after ticks.now (Some change) tests.old.tests }
+{
+    match change {
+        Change::BarSub(point, ssn) => tests.begin(point, ssn, ticks.status),
+        Change::FreeSub(point, ssn) => tests.end(point, ssn),
+        _ => {}
+    }
+}
+
 impl Kept {
     ghost use Rattle.scmg.specs.Control.{start_of_control, control_after, change_of, count_after, may_grant, is_under_way, is_asked_of};
     ghost use Rattle.scmg.specs.declared.effect.Act.TheVariants.{Publish, Begin};
+    ghost use Rattle.plant_core.specs.Changes.{HasRoomFor};
 
     /// What is kept at the start, with these routing data.
     pub fn start(alloc: Global, plant: Plant) -> Kept
         ensures control { result.control ≡ start_of_control plant.routing }
-        ensures edition { result.edition ≡ plant.edition }
+        ensures edition { result.plant.edition ≡ plant.edition }
     {
         Kept {
             plant,
@@ -82,7 +108,7 @@ impl Kept {
     /// The routing data.
     pub fn plant(&self) -> &Plant
         ensures routing { result.now.routing ≡ self.now.control.routing }
-        ensures edition { result.now.edition ≡ self.now.edition }
+        ensures edition { result.now.edition ≡ self.now.plant.edition }
     {
         &self.plant
     }
@@ -126,35 +152,33 @@ impl Kept {
             .any(|one| one.ssn == ssn && one.point == point)
     }
 
-    /// Takes memory for one act: the next one isn't refused.
-    pub fn make_room(&mut self) -> Result<(), Memory>
+    /// Takes memory for an act, which isn't refused then.
+    pub fn make_room(&mut self, act: &Act) -> Result<(), Memory>
         ensures control { self.new.control ≡ self.old.control }
-        ensures edition { self.new.edition ≡ self.old.edition }
-        ensures room { OnOk result (IsTrue self.new.has_room) }
+        ensures edition { self.new.plant.edition ≡ self.old.plant.edition }
+        ensures room { OnOk result (HasRoomToDo act.now self.new) }
     {
-        self.plant.make_room()?;
+        make_plant_room(&mut self.plant, act)?;
         self.tests.make_room()?;
         self.coordinations.reserve(1)?;
         self.grants.reserve(1)?;
         Ok(())
     }
 
-    /// Makes a change of the routing data, for which room was made: a test begins where a subsystem of another point is barred, and ends where
-    /// it is freed.
+    /// Makes a group of changes of the routing data, for which room was made. Where it is one change alone, a test may begin or end with it.
     #[tactic(auto, unfolding(crate::specs::Control::control_after))]
-    fn publish(&mut self, ticks: &Ticks, change: Change) -> Result<(), Memory>
+    fn publish(&mut self, ticks: &Ticks, group: &Group) -> Result<(), Memory>
+        requires plant { HasRoomFor group.now.changes self.old.plant }
         requires room { IsTrue self.old.has_room }
-        requires few { self.old.edition + 1 < 2 ^ 64 }
-        ensures control { let after = control_after ticks.now self.old.control (Publish change)
+        requires few { self.old.plant.edition + 1 < 2 ^ 64 }
+        ensures control { let after = control_after ticks.now self.old.control (Publish group.now)
             in OnOk result (self.new.control ≡ after) }
-        ensures edition { OnOk result (self.new.edition ≡ self.old.edition + 1) }
+        ensures edition { OnOk result (self.new.plant.edition ≡ self.old.plant.edition + 1) }
         ensures memory { IsOk result }
     {
-        self.plant.absorb(&change)?;
-        match change {
-            Change::BarSub(point, ssn) => self.tests.begin(point, ssn, ticks.status),
-            Change::FreeSub(point, ssn) => self.tests.end(point, ssn),
-            _ => {}
+        self.plant.absorb(group)?;
+        if let Some(change) = only_among(group) {
+            change_tests(&mut self.tests, ticks, change);
         }
         Ok(())
     }
@@ -164,7 +188,7 @@ impl Kept {
         requires room { IsTrue self.old.has_room }
         ensures control { let after = control_after ticks.now self.old.control (Begin replicate)
             in OnOk result (self.new.control ≡ after) }
-        ensures edition { OnOk result (self.new.edition ≡ self.old.edition) }
+        ensures edition { OnOk result (self.new.plant.edition ≡ self.old.plant.edition) }
         ensures memory { IsOk result }
     {
         put_coordination(
@@ -179,22 +203,22 @@ impl Kept {
 
     /// Does an act, for which room was made.
     #[tactic(auto, unfolding(crate::specs::Control::control_after))]
-    pub fn act(&mut self, ticks: &Ticks, act: Act) -> Result<(), Memory>
-        requires room { IsTrue self.old.has_room }
-        requires few { self.old.edition + 1 < 2 ^ 64 }
-        ensures control { let after = control_after ticks.now self.old.control act
+    pub fn act(&mut self, ticks: &Ticks, act: &Act) -> Result<(), Memory>
+        requires room { HasRoomToDo act.now self.old }
+        requires few { self.old.plant.edition + 1 < 2 ^ 64 }
+        ensures control { let after = control_after ticks.now self.old.control act.now
             in OnOk result (self.new.control ≡ after) }
-        ensures edition { let count = count_after self.old.edition (change_of act)
-            in OnOk result (self.new.edition ≡ count) }
+        ensures edition { let count = count_after self.old.plant.edition (change_of act.now)
+            in OnOk result (self.new.plant.edition ≡ count) }
         ensures memory { IsOk result }
     {
         match act {
             Act::Nothing => {}
-            Act::Publish(change) => return self.publish(ticks, change),
-            Act::Remember(grant) => put_grant(&mut self.grants, &grant),
-            Act::Forget(grant) => drop_grant(&mut self.grants, &grant),
-            Act::Begin(replicate) => return self.begin(ticks, replicate),
-            Act::End(ssn) => drop_coordination(&mut self.coordinations, ssn),
+            Act::Publish(group) => return self.publish(ticks, group),
+            Act::Remember(grant) => put_grant(&mut self.grants, grant),
+            Act::Forget(grant) => drop_grant(&mut self.grants, grant),
+            Act::Begin(replicate) => return self.begin(ticks, *replicate),
+            Act::End(ssn) => drop_coordination(&mut self.coordinations, *ssn),
             Act::Tick => {
                 self.tests.tick(ticks);
                 tick_coordinations(&mut self.coordinations);

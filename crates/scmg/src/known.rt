@@ -1,9 +1,10 @@
 //! What a change of the routing data makes known (Q.714, 5.2 and 5.3).
 ghost use Rattle.std.specs.Prelude.{◌≡◌, ◌++◌, IfOk};
-ghost use Rattle.scmg.specs.Control.{is_told, told_all, service_format, to_concerned, service_known, made_known};
+ghost use Rattle.scmg.specs.Control.{is_told, told_all, service_format, to_concerned, service_known, made_known, only_among, known_by};
 
+use crate::groups::only_among;
 use crate::head::ControlHead;
-use plant_core::{Change, Plant};
+use plant_core::{Change, Group, Plant};
 use relay_base::limits::SUBSYSTEM_NUMBERS;
 use relay_base::{Memory, Output, Outs, Ssn, Tell};
 use scmg_messages::{Format, sent};
@@ -87,7 +88,7 @@ fn service_known(
 }
 
 /// What a change makes known to the users, and to the concerned points.
-pub fn made_known(
+fn made_known(
     alloc: Global,
     head: &ControlHead,
     plant: &Plant,
@@ -113,4 +114,20 @@ pub fn made_known(
         Change::LocalDown(ssn) => return service_known(alloc, head, plant, false, ssn),
     };
     told_all(alloc, plant, None, &tell)
+}
+
+/// What a group of changes makes known: that of its only change.
+pub fn known_by(
+    alloc: Global,
+    head: &ControlHead,
+    plant: &Plant,
+    group: &Group,
+) -> Result<Outs, Memory>
+    ensures { let change = only_among group.now.changes
+        in IfOk result (λ outs. outs ≡ known_by head.now plant.now.routing change) }
+{
+    match only_among(group) {
+        Some(change) => made_known(alloc, head, plant, change),
+        None => Ok(Outs::new(alloc)),
+    }
 }

@@ -8,7 +8,7 @@ use crate::head::ControlHead;
 use crate::kept::Kept;
 use crate::publish::Publish;
 use mark::Mark;
-use plant_core::{Change, ControlEntry, ControlEvent, ControlList, Plant, Ticks, fitted};
+use plant_core::{ControlEntry, ControlEvent, ControlList, Plant, Ticks, fitted};
 use relay_base::{Memory, Stamp};
 use std::alloc::{AllocError, Global};
 use std::marker::Model;
@@ -85,53 +85,50 @@ fn prepare(
     Ok((entry, act))
 }
 
-/// Publishes a change, where there is one, and gives the number of the new edition.
-fn publish_change<P: Publish>(
-    publish: &mut P,
-    change: Option<Change>,
-) -> Result<Option<u64>, Memory>
+/// Publishes the changes of an act, where it has them, and gives the number of the new edition.
+fn publish_act<P: Publish>(publish: &mut P, act: &Act) -> Result<Option<u64>, Memory>
     requires { P.first publish.old + length (P.published publish.old) < 2 ^ 64 - 1 }
     ensures first { P.first publish.new ≡ P.first publish.old }
-    ensures ok { let published = P.published publish.old ++ option_to_list change
+    ensures ok { let published = P.published publish.old ++ option_to_list (change_of act.now)
         in OnOk result (P.published publish.new ≡ published) }
     ensures err { OnErr result (P.published publish.new ≡ P.published publish.old) }
     ensures edition { let count = P.first publish.old + length (P.published publish.old)
-        in IfOk result (λ edition. edition ≡ edition_after count change) }
+        in IfOk result (λ edition. edition ≡ edition_after count (change_of act.now)) }
 {
-    let Some(change) = change else {
-        return Ok(None);
-    };
-    Ok(Some(publish.publish(&change)?))
+    match act {
+        Act::Publish(group) => Ok(Some(publish.publish(group)?)),
+        _ => Ok(None),
+    }
 }
 
-/// Takes all memory, also for one entry of the journal, publishes the change of an act, and then does it; gives the edition that was published.
+/// Takes all memory, also for one entry of the journal, publishes the changes of an act, and then does it; gives the edition that was published.
 /// After `Memory` all is as before.
 fn perform<P: Publish>(
     kept: &mut Kept,
     journal: &mut Vec<ControlEntry>,
     publish: &mut P,
     ticks: &Ticks,
-    act: Act,
+    act: &Act,
 ) -> Result<Option<u64>, Memory>
-    requires in_step { P.first publish.old + length (P.published publish.old) ≡ kept.old.edition }
-    requires few { kept.old.edition < 4294967295 }
-    ensures control { let control = control_after ticks.now kept.old.control act
+    requires in_step { P.first publish.old + length (P.published publish.old) ≡ kept.old.plant.edition }
+    requires few { kept.old.plant.edition < 4294967295 }
+    ensures control { let control = control_after ticks.now kept.old.control act.now
         in OnOk result (kept.new.control ≡ control) }
-    ensures edition { let count = count_after kept.old.edition (change_of act)
-        in OnOk result (kept.new.edition ≡ count) }
-    ensures number { IfOk result (λ x. x ≡ edition_after kept.old.edition (change_of act)) }
+    ensures edition { let count = count_after kept.old.plant.edition (change_of act.now)
+        in OnOk result (kept.new.plant.edition ≡ count) }
+    ensures number { IfOk result (λ x. x ≡ edition_after kept.old.plant.edition (change_of act.now)) }
     ensures room { OnOk result (vec_len journal.new < vec_capacity journal.new) }
     ensures journal { journal.new.items ≡ journal.old.items }
-    ensures published { let published = P.published publish.old ++ option_to_list (change_of act)
+    ensures published { let published = P.published publish.old ++ option_to_list (change_of act.now)
         in OnOk result (P.published publish.new ≡ published) }
     ensures first { P.first publish.new ≡ P.first publish.old }
     ensures kept { let control = kept.new.control ≡ kept.old.control
-        in OnErr result (control × (kept.new.edition ≡ kept.old.edition)) }
+        in OnErr result (control × (kept.new.plant.edition ≡ kept.old.plant.edition)) }
     ensures unpublished { OnErr result (P.published publish.new ≡ P.published publish.old) }
 {
-    kept.make_room()?;
+    kept.make_room(act)?;
     journal.reserve(1)?;
-    let published = publish_change(publish, act.change())?;
+    let published = publish_act(publish, act)?;
     kept.act(ticks, act)?;
     Ok(published)
 }
@@ -143,22 +140,22 @@ fn write<P: Publish>(
     publish: &mut P,
     ticks: &Ticks,
     entry: ControlEntry,
-    act: Act,
+    act: &Act,
 ) -> Result<(), Memory>
-    requires in_step { P.first publish.old + length (P.published publish.old) ≡ kept.old.edition }
-    requires few { kept.old.edition < 4294967295 }
-    ensures control { let control = control_after ticks.now kept.old.control act
+    requires in_step { P.first publish.old + length (P.published publish.old) ≡ kept.old.plant.edition }
+    requires few { kept.old.plant.edition < 4294967295 }
+    ensures control { let control = control_after ticks.now kept.old.control act.now
         in OnOk result (kept.new.control ≡ control) }
-    ensures edition { let count = count_after kept.old.edition (change_of act)
-        in OnOk result (kept.new.edition ≡ count) }
-    ensures entry { let edition = edition_after kept.old.edition (change_of act) in
+    ensures edition { let count = count_after kept.old.plant.edition (change_of act.now)
+        in OnOk result (kept.new.plant.edition ≡ count) }
+    ensures entry { let edition = edition_after kept.old.plant.edition (change_of act.now) in
         let written = record entry { published = edition }
         in OnOk result (journal.new.items ≡ journal.old.items ++ written ∷ []) }
-    ensures published { let published = P.published publish.old ++ option_to_list (change_of act)
+    ensures published { let published = P.published publish.old ++ option_to_list (change_of act.now)
         in OnOk result (P.published publish.new ≡ published) }
     ensures first { P.first publish.new ≡ P.first publish.old }
     ensures kept { let control = kept.new.control ≡ kept.old.control
-        in OnErr result (control × (kept.new.edition ≡ kept.old.edition)) }
+        in OnErr result (control × (kept.new.plant.edition ≡ kept.old.plant.edition)) }
     ensures journal { OnErr result (journal.new.items ≡ journal.old.items) }
     ensures unpublished { OnErr result (P.published publish.new ≡ P.published publish.old) }
 {
@@ -264,7 +261,7 @@ impl ControlLane {
         let (entry, act) = prepare(self.alloc, &self.head, &self.kept, stamp, event)?;
         let ticks = self.head.ticks;
         let mut journal = mem::replace(&mut self.journal, ControlList::new(self.alloc)).into_vec();
-        let written = write(&mut self.kept, &mut journal, publish, &ticks, entry, act);
+        let written = write(&mut self.kept, &mut journal, publish, &ticks, entry, &act);
         self.journal = ControlList::from(journal);
         written
     }

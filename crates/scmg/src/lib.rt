@@ -2,6 +2,7 @@
 #![tactic(auto)]
 
 mod effect;
+mod groups;
 mod head;
 mod intervals;
 mod kept;

@@ -63,7 +63,7 @@ key_place head point sls (Plain (Arrived opc selection bytes)) is =
     octets_place head opc selection bytes parts.1 ∙ ap (λ s. Data (lane_of head s)) (eqb-true selection sls parts.0)
 key_place head point sls (Plain (Requested ssn r)) is = request_place head sls r (and_parts (head.point == point) (asks_unit sls r) is).1
 key_place head point sls (Plain Tick) is = absurd (cc)
-key_place head point sls (Changed change) is = absurd (cc)
+key_place head point sls (Changed group) is = absurd (cc)
 
 -- Filters, one after another.
 

@@ -46,7 +46,7 @@ abbrev pub is_of_key : ℕ → ℕ → ℕ → ControlEvent → Bool
 is_of_key own point sls (Plain (Arrived opc selection bytes)) = opc == point && (selection == sls && reads_as_unit (reading_of bytes))
 is_of_key own point sls (Plain (Requested ssn r)) = own == point && asks_unit sls r
 is_of_key own point sls (Plain Tick) = false
-is_of_key own point sls (Changed change) = false
+is_of_key own point sls (Changed group) = false
 
 abbrev pub of_key : Head → ℕ → ℕ → Stamped → Stamped
 of_key head point sls events = filter (λ e. is_of_key head.point point sls e.1) events

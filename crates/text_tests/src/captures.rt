@@ -5,7 +5,7 @@ use capture_form::{
 };
 use gtt_table::Row;
 use node_head::{digits_of, entity_of};
-use plant_core::{Change, ControlEvent};
+use plant_core::{Change, ChangeList, ControlEvent, Group};
 use relay_base::{BoxedOctets, Digits, Event, Memory, Octets, Pc, Ref24, Request, Sls, Ssn, Stamp};
 use sccp_address::Selector;
 use std::alloc::{AllocError, Global};
@@ -217,8 +217,9 @@ u 1 8 ed 16 -";
 #[test]
 fn row_faults(rt: HostRuntime) {
     let lines = "e
-e begin
-e commit
+e begin 4
+e commit e
+e end
 e set 4 0 1 4 49 300/8/s
 e add
 e add 2 256 16 128 4g
@@ -366,6 +367,57 @@ fn both_limits(rt: HostRuntime) -> Result<(), Fail> {
 fn limit_of_event_lines(rt: HostRuntime) -> Result<(), Fail> {
     let rows = "{200000 m 1 200 5 -;}# none;;w => read
 {200000 m 1 200 5 -;}x => too long lines";
+    assert_faults(&rt, rt.alloc(), rows)
+}
+
+/// Within a group only edits stand; `words` comes before `group`, and that before the leftmost faulty word. A group that has no end is
+/// faulty where it begins, behind each other fault and each limit.
+#[test]
+fn group_faults(rt: HostRuntime) -> Result<(), Fail> {
+    let rows = "e begin;e commit => read
+e begin;;# none;e del 4 0 1 4 49;e commit;e begin;e commit;m 1 200 5 - => read
+e commit => line 4 group
+e commit 1 => line 4 words
+e begin;e commit;e commit => line 6 group
+e begin;e begin => line 5 group
+e begin;e begin e => line 5 words
+e begin;m 1 200 5 -;e commit => line 5 group
+e begin;m 1 200 5 => line 5 words
+e begin;m 2 200 5 0g => line 5 group
+e begin;u 1 8 coord => line 5 group
+e begin;u 1 9 unit 5 0 x 4208 - aa => line 5 words
+e begin;u 1 9 unit 5 0 r 42 - aa => line 5 group
+e begin;t => line 5 group
+e begin;t t => line 5 words
+e begin;p pause 100 => line 5 group
+e begin;s 9 in => line 5 group
+e begin;s 9 up => line 5 words
+e begin;w => line 5 group
+e begin;w 1 => line 5 words
+e begin;e del 4 0 1 => line 5 words
+e begin;e del 4 0 1 4 4g => line 5 digits
+e begin;e add 4 0 1 4 49 x => line 5 entity
+e begin => line 4 group
+e begin;e commit;;e begin;e del 4 0 1 4 49;# none => line 7 group
+e begin;e set => line 5 words
+e begin;x => line 5 words";
+    assert_faults(&rt, rt.alloc(), rows)
+}
+
+/// A group has at most 4,096 changes, and each of its lines is an event line.
+#[test]
+fn limits_of_groups(rt: HostRuntime) -> Result<(), Fail> {
+    let rows = "e begin;{4096 e del 4 0 1 4 49;}e commit => read
+e begin;{4096 e del 4 0 1 4 49;}# none;e del 4 0 1 4 49;e commit => line 4102 group
+e begin;{4096 e del 4 0 1 4 49;}e del 4 0 1 4 => line 4101 words
+e begin;{4096 e del 4 0 1 4 49;}e add 2 0 1 4 4g x => line 4101 group
+e begin;{4096 e del 4 0 1 4 49;}m 1 200 5 - => line 4101 group
+{199997 m 1 200 5 -;}e begin;e del 4 0 1 4 49;e commit => read
+{199998 m 1 200 5 -;}e begin;e del 4 0 1 4 49;e commit => too long lines
+{199999 m 1 200 5 -;}e begin;t => too long lines
+{199999 m 1 200 5 -;}e begin => line 200003 group
+{1000 w;}e begin;w => too long barriers
+{999 w;}e begin;w => line 1004 group";
     assert_faults(&rt, rt.alloc(), rows)
 }
 
@@ -555,6 +607,10 @@ u 1 8 disc 16777215 254 -";
     Ok(())
 }
 
+fn alone(alloc: Global, change: Change) -> Result<ControlEvent, Memory> {
+    Ok(ControlEvent::Change(Group::of(alloc, change)?))
+}
+
 /// The changes of the lines below.
 fn changes(alloc: Global) -> Result<StampedControlList, Fail> {
     let own = Pc::new(100).ok_or("a point")?;
@@ -593,9 +649,58 @@ fn changes(alloc: Global) -> Result<StampedControlList, Fail> {
         (10, Change::LocalUp(Ssn::from(8))),
         (11, Change::LocalDown(Ssn::from(8))),
     ] {
-        found.push((stamp(1, 0, line), ControlEvent::Change(change)))?;
+        found.push((stamp(1, 0, line), alone(alloc, change)?))?;
     }
     Ok(found)
+}
+
+/// The events of the lines below: a group of two changes, one of none, and a change alone.
+fn groups(alloc: Global) -> Result<StampedControlList, Fail> {
+    let selector = Selector {
+        gti: 4,
+        tt: 0,
+        np: 1,
+        nai: 4,
+    };
+    let own = Pc::new(100).ok_or("a point")?;
+    let row = Row {
+        selector,
+        prefix: digits_of(b"4917").ok_or("digits")?,
+        first: entity_of(own, b"400/8/s").ok_or("an entity")?,
+        second: None,
+    };
+    let digits = digits_of(b"49").ok_or("digits")?;
+    let two = ChangeList::from_slice(
+        alloc,
+        &[Change::DelRow(selector, digits), Change::AddRow(row)],
+    )?;
+    let none = ChangeList::new(alloc);
+    let mut found = StampedControlList::new(alloc);
+    let group = ControlEvent::Change(Group { changes: two });
+    found.push((stamp(1, 0, 8), group))?;
+    let group = ControlEvent::Change(Group { changes: none });
+    found.push((stamp(1, 0, 11), group))?;
+    let change = Change::DelRow(selector, row.prefix);
+    found.push((stamp(1, 0, 12), alone(alloc, change)?))?;
+    Ok(found)
+}
+
+/// The lines of a group are one event of link 0, with the number of its last line.
+#[test]
+fn groups_of_edits(rt: HostRuntime) -> Result<(), Fail> {
+    let lines = "e begin
+e del 4 0 1 4 49
+# none
+e add 4 0 1 4 4917 400/8/s
+ e  commit
+
+e begin
+e commit
+e del 4 0 1 4 4917";
+    let none = StampedControlList::new(rt.alloc());
+    let wanted = one_phase(rt.alloc(), groups(rt.alloc())?, none)?;
+    assert_phases(&rt, capture_of(rt.alloc(), lines), &wanted);
+    Ok(())
 }
 
 /// Coordinated state change, also for the own point; a unit for management; a connection of class 3.

@@ -4,8 +4,8 @@ ghost use Rattle.std.specs.Prelude.{◌<◌};
 use crate::same::assert_same;
 use journal_text::{Book, WriteFault, print_book, write_book};
 use plant_core::{
-    Answer, Asked, Change, ControlEntry, ControlEvent, ControlList, Entry, EntryList, Rewrite,
-    RouteCause,
+    Answer, Asked, Change, ControlEntry, ControlEvent, ControlList, Entry, EntryList, Group,
+    Rewrite, RouteCause,
 };
 use relay_base::{Event, Lost, MemSink, Memory, Octets, Output, Outs, Pc, Sls, Ssn, Stamp, Tell};
 use std::alloc::{AllocError, Global};
@@ -122,7 +122,7 @@ fn put_controls(alloc: Global, control: &mut ControlList) -> Result<(), Memory> 
             link: 1,
             line: 4,
         },
-        event: ControlEvent::Change(Change::LocalDown(ssn)),
+        event: ControlEvent::Change(Group::of(alloc, Change::LocalDown(ssn))?),
         published: Some(1),
         outs,
     })?;

@@ -1,17 +1,21 @@
 -- A reader of lines, which keeps what it read so far.
-use Rattle.std.specs.Prelude.{◌≡◌, ℕ, ◌+◌, ◌==◌, nat_lt, nat_le, codes, List, [], ◌∷◌, ◌++◌, length, slice_index_or, slice_set, replicate, if◌then◌else◌, Ok, Err}
+use Rattle.std.specs.Prelude.{◌≡◌, ℕ, ◌+◌, ◌≤◌, ◌==◌, nat_lt, nat_le, codes, List, [], ◌∷◌, ◌++◌, length, Option, Some, None, slice_index_or, slice_set, replicate, if◌then◌else◌, Ok, Err}
 use Rattle.std.specs.declared.result.Result.{Result}
 use Rattle.relay_base.specs.Giving.{◌>>=◌, GivesOrMemory}
 use Rattle.relay_base.specs.declared.words.Stamp.{Stamp}
 use Rattle.plant_core.specs.declared.entry.ControlEvent.{ControlEvent}
 use Rattle.node_head.specs.declared.head.Head.{Head}
 use Rattle.capture_form.specs.Text.{words}
-use Rattle.capture_form.specs.Line.{Linked, event_of}
+use Rattle.capture_form.specs.Line.{Linked, meaning_of}
+use Rattle.capture_form.specs.Groups.{may_stand, placed, left_open, event_in}
+use Rattle.capture_form.specs.declared.meaning.Meaning.{Meaning}
+use Rattle.capture_form.specs.declared.changes.OpenGroup.{OpenGroup}
+use Rattle.capture_form.specs.declared.meaning.Meaning.TheVariants.{Event}
 use Rattle.capture_form.specs.Events.{Stamped}
-use Rattle.capture_form.specs.Capture.{fault_in, is_skipped, begins}
+use Rattle.capture_form.specs.Capture.{fault_in, is_skipped, begins, barrier_form}
 use Rattle.capture_form.specs.declared.steps.TheConstants.{MOST_LINES, MOST_TICK_LINES, MOST_BARRIERS}
 use Rattle.capture_form.specs.declared.fault.LineKind.{LineKind}
-use Rattle.capture_form.specs.declared.fault.LineKind.TheVariants.{Words}
+use Rattle.capture_form.specs.declared.fault.LineKind.TheVariants.{Group}
 use Rattle.capture_form.specs.declared.fault.Limit.TheVariants.{Lines, Ticks, Barriers}
 use Rattle.capture_form.specs.declared.fault.CaptureFault.{CaptureFault}
 use Rattle.capture_form.specs.declared.fault.CaptureFault.TheVariants as refused
@@ -34,6 +38,11 @@ IsNext head old new = (length new.current ≡ head.links + 1) × (new.line ≡ o
 abbrev pub IsStill : Reading → Reading → Type 0
 IsStill old new = (new.current ≡ old.current) × (new.line ≡ old.line)
 
+-- the link of an event is one of these
+abbrev pub IsWithin : ℕ → Meaning → Type 0
+IsWithin links (Event link event) = link ≤ links
+IsWithin links _ = Unit {0}
+
 -- the lists of a phase with an event at the end of one
 abbrev pub pushed : List Stamped → ℕ → Stamp × ControlEvent → List Stamped
 pushed lists link event = slice_set lists link (slice_index_or lists link [] ++ event ∷ [])
@@ -50,20 +59,24 @@ empty_phase links = replicate (links + 1) []
 abbrev pub phase_ended : Head → Reading → Reading
 phase_ended head r = record r { phases = r.phases ++ r.current ∷ []; current = empty_phase head.links; phase = r.phase + 1; line = r.line + 1 }
 
--- an event at the end of its link's list
-abbrev pub event_added : Reading → Linked → Reading
-event_added r e = record r {
-  current = pushed r.current e.0 (record { phase = r.phase; link = e.0; line = r.line }, e.1);
-  events = r.events + 1;
-  line = r.line + 1;
-}
+-- the lists of the phase that stands, with the event of the line, if there is one, at the end of its link's list
+abbrev pub with_event : Reading → Option Linked → List Stamped
+with_event r None = r.current
+with_event r (Some e) = pushed r.current e.0 (record { phase = r.phase; link = e.0; line = r.line }, e.1)
+
+-- what an event line means: its event, if it has one, and the group that it leaves open
+abbrev pub meaning_taken : Reading → Meaning → Reading
+meaning_taken r meaning = record r { current = with_event r (event_in r.group meaning); group = left_open r.line r.group meaning }
+
+-- an event line more was read
+abbrev pub line_added : Reading → Reading
+line_added r = record r { events = r.events + 1; line = r.line + 1 }
 
 -- a barrier, of which there are at most 1,000
 abbrev pub barrier_taken : Head → Reading → List (List ℕ) → Result Reading CaptureFault
 barrier_taken head r ws =
     if nat_lt MOST_BARRIERS r.phase then Err (refused.TooLong Barriers)
-    else if length ws == 1 then Ok (phase_ended head r)
-    else Err (refused.Line record { line = r.line; kind = Words })
+    else at_line r.line (placed (may_stand r.group ws) (barrier_form ws)) >>= (λ _. Ok (phase_ended head r))
 
 -- a tick line is counted; there are at most 20,000
 abbrev pub tick_counted : Reading → Result Reading CaptureFault
@@ -76,9 +89,9 @@ line_counted r ws =
     else if begins (codes "t") ws then tick_counted r
     else Ok r
 
--- the event of a line, on the list of its link
+-- an event line is taken, if it may stand where it does
 abbrev pub event_put : Head → List (List ℕ) → Reading → Result Reading CaptureFault
-event_put head ws r = at_line r.line (event_of head ws) >>= (λ e. Ok (event_added r e))
+event_put head ws r = at_line r.line (placed (may_stand r.group ws) (meaning_of head ws)) >>= (λ meaning. Ok (line_added (meaning_taken r meaning)))
 
 -- an event line, which is counted before its form is tested
 abbrev pub event_taken : Head → Reading → List (List ℕ) → Result Reading CaptureFault
@@ -98,9 +111,14 @@ lines_taken head r (line ∷ more) = line_taken head r line >>= (λ s. lines_tak
 
 -- before the first event line, which has this number
 abbrev pub reading_from : Head → ℕ → Reading
-reading_from head number = record { phases = []; current = empty_phase head.links; phase = 1; line = number; events = 0; ticks = 0 }
+reading_from head number = record { phases = []; current = empty_phase head.links; phase = 1; line = number; events = 0; ticks = 0; group = None }
 
--- the phases; without events there is none
+-- no group stands open behind the last line
+abbrev pub closed : Option OpenGroup → Result (Unit {0}) CaptureFault
+closed None = Ok tt
+closed (Some group) = Err (refused.Line record { line = group.line; kind = Group })
+
+-- the phases; without event lines there is none
 abbrev pub phases_read : Reading → List (List Stamped)
 phases_read r = if r.events == 0 then [] else r.phases ++ r.current ∷ []
 
@@ -108,4 +126,5 @@ phases_read r = if r.events == 0 then [] else r.phases ++ r.current ∷ []
 abbrev pub capture_read : Head → ℕ → List (List ℕ) → Result Capture CaptureFault
 capture_read head number ls = do
   r ← lines_taken head (reading_from head number) ls
+  _ ← closed r.group
   Ok (record { head = head; phases = phases_read r })

@@ -1,5 +1,5 @@
 -- Sets of numbers as marks.
-use Rattle.std.specs.Prelude.{◌≡◌, ◌⊎◌, ℕ, suc, Bool, List, [], ◌∷◌, ◌++◌, length, map, cond}
+use Rattle.std.specs.Prelude.{◌≡◌, ◌⊎◌, ℕ, suc, Bool, false, List, [], ◌∷◌, ◌++◌, length, map, replicate, cond}
 use Rattle.relay_base.specs.declared.limits.TheConstants.{SUBSYSTEM_NUMBERS}
 use Rattle.plant_core.specs.declared.statuses.RemoteSubsystem.{RemoteSubsystem}
 
@@ -9,10 +9,10 @@ pub record MembersState : Type 0 where
   pub size : ℕ
   pub has_room : Bool
 
--- a set of subsystems of other points, and whether one can be put in without memory
+-- a set of subsystems of other points, and how many can be put in without memory
 pub record SubsystemsState : Type 0 where
   pub members : List RemoteSubsystem
-  pub has_room : Bool
+  pub room : ℕ
 
 -- the numbers from this one on that are marked
 abbrev pub marked_from : ℕ → List Bool → List ℕ
@@ -30,3 +30,7 @@ subsystems_from point (row ∷ rows) = map (subsystem point) (marked_from 0 row)
 -- marks for all subsystems of a point, or none
 abbrev pub IsWhole : List Bool → Type 0
 IsWhole row = (row ≡ []) ⊎ (length row ≡ SUBSYSTEM_NUMBERS)
+
+-- marks for all subsystems of a point, of which none is set
+abbrev pub IsCleared : List Bool → Type 0
+IsCleared row = row ≡ replicate SUBSYSTEM_NUMBERS false

@@ -1,31 +1,55 @@
-use Rattle.std.proofs.Common.{◌≡◌, [], sym, ap, ◌∙◌}
-use Rattle.std.specs.Option.{option_copied}
-use Rattle.std.proofs.lemmas.List.{nil_from_length}
-use Rattle.gtt_table.specs.Rows.{has_key}
-use Rattle.gtt_table.proofs.RowLemmas.{find-none}
-use Rattle.gtt_table.proofs.KeyLemmas.{fails_at}
-use Rattle.gtt_table.proofs.KeptLemmas.{longest_here, longest_fewer, longest_none}
-use Rattle.gtt_table.proofs.OrderLemmas.{ordered_distinct}
+use Rattle.std.proofs.Common.{◌≡◌, ◌-◌, suc, zero, nat_eq, take, arith, subst, sym, ap, ◌∙◌}
+use Rattle.std.specs.List.{common_prefix_len}
+use Rattle.std.proofs.lemmas.List.{length-take-le}
+use Rattle.std.proofs.lemmas.List.Sums.{common_prefix_len-le}
+use Rattle.gtt_table.specs.Translation.{longest_match}
+use Rattle.gtt_table.proofs.UptoLemmas.{AreUpto, none_upto, other_upto, last_upto, shared_upto}
 use Rattle.gtt_table.proofs.search.+longest_match.Goals as goal
 
-pub returns-in-Some : goal.returns-in-Some
-returns-in-Some t c =
-    sym (longest_here c.args.selector.now c.args.digits.now c.args.rows.now c.in-Some.row.now (ordered_distinct c.args.rows.now c.requires) (sym c.in-Some.ensures))
+pub returns-then-upto-eq0 : goal.returns-then-upto-eq0
+returns-then-upto-eq0 t c =
+    let none : c.rows_upto-upto.result ≡ zero = omega (arith, c.if-upto-eq0.true) in
+    sym (none_upto c.args.selector.now c.args.digits.now c.args.rows.now
+    (subst (AreUpto c.args.selector.now c.args.digits.now c.args.rows.now) none c.rows_upto-upto.ensures.parted))
 
-pub returns-in-Some-split_last : goal.returns-in-Some-split_last
-returns-in-Some-split_last t c =
-    let selector = c.args.selector.now in
-    let digits = c.args.digits.now in
-    let rows = c.args.rows.now in
-    let none = fails_at (has_key selector digits) rows (find-none (has_key selector digits) rows (sym c.find.ensures ∙ ap option_copied c.in_default.is)) in
+pub returns-then-not-has_selector : goal.returns-then-not-has_selector
+returns-then-not-has_selector t c =
+    let upto = c.rows_upto-upto.result in
+    let some : upto ≡ suc (upto - 1) = omega (arith, c.if-upto-eq0.false) in
+    sym (other_upto c.args.selector.now c.args.digits.now c.args.rows.now (upto - 1) c.index-rows-upto.result c.requires
+    (omega (arith, some, c.rows_upto-upto.ensures.bound))
+    (subst (AreUpto c.args.selector.now c.args.digits.now c.args.rows.now) some c.rows_upto-upto.ensures.parted)
+    c.index-rows-upto.is (sym c.has_selector.ensures ∙ c.if-not-has_selector.true))
+
+pub returns-then-shared-len : goal.returns-then-shared-len
+returns-then-shared-len t c =
+    let upto = c.rows_upto-upto.result in
+    let last = c.index-rows-upto.result in
+    let some : upto ≡ suc (upto - 1) = omega (arith, c.if-upto-eq0.false) in
+    let shared : c.shared_digits-shared.result ≡ common_prefix_len nat_eq last.prefix c.args.digits.now =
+    c.shared_digits-shared.ensures ∙ ap (λ p. common_prefix_len nat_eq p c.args.digits.now) c.as_slice.ensures.value in
+    sym (last_upto c.args.selector.now c.args.digits.now c.args.rows.now (upto - 1) last c.requires
+    (omega (arith, some, c.rows_upto-upto.ensures.bound))
+    (subst (AreUpto c.args.selector.now c.args.digits.now c.args.rows.now) some c.rows_upto-upto.ensures.parted)
+    c.index-rows-upto.is (sym c.has_selector.ensures ∙ c.if-not-has_selector.false) (omega (arith, shared, c.if-shared-len.true, c.len.ensures.value)))
+
+pub slice_bounds-longest_match-end : goal.slice_bounds-longest_match-end
+slice_bounds-longest_match-end t c =
+    let last = c.index-rows-upto.result in
+    let shared : c.shared_digits-shared.result ≡ common_prefix_len nat_eq last.prefix c.args.digits.now =
+    c.shared_digits-shared.ensures ∙ ap (λ p. common_prefix_len nat_eq p c.args.digits.now) c.as_slice.ensures.value in
+    sym (length-take-le c.shared_digits-shared.result c.args.digits.now (omega (arith, shared, (common_prefix_len-le nat_eq last.prefix c.args.digits.now).1)))
+
+pub returns : goal.returns
+returns t c =
+    let upto = c.rows_upto-upto.result in
+    let last = c.index-rows-upto.result in
+    let some : upto ≡ suc (upto - 1) = omega (arith, c.if-upto-eq0.false) in
+    let shared : c.shared_digits-shared.result ≡ common_prefix_len nat_eq last.prefix c.args.digits.now =
+    c.shared_digits-shared.ensures ∙ ap (λ p. common_prefix_len nat_eq p c.args.digits.now) c.as_slice.ensures.value in
     c.longest_match.ensures
-    ∙ sym (longest_fewer selector digits c.in-Some-split_last.fewer.now c.in-Some-split_last.field-0-0.now rows c.in-Some-split_last.ensures.cases.0 none)
-
-pub returns-in-None : goal.returns-in-None
-returns-in-None t c =
-    let selector = c.args.selector.now in
-    let digits = c.args.digits.now in
-    let rows = c.args.rows.now in
-    let none = fails_at (has_key selector digits) rows (find-none (has_key selector digits) rows (sym c.find.ensures ∙ ap option_copied c.in_default.is)) in
-    let empty : digits ≡ [] = nil_from_length digits c.in-None.ensures.cases in
-    sym (rw empty (longest_none selector rows (rw empty at none)))
+    ∙ ap (λ n. longest_match c.args.selector.now (take n c.args.digits.now) (take (upto - 1) c.args.rows.now)) shared
+    ∙ sym (shared_upto c.args.selector.now c.args.digits.now c.args.rows.now (upto - 1) last c.requires
+    (omega (arith, some, c.rows_upto-upto.ensures.bound))
+    (subst (AreUpto c.args.selector.now c.args.digits.now c.args.rows.now) some c.rows_upto-upto.ensures.parted)
+    c.index-rows-upto.is (omega (arith, shared, c.if-shared-len.false, c.len.ensures.value, (common_prefix_len-le nat_eq last.prefix c.args.digits.now).0)))

@@ -13,8 +13,8 @@ use Rattle.lane_turns.proofs.TurnLemmas.{seated_by}
 use Rattle.lane_turns.proofs.RowLemmas.{conns_push, units_push, conn_few, data_few}
 use Rattle.lane_turns.proofs.phase_lanes.put_apart.Goals as goal
 
-pub put-requires-clause-seated : goal.put-requires-clause-seated
-put-requires-clause-seated g c =
+pub by_kind-conn-requires : goal.by_kind-conn-requires
+by_kind-conn-requires g c =
     let placed = subst (All HasPlace) c.in-Some.ensures.steps.0 c.loop-turn.invariant.placed in
     subst IsSeated (sym c.into_lane.ensures.lane) (seated_by c.in-Some.turn c.into_lane.ensures.turn (placed 0 c.in-Some.turn (omega arith)))
 
@@ -25,8 +25,8 @@ loop-turn-preserved g c =
     let step = c.in-Some.ensures.steps.0 in
     let had_conns : List (SeatState ConnLaneState) = c.args.conns.now.items in
     let had_units : List (SeatState LaneState) = c.args.units.now.items in
-    let conns : c.put.new.conns.items ≡ c.loop-turn.conns.items ++ conn_of turn.lane = c.put.ensures.conns ∙ ap (λ l. c.loop-turn.conns.items ++ conn_of l) c.into_lane.ensures.lane in
-    let units : c.put.new.units.items ≡ c.loop-turn.units.items ++ data_of turn.lane = c.put.ensures.units ∙ ap (λ l. c.loop-turn.units.items ++ data_of l) c.into_lane.ensures.lane in
+    let conns : c.put.new.seats.items ≡ c.loop-turn.conns.items ++ conn_of turn.lane = c.put.ensures.seats ∙ ap (λ l. c.loop-turn.conns.items ++ l) (c.by_kind-conn.ensures.conn ∙ ap conn_of c.into_lane.ensures.lane) in
+    let units : c.put-in-loop-turn.new.seats.items ≡ c.loop-turn.units.items ++ data_of turn.lane = c.put-in-loop-turn.ensures.seats ∙ ap (λ l. c.loop-turn.units.items ++ l) (c.by_kind-conn.ensures.unit ∙ ap data_of c.into_lane.ensures.lane) in
     record {
       conns = conns ∙ (ap (λ (l : List (SeatState ConnLaneState)). l ++ conn_of turn.lane) inv.conns
           ∙ (append_assoc had_conns (flat_map conn_of (lanes_of c.loop-turn.yielded)) (conn_of turn.lane) ∙ ap (λ (l : List (SeatState ConnLaneState)). had_conns ++ l) (sym (conns_push c.loop-turn.yielded turn))));
@@ -34,8 +34,8 @@ loop-turn-preserved g c =
           ∙ (append_assoc had_units (flat_map data_of (lanes_of c.loop-turn.yielded)) (data_of turn.lane) ∙ ap (λ (l : List (SeatState LaneState)). had_units ++ l) (sym (units_push c.loop-turn.yielded turn))));
       turns = All-push IsTurn c.loop-turn.yielded turn inv.turns c.into_lane.ensures.turn;
       placed = All-tail HasPlace turn c.next.new.self.rest.items (subst (All HasPlace) step inv.placed);
-      conns_room = omega (arith, ap length conns, length-append c.loop-turn.conns.items (conn_of turn.lane), conn_few turn.lane, ap length step, inv.conns_room, c.put.ensures.conns_room);
-      units_room = omega (arith, ap length units, length-append c.loop-turn.units.items (data_of turn.lane), data_few turn.lane, ap length step, inv.units_room, c.put.ensures.units_room);
+      conns_room = omega (arith, ap length conns, length-append c.loop-turn.conns.items (conn_of turn.lane), conn_few turn.lane, ap length step, inv.conns_room, c.put.ensures.capacity);
+      units_room = omega (arith, ap length units, length-append c.loop-turn.units.items (data_of turn.lane), data_few turn.lane, ap length step, inv.units_room, c.put-in-loop-turn.ensures.capacity);
     }
 
 pub returns-clause-turns : goal.returns-clause-turns

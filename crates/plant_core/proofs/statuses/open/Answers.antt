@@ -10,5 +10,5 @@ returns-clause-members c =
     let place = c.number.result in
     let row = c.index_mut.result.now in
     let reaches : place < length rows = omega (arith, c.requires.reaches, c.number.ensures.value) in
-    same-row 0 place rows c.fill.new.marks
-    (c.fill.ensures.members ∙ ap (marked_from 0) (c.index_mut.ensures.value ∙ get_or_default rows place row [] reaches))
+    same-row 0 place rows c.begin.new.row
+    (c.begin.ensures.members ∙ ap (marked_from 0) (c.index_mut.ensures.value ∙ get_or_default rows place row [] reaches))

@@ -5,8 +5,8 @@ use Rattle.plant_core.specs.Inner.Members.{SubsystemsState, subsystem, subsystem
 use Rattle.plant_core.proofs.MemberLemmas.{put-sub}
 use Rattle.plant_core.proofs.statuses.BarredSubsystems.mark.Goals as goal
 
-pub returns : goal.returns
-returns c =
+pub returns-clause-members : goal.returns-clause-members
+returns-clause-members c =
     let rows = c.open.new.rows.items in
     let point = c.args.point in
     let ssn = c.args.ssn in

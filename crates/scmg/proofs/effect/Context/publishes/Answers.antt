@@ -2,13 +2,14 @@ use Rattle.std.proofs.Common.{List, ◌∙◌, ap, sym}
 use Rattle.relay_base.specs.declared.words.Output.{Output}
 use Rattle.scmg.specs.declared.effect.Effect.{Effect}
 use Rattle.scmg.specs.declared.effect.Act.TheVariants.{Publish}
-use Rattle.scmg.specs.Control.{made_known}
+use Rattle.scmg.specs.Control.{known_by, only_among}
 use Rattle.scmg.proofs.KnownLemmas.{known-after}
 use Rattle.scmg.proofs.effect.Context.publishes.Goals as goal
 
 pub returns : goal.returns
 returns c =
-    let effect : List Output → Effect = λ outs. record { outs = outs; act = Publish c.args.change } in
+    let effect : List Output → Effect = λ outs. record { outs = outs; act = Publish c.args.group } in
     let head = c.args.self.now.head.now in
     let routing = c.args.self.now.kept.now.control.routing in
-    ap effect (c.in_ok-made_known.ensures ∙ ap (λ p. made_known head p c.args.change) c.plant.ensures.routing ∙ sym (known-after head routing c.args.change))
+    let change = only_among c.args.group.changes in
+    ap effect (c.in_ok-known_by.ensures ∙ ap (λ p. known_by head p change) c.plant.ensures.routing ∙ sym (known-after head routing c.args.group))
