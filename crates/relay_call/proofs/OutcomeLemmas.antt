@@ -15,6 +15,8 @@ use Rattle.capture_generator.proofs.CaptureLemmas.{phases-linked}
 use Rattle.right_book.specs.Right.{IsRight}
 use Rattle.book_law.specs.Sequential.{IsSequential}
 use Rattle.book_law.proofs.Books.{one_right_book}
+use Rattle.book_output.specs.Report.{report_text}
+use Rattle.length_law.proofs.Books.{none_is_left_out}
 use Rattle.m3ua_capture.specs.declared.fault.StreamFault.{StreamFault}
 use Rattle.capture_input.specs.declared.input.Form.{Form}
 use Rattle.capture_input.specs.declared.input.Form.TheVariants as form
@@ -25,6 +27,7 @@ use Rattle.capture_input.proofs.StatusLemmas.{input-linked}
 use Rattle.command_words.specs.declared.command.Command.{Command}
 use Rattle.command_words.specs.declared.command.Command.TheVariants.{Run, Generate, Stream, Frames}
 use Rattle.relay_call.specs.Outcome.{GivesAs, States, Wrote, WrotePart, Says, Filled, FilledBy, IsDone, IsCaptureOf, IsDetermined, output_of}
+use Rattle.relay_call.specs.Inner.Reports.{report_of}
 use Rattle.relay_call.specs.Inner.Stops.{StoppedLate, Stopped}
 
 -- what writing a whole text told a sink
@@ -49,13 +52,31 @@ pub filled_by : (Written : List ℕ → Type 0) (command : Command) (read : Byte
     → GivesAs command read (λ parts. parts ≡ Ok capture) → Filled Written command capture book → FilledBy Written command read book
 filled_by Written command read capture book given filled = gives_more command read _ _ (λ parts e. (capture, e, filled)) given
 
+-- ---- what is written of a right book
+
+-- a command's report is what it writes; of the M3UA messages none is left out
+reported : (command : Command) (capture : Capture) (book : Book) → IsRight capture.head capture.phases book
+    → report_text (report_of command capture.head) book ≡ output_of command capture.head book
+reported Run capture book right = refl
+reported (Generate number lines) capture book right = refl
+reported Stream capture book right = refl
+reported Frames capture book right = none_is_left_out capture.head.point capture.head capture.phases book right
+
+pub wrote_whole : {T : Type 0} (r : Result T Stop) (command : Command) (written : Bytes) (capture : Capture) (book : Book)
+    → IsRight capture.head capture.phases book → OnOk r (Wrote written (report_text (report_of command capture.head) book))
+    → OnOk r (Filled (Wrote written) command capture book)
+wrote_whole (Ok u) command written capture book right whole = (right, subst (Wrote written) (reported command capture book right) whole)
+wrote_whole (Err e) command written capture book right whole = tt
+
 -- what stands where the output was not written whole
 pub write_stopped : {T : Type 0} (r : Result T Stop) (command : Command) (written : Bytes) (capture : Capture) (book : Book)
-    → IsRight capture.head capture.phases book → OnErr r (WrotePart written (output_of command capture.head book))
+    → IsRight capture.head capture.phases book → OnErr r (WrotePart written (report_text (report_of command capture.head) book))
     → IfErr r (λ why. (why ≡ stop.WriteFault) ⊎ (why ≡ stop.Memory)) → IfErr r (StoppedLate command written capture book)
 write_stopped (Ok u) command written capture book right part why = tt
-write_stopped (Err e) command written capture book right part (inl is) = subst (StoppedLate command written capture book) (sym is) (right, part)
-write_stopped (Err e) command written capture book right part (inr is) = subst (StoppedLate command written capture book) (sym is) (inr (right, part))
+write_stopped (Err e) command written capture book right part (inl is) =
+    subst (StoppedLate command written capture book) (sym is) (right, subst (WrotePart written) (reported command capture book right) part)
+write_stopped (Err e) command written capture book right part (inr is) =
+    subst (StoppedLate command written capture book) (sym is) (inr (right, subst (WrotePart written) (reported command capture book right) part))
 
 -- the same of a command whose capture this is
 pub late_stopped : {T : Type 0} (r : Result T Stop) (command : Command) (read written : Bytes) (capture : Capture) (book : Book)

@@ -1,5 +1,5 @@
 -- What a run did, by how it ended.
-use Rattle.std.specs.Prelude.{◌≡◌, ℕ, ◌==◌, codes, List, [], Option, Some, None, Ok, if◌then◌else◌}
+use Rattle.std.specs.Prelude.{◌≡◌, ℕ, ◌==◌, ◌++◌, codes, List, [], Option, Some, None, Ok, if◌then◌else◌}
 use Rattle.std.specs.declared.result.Result.{Result}
 use Rattle.std.specs.Io.KnownBytes.{Appends, Keeps}
 use Rattle.relay_base.specs.Causes.{Rose}
@@ -12,9 +12,9 @@ use Rattle.capture_input.specs.declared.input.Form.TheVariants as form
 use Rattle.capture_input.specs.Input.{Bytes, input_of, ReadAs}
 use Rattle.journal_text.specs.declared.book.Book.{Book}
 use Rattle.journal_text.specs.Book.{IsEmpty}
-use Rattle.book_output.specs.declared.report.Report.{Report}
-use Rattle.book_output.specs.declared.report.Report.TheVariants as report
-use Rattle.book_output.specs.Report.{report_text}
+use Rattle.book_output.specs.Print.{print_of}
+use Rattle.capture_generator.specs.Counts.{counts_text}
+use Rattle.length_law.specs.LengthLaw.{all_frames}
 use Rattle.command_words.specs.declared.command.Command.{Command}
 use Rattle.command_words.specs.declared.command.Command.TheVariants.{Run, Generate, Stream, Frames}
 use Rattle.capture_generator.specs.Generator.{generated_capture}
@@ -63,15 +63,12 @@ pub record Says (noted : Bytes) (before after : ℕ) (text : List ℕ) : Type 0 
 abbrev pub Untouched : Bytes → Book → Type 0
 Untouched written book = Keeps written.before written.after × IsEmpty book
 
--- what a command writes of the book of a head's node: its print, the line of its counts, or the messages that it sends
-abbrev pub report_of : Command → Head → Report
-report_of Run head = report.Print
-report_of (Generate number lines) head = report.Counts lines
-report_of Stream head = report.Print
-report_of Frames head = report.Frames head.point
-
+-- what a command writes of the book of a head's node: its print, the line of its counts, or the M3UA messages that carry all that it sends
 abbrev pub output_of : Command → Head → Book → List ℕ
-output_of command head book = report_text (report_of command head) book
+output_of Run head book = print_of book
+output_of (Generate number lines) head book = counts_text lines book ++ codes "\n"
+output_of Stream head book = print_of book
+output_of Frames head book = all_frames head.point book
 
 -- the book is right for the capture, and this is said of what is written of it
 abbrev pub Filled : (List ℕ → Type 0) → Command → Capture → Book → Type 0

@@ -45,7 +45,7 @@ pub fn lacks_memory<N: Sink>(notes: &mut N) -> u8
 /// The word `run` reads a capture from `source`, runs it, fills `book` and writes its print to `out`. The words `gen`, a number and a count
 /// of lines make a capture, leave `source` as it is, and write one line of counts. The word `m3ua` reads a head and a stream of M3UA
 /// messages, whose events are those of link 1 in one phase, and writes the print; `m3ua frames` writes in its place the M3UA messages that
-/// carry what is sent, but for a message of more than 65,500 octets.
+/// carry all that is sent.
 ///
 /// | Status | Comes |
 /// |---|---|

@@ -11,7 +11,8 @@ ghost use Rattle.command_words.specs.declared.command.Command.TheVariants.{Gener
 ghost use Rattle.capture_generator.specs.Generator.{generated_capture};
 ghost use Rattle.capture_input.specs.Input.{bytes};
 ghost use Rattle.book_output.specs.Report.{report_text};
-ghost use Rattle.relay_call.specs.Outcome.{report_of, GivesAs, Wrote, WrotePart, Filled, FilledBy, IsDone};
+ghost use Rattle.relay_call.specs.Outcome.{GivesAs, Wrote, WrotePart, Filled, FilledBy, IsDone};
+ghost use Rattle.relay_call.specs.Inner.Reports.{report_of};
 ghost use Rattle.relay_call.specs.Inner.Stops.{LacksCapture, StoppedLate, Stopped};
 
 use book_output::{Report, write_report};
