@@ -8,7 +8,7 @@ ghost use Rattle.capture_form.specs.Capture.{Reads, at_head, capture_within, cap
 ghost use Rattle.capture_form.specs.Events.{all_events, IsStamped};
 ghost use Rattle.capture_form.specs.Links.{AreLinked};
 ghost use Rattle.capture_form.specs.declared.steps.TheConstants.{MOST_LINES};
-ghost use Rattle.capture_form.specs.Inner.Reader.{Takes, HeadReads, reading_from, lines_taken, closed, phases_read, capture_read};
+ghost use Rattle.capture_form.specs.Inner.Reader.{Takes, HeadReads, reading_from, lines_taken, closed, phases_read, phases_closed, capture_read};
 
 use crate::changes::OpenGroup;
 use crate::fault::{CaptureFault, Limit, LineFault, LineKind};
@@ -103,6 +103,29 @@ fn phases_of(alloc: Global, read: Reading) -> Result<PhaseList, Memory>
     Ok(phases)
 }
 
+/// What is read of the lines after a head, of which the first has the number `line`.
+fn read_lines(
+    alloc: Global,
+    head: &Head,
+    line: u32,
+    lines: &mut Lines<'_>,
+) -> Result<Reading, CaptureFault>
+    requires { line + length lines.old < 2 ^ 32 }
+    ensures { Reads result (lines_taken head.now (reading_from head.now line) lines.old) }
+{
+    let mut read = reading_from(alloc, head, line)?;
+    take_lines(alloc, head, &mut read, lines)?;
+    Ok(read)
+}
+
+/// The phases that were read, where no group stands open behind the last line.
+fn phases_closed(alloc: Global, read: Reading) -> Result<PhaseList, CaptureFault>
+    ensures { Reads result (phases_closed read) }
+{
+    closed(&read.group)?;
+    Ok(phases_of(alloc, read)?)
+}
+
 /// The capture of a head and the lines after it, of which the first has the number `line`.
 fn capture_after(
     alloc: Global,
@@ -114,10 +137,8 @@ fn capture_after(
     ensures value { Reads result (capture_read head line lines.old) }
     ensures head { IfOk result (λ c. c.head ≡ head) }
 {
-    let mut read = reading_from(alloc, &head, line)?;
-    take_lines(alloc, &head, &mut read, lines)?;
-    closed(&read.group)?;
-    let phases = phases_of(alloc, read)?;
+    let read = read_lines(alloc, &head, line, lines)?;
+    let phases = phases_closed(alloc, read)?;
     Ok(Capture { head, phases })
 }
 

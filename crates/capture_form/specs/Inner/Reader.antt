@@ -122,6 +122,10 @@ closed (Some group) = Err (refused.Line record { line = group.line; kind = Group
 abbrev pub phases_read : Reading → List (List Stamped)
 phases_read r = if r.events == 0 then [] else r.phases ++ r.current ∷ []
 
+-- those phases, where no group stands open
+abbrev pub phases_closed : Reading → Result (List (List Stamped)) CaptureFault
+phases_closed r = closed r.group >>= (λ _. Ok (phases_read r))
+
 -- the capture of a head and the lines after it, of which the first has this number
 abbrev pub capture_read : Head → ℕ → List (List ℕ) → Result Capture CaptureFault
 capture_read head number ls = do
