@@ -2,6 +2,7 @@
 use Rattle.std.proofs.Common.{◌≡◌, ◌⊎◌, inl, inr, ℕ, ◌==◌, ◌&&◌, ◌||◌, not, Bool, true, false, List, [], ◌∷◌, ◌++◌, Some, None, refl, sym, ◌∙◌, subst, eq-eqb}
 use Rattle.std.specs.List.{list_any}
 use Rattle.std.proofs.lemmas.Bool.{false≢true}
+use Rattle.std.proofs.lemmas.List.Folds.{list_any-append}
 use Rattle.relay_base.specs.declared.causes.TheConstants.{RESET_INCORRECT_RECEIVE_NUMBER, RESET_OUT_OF_WINDOW}
 use Rattle.relay_base.specs.declared.words.Event.TheVariants.{Message as Arrived}
 use Rattle.relay_base.specs.declared.words.Output.{Output}
@@ -119,25 +120,28 @@ dt2_heard ticks point m x that up e three meets =
 meets_up : (x : Section) (that : End) → x.head.state ≡ Up → AreInStep (wire x) that → Meets connected (stage_at that)
 meets_up x that up k = subst (λ s. Meets (section_stage s) (stage_at that)) up k.0
 
-any_more : (p : Output → Bool) (a b : List Output) → list_any p a ≡ true → list_any p (a ++ b) ≡ true
-any_more p [] b e = absurd (false≢true e)
-any_more p (out ∷ a) b e = by_first (p out) e (any_more p a b)
-  where
-    by_first : (first : Bool) → (first || list_any p a) ≡ true → (list_any p a ≡ true → list_any p (a ++ b) ≡ true) → (first || list_any p (a ++ b)) ≡ true
-    by_first true e more = refl
-    by_first false e more = more e
+pub any_first : (p : Output → Bool) (a b : List Output) → list_any p a ≡ true → list_any p (a ++ b) ≡ true
+any_first p a b is = rw (list_any-append p a b, is) refl
 
-resets_after : (ticks : Ticks) (r : Connection × List Output) → AsksReset r.1 → AsksReset (after_event ticks r).1
+pub any_last : (p : Output → Bool) (a b : List Output) → list_any p b ≡ true → list_any p (a ++ b) ≡ true
+any_last p a b is = rw (list_any-append p a b, is) (either_way (list_any p a))
+  where
+    either_way : (first : Bool) → (first || true) ≡ true
+    either_way true = refl
+    either_way false = refl
+
+-- the outputs of the event are among those of the step
+pub any_after : (p : Output → Bool) (ticks : Ticks) (r : Connection × List Output) → list_any p r.1 ≡ true → list_any p (after_event ticks r).1 ≡ true
 unfolding after_event
-resets_after ticks r e =
+any_after p ticks r is =
     let d = this_left ticks r.0 in
     let after = this_left ticks (turned d) in
     let f = (on_windows ticks acknowledges after.that after.this).0 in
-    four_more (is_of_type 0x0D) r.1 (on_windows ticks leaves r.0.this r.0.that).1 (on_windows ticks leaves d.that d.this).1
-    (on_windows ticks acknowledges after.that after.this).1 (on_windows ticks acknowledges f.that f.this).1 e
+    four_more r.1 (on_windows ticks leaves r.0.this r.0.that).1 (on_windows ticks leaves d.that d.this).1
+    (on_windows ticks acknowledges after.that after.this).1 (on_windows ticks acknowledges f.that f.this).1 is
   where
-    four_more : (p : Output → Bool) (a b c d e : List Output) → list_any p a ≡ true → list_any p ((((a ++ b) ++ c) ++ d) ++ e) ≡ true
-    four_more p a b c d e any = any_more p (((a ++ b) ++ c) ++ d) e (any_more p ((a ++ b) ++ c) d (any_more p (a ++ b) c (any_more p a b any)))
+    four_more : (a b c d e : List Output) → list_any p a ≡ true → list_any p ((((a ++ b) ++ c) ++ d) ++ e) ≡ true
+    four_more a b c d e is = any_first p (((a ++ b) ++ c) ++ d) e (any_first p ((a ++ b) ++ c) d (any_first p (a ++ b) c (any_first p a b is)))
 
 -- where a message acts
 at_end : (P : End → List Output → Type 0) (part : Section → End → Connection × List Output) (reference : ℕ) (c : Connection) (x : Section) (end : Connection → End)
@@ -190,7 +194,7 @@ dt2_taken ticks c point sls bytes a x end k e occasion for stands three =
     afterwards : (r : Connection × List Output) → got_at (end (after_event ticks r).0) ≡ got_at (end r.0) → IsTaken x a (end r.0) ⊎ AsksReset r.1
         → IsTaken x a (end (after_event ticks r).0) ⊎ AsksReset (after_event ticks r).1
     afterwards r same (inl taken) = inl (same ∙ taken)
-    afterwards r same (inr asked) = inr (resets_after ticks r asked)
+    afterwards r same (inr asked) = inr (any_after (is_of_type 0x0D) ticks r asked)
 
 pub units_are_taken : UnitsAreTaken
 units_are_taken = record { dt1 = dt1_taken; dt2 = dt2_taken }

@@ -10,6 +10,7 @@ use Rattle.section_model.specs.declared.cell.Cell.{Cell}
 use Rattle.section_model.specs.declared.cell.Cell.TheVariants as cell
 use Rattle.section_model.specs.declared.cell.Occasion.{Occasion}
 use Rattle.section_model.specs.declared.cell.Timer.{Timer}
+use Rattle.section_model.specs.declared.cell.UserOccasion.{UserOccasion}
 use Rattle.section_model.specs.declared.hand.Hand.{Hand}
 use Rattle.section_model.specs.declared.hand.Hand.TheVariants as hand
 use Rattle.section_model.specs.declared.hand.Acted.{Acted}
@@ -37,8 +38,7 @@ use Rattle.connection_law.proofs.Reference.Settling.{settled}
 use Rattle.connection_law.proofs.Reference.Step.{Keeps, KeepsEnds, keeps_that, keeps_then, heard_kept, asked_kept, after_event_kept}
 use Rattle.connection_law.specs.InStep.{Stage, asked, asking, connected, over, Meets, section_stage, user_stage, stage_at, got_at}
 use Rattle.passing_law.specs.EarlyLaw.{IsBefore, WasEarly, IsEmptyEarly, EarlyLaw}
-use Rattle.passing_law.proofs.Taking.{IsDataCell, data_cell}
-use Rattle.passing_law.proofs.Passing.{IsSendCell, asking as sending_cell}
+use Rattle.passing_law.proofs.Cells.{IsCellOf, cell_of, IsUserCellOf, as_asked, asking_cell_of}
 
 -- from a stage and what came in to those later on
 abbrev Early : Stage → List DataUnit → Stage → List DataUnit → Type 0
@@ -50,7 +50,7 @@ same s got = λ e. (e, λ none. none)
 cleared_same : (s : Stage) (got : List DataUnit) → Early s got s []
 cleared_same s got = λ e. (e, λ none. refl)
 
-early_then : (s t u : Stage) (a b c : List DataUnit) → Early s a t b → Early t b u c → Early s a u c
+pub early_then : (s t u : Stage) (a b c : List DataUnit) → Early s a t b → Early t b u c → Early s a u c
 early_then s t u a b c f g = λ e. let two = g e in let one = f two.0 in (one.0, λ none. two.1 (one.1 none))
 
 not_both : (s : Stage) → Meets connected s → IsBefore s → ⊥
@@ -68,7 +68,7 @@ grows s got got' m = λ e. absurd (not_both s m e)
 LineEarly : Line → Line × Acted → Type 0
 LineEarly x done = Early (section_stage x.head.state) x.got (section_stage done.0.head.state) done.0.got
 
-line_hears_early : (c : Cell) (o : Occasion) (point : ℕ) (m : Parameters) (x : Line) → IsDataCell c o x.head.state → LineEarly x (line_hears c point m x)
+line_hears_early : (c : Cell) (o : Occasion) (point : ℕ) (m : Parameters) (x : Line) → IsCellOf c o x.head.state → LineEarly x (line_hears c point m x)
 unfolding line_hears LineEarly
 line_hears_early cell.Confirm o point m x d =
     either (LineEarly x) ((m.class == 2 || m.class == 3) && nat_le m.class x.head.class) _ _ (λ _. λ e. absurd e) (λ _. λ e. absurd e)
@@ -121,7 +121,7 @@ unfolding WindowsEarly
 expedites_early None x = same (section_stage x.head.state) x.windows.got
 expedites_early (Some body) x = same (section_stage x.head.state) x.windows.got
 
-windowed_hears_early : (c : Cell) (o : Occasion) (m : Parameters) (x : Windowed) → IsDataCell c o x.head.state → WindowsEarly x (windowed_hears c m x)
+windowed_hears_early : (c : Cell) (o : Occasion) (m : Parameters) (x : Windowed) → IsCellOf c o x.head.state → WindowsEarly x (windowed_hears c m x)
 unfolding windowed_hears WindowsEarly
 windowed_hears_early cell.TakeNumberedData o m x d =
     either (WindowsEarly x) (not (is_next m x)) _ _ (λ _. resets_early (wrong_number x.windows) x)
@@ -168,14 +168,14 @@ line_early x line k =
 abbrev pub KeptEarly : End → End → Type 0
 KeptEarly e f = Early (stage_at e) (got_at e) (stage_at f) (got_at f)
 
-section_hears_early : (ticks : Ticks) (c : Cell) (o : Occasion) (point : ℕ) (m : Parameters) (x : Section) → IsDataCell c o x.head.state → KeptEarly (wire x) (section_hears ticks c point m x).0
+section_hears_early : (ticks : Ticks) (c : Cell) (o : Occasion) (point : ℕ) (m : Parameters) (x : Section) → IsCellOf c o x.head.state → KeptEarly (wire x) (section_hears ticks c point m x).0
 unfolding section_hears SectionEarly WindowsEarly LineEarly
 section_hears_early ticks c o point m x d =
     either (SectionEarly x) (in_windows c x) _ _
     (λ _. windowed_hears_early c o m (record { head = x.head; windows = x.windows }) d)
     (λ _. line_early x (line_hears c point m (line_in x)).0 (line_hears_early c o point m (line_in x) d))
 
-section_fires_early : (ticks : Ticks) (c : Cell) (x : Section) → KeptEarly (wire x) (section_fires ticks c x).0
+pub section_fires_early : (ticks : Ticks) (c : Cell) (x : Section) → KeptEarly (wire x) (section_fires ticks c x).0
 unfolding section_fires windowed_fires SectionEarly LineEarly
 section_fires_early ticks c x =
     either (SectionEarly x) (in_windows c x) _ _ (λ _. same (section_stage x.head.state) x.windows.got)
@@ -188,9 +188,9 @@ section_takes_early ticks c h x =
     (λ _. windowed_takes_early c h (record { head = x.head; windows = x.windows }))
     (λ _. line_early x (line_takes c h (line_in x)).0 (line_takes_early c h (line_in x)))
 
-hears_early : (ticks : Ticks) (o : Occasion) (point : ℕ) (m : Parameters) (x : Section) (c : Option Output) → KeptEarly (wire x) (hears_checked ticks o point m (in_touch ticks x) c).0
+pub hears_early : (ticks : Ticks) (o : Occasion) (point : ℕ) (m : Parameters) (x : Section) (c : Option Output) → KeptEarly (wire x) (hears_checked ticks o point m (in_touch ticks x) c).0
 hears_early ticks o point m x (Some out) = same (section_stage x.head.state) x.windows.got
-hears_early ticks o point m x None = section_hears_early ticks (section_cell x.head.state o) o point m (in_touch ticks x) (data_cell o x.head.state)
+hears_early ticks o point m x None = section_hears_early ticks (section_cell x.head.state o) o point m (in_touch ticks x) (cell_of o x.head.state)
 
 -- A user's end.
 
@@ -217,31 +217,31 @@ user_takes_early cell.Left (hand.Left units expedited) u = same (user_stage u.st
 user_takes_early cell.Left _ u = same (user_stage u.state) u.got
 user_takes_early _ h u = same (user_stage u.state) u.got
 
-user_asks_early : (c : Cell) (r : Request) (u : User) → IsSendCell c u.state → UserEarly u (user_asks c r u)
+user_asks_early : (c : Cell) (o : UserOccasion) (r : Request) (u : User) → IsUserCellOf c o u.state → UserEarly u (user_asks c r u)
 unfolding user_asks UserEarly
-user_asks_early cell.UserSends (request.Send mine body) u is = grows (user_stage u.state) u.got _ is
-user_asks_early cell.UserSends _ u is = same (user_stage u.state) u.got
-user_asks_early cell.UserAccepts (request.Accept mine class credit body) u is = λ e. absurd e
-user_asks_early cell.UserAccepts _ u is = same (user_stage u.state) u.got
-user_asks_early cell.UserRefuses (request.Refuse mine cause body) u is = λ e. absurd e
-user_asks_early cell.UserRefuses _ u is = same (user_stage u.state) u.got
-user_asks_early cell.UserExpedites (request.Expedite mine body) u is = same (user_stage u.state) u.got
-user_asks_early cell.UserExpedites _ u is = same (user_stage u.state) u.got
-user_asks_early cell.UserResets r u is = λ e. absurd e
-user_asks_early cell.UserDisconnects (request.Disc mine cause body) u is = λ e. absurd e
-user_asks_early cell.UserDisconnects _ u is = same (user_stage u.state) u.got
-user_asks_early _ r u is = same (user_stage u.state) u.got
+user_asks_early cell.UserSends o (request.Send mine body) u is = grows (user_stage u.state) u.got _ is
+user_asks_early cell.UserSends o _ u is = same (user_stage u.state) u.got
+user_asks_early cell.UserAccepts o (request.Accept mine class credit body) u is = λ e. absurd e
+user_asks_early cell.UserAccepts o _ u is = same (user_stage u.state) u.got
+user_asks_early cell.UserRefuses o (request.Refuse mine cause body) u is = λ e. absurd e
+user_asks_early cell.UserRefuses o _ u is = same (user_stage u.state) u.got
+user_asks_early cell.UserExpedites o (request.Expedite mine body) u is = same (user_stage u.state) u.got
+user_asks_early cell.UserExpedites o _ u is = same (user_stage u.state) u.got
+user_asks_early cell.UserResets o r u is = λ e. absurd e
+user_asks_early cell.UserDisconnects o (request.Disc mine cause body) u is = λ e. absurd e
+user_asks_early cell.UserDisconnects o _ u is = same (user_stage u.state) u.got
+user_asks_early _ o r u is = same (user_stage u.state) u.got
 
-takes_early : (ticks : Ticks) (h : Hand) (e : End) → KeptEarly e (end_takes ticks h e).0
+pub takes_early : (ticks : Ticks) (h : Hand) (e : End) → KeptEarly e (end_takes ticks h e).0
 unfolding UserEarly
 takes_early ticks h (wire x) = section_takes_early ticks (section_takes_by x.head.state h) h x
 takes_early ticks h (owner u) = user_takes_early (user_takes_by u.state h) h u
 
-asks_early : (r : Request) (u : User) → KeptEarly (owner u) (owner (user_asks (asking_cell u.state r) r u).0)
+pub asks_early : (r : Request) (u : User) → KeptEarly (owner u) (owner (user_asks (asking_cell u.state r) r u).0)
 unfolding UserEarly
-asks_early r u = user_asks_early (asking_cell u.state r) r u (sending_cell u.state r)
+asks_early r u = user_asks_early (asking_cell u.state r) (as_asked r) r u (asking_cell_of r u.state)
 
-end_same : (e : End) → KeptEarly e e
+pub end_same : (e : End) → KeptEarly e e
 end_same e = same (stage_at e) (got_at e)
 
 leaves_early : (ticks : Ticks) (x : Section) → KeptEarly (wire x) (timed ticks x (by_windows leaves x)).0
@@ -267,7 +267,7 @@ kept ticks = record {
 
 -- A tick.
 
-ticked_early : (e : End) → KeptEarly e (ticked e)
+pub ticked_early : (e : End) → KeptEarly e (ticked e)
 ticked_early (wire x) = end_same (wire x)
 ticked_early (owner u) = end_same (owner u)
 

@@ -58,11 +58,11 @@ unfolding Quiet
 more_quiet c outs r p q = (quiet_joined r.1 outs q.0 p, q.1, q.2)
 
 pub exchange_quiet : (n : ℕ) (ticks : Ticks) → Exchanges n ticks
-unfolding exchange Exchanges Quiet
+unfolding exchange Exchanges Quiet AreOther
 exchange_quiet zero ticks acting that p o = (p, inl refl, inl refl)
 exchange_quiet (suc n) ticks acting that p o =
     let c = both acting.0 that in
-    let hands = parted acting.1.first acting.1.then o in
+    let hands = parted IsOther acting.1.first acting.1.then o in
     let first = fold (other_takes (exchange n ticks) ticks) (c, []) acting.1.first in
     hands_quiet n ticks (exchange_quiet n ticks) c acting.1.then (with_more acting.1.outs first) hands.1
     (more_quiet c acting.1.outs first p (hands_quiet n ticks (exchange_quiet n ticks) c acting.1.first (c, []) hands.0 (quiet_nowhere c)))

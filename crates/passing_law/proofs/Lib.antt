@@ -1,3 +1,4 @@
+pub mod Cells
 pub mod Quiet
 pub mod Exchanging
 pub mod Taking
@@ -7,3 +8,4 @@ pub mod Carrying
 pub mod Leaving
 pub mod Placing
 pub mod Early
+pub mod Clearing

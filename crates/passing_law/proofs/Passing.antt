@@ -17,12 +17,9 @@ use Rattle.section_model.specs.declared.cell.Cell.TheVariants as cell
 use Rattle.section_model.specs.declared.cell.Occasion.{Occasion}
 use Rattle.section_model.specs.declared.cell.Timer.{Timer}
 use Rattle.section_model.specs.declared.cell.UserOccasion.{UserOccasion}
-use Rattle.section_model.specs.declared.cell.UserOccasion.TheVariants as by
-use Rattle.section_model.specs.declared.cell.UserState.{UserState}
-use Rattle.section_model.specs.declared.cell.UserState.TheVariants as user
 use Rattle.section_model.specs.declared.hand.Hand.TheVariants as hand
 use Rattle.section_model.specs.declared.hand.Acted.{Acted}
-use Rattle.section_model.specs.Table.{user_row, section_cell, user_cell}
+use Rattle.section_model.specs.Table.{section_cell}
 use Rattle.section_model.specs.Parameters.{Parameters, Arrival, arrival_in}
 use Rattle.section_model.specs.Timing.{firing_order, firing, rearmed}
 use Rattle.section_model.specs.Ends.{End, wire, owner, DataUnit, SectionHead, Section, User, Timers, Connection, turned, no_effect, gives_then, is_up}
@@ -43,9 +40,10 @@ use Rattle.connection_law.proofs.Flow.Ordering.{this_left}
 use Rattle.connection_law.proofs.Message.Hearing.{other_named}
 use Rattle.connection_law.proofs.Message.Sent.{after_leaving}
 use Rattle.passing_law.specs.PassingLaw.{dt1_among, passed_on, at_once, StaysOrClears, Brings, Passing, none, on_this, on_that as on_other, UnitsPass}
+use Rattle.passing_law.proofs.Cells.{IsCellOf, cell_of, IsUserCellOf, as_asked, asking_cell_of}
 use Rattle.passing_law.proofs.Quiet.{IsQuiet, AreOther, ActsQuiet, dt1_joined, quiet_joined, none_quiet, resets_quiet, section_hears_quiet, section_fires_quiet, user_asks_quiet}
 use Rattle.passing_law.proofs.Exchanging.{both, Exchanges, Quiet, quiet_nowhere, quiet_then, quiet_back, exchange_quiet, settles_quiet}
-use Rattle.passing_law.proofs.Taking.{state_kept, SameHead, Passes, unit_passes, IsDataCell, data_cell}
+use Rattle.passing_law.proofs.Taking.{state_kept, SameHead, Passes, unit_passes}
 
 -- what is brought for an end
 abbrev Brought : Type 1
@@ -113,7 +111,7 @@ numbered_passes G ticks m x t that g meets =
     (λ _. gives_unit G ticks x _ that (unit_in_message m) g refl meets)))
 
 section_hears_passes : (c : Cell) (o : Occasion) (G : Brought) (ticks : Ticks) (point : ℕ) (m : Parameters) (x : Section) (t : Timers) (that : End)
-    → IsDataCell c o x.head.state → AreInStep (wire x) that → (carries o ≡ true → G (wire x) (unit_in_message m ∷ []))
+    → IsCellOf c o x.head.state → AreInStep (wire x) that → (carries o ≡ true → G (wire x) (unit_in_message m ∷ []))
     → PassesBy G (both (wire x) that) (settles ticks (section_hears ticks c point m (record x { timers = t })) that)
 unfolding section_hears line_hears windowed_hears HearsPass WindowsPass
 section_hears_passes cell.TakeData o G ticks point m x t that is k brought =
@@ -146,7 +144,7 @@ checked_passes : (c : Option Output) (o : Occasion) (G : Brought) (ticks : Ticks
 unfolding ActsQuiet AreOther
 checked_passes (Some out) o G ticks point m x that q k brought = quiet_passes G (both (wire x) that) _ (settles_quiet ticks (wire x) that _ (q, tt, inl refl))
 checked_passes None o G ticks point m x that q k brought =
-    section_hears_passes (section_cell x.head.state o) o G ticks point m x (in_touch ticks x).timers that (data_cell o x.head.state) k brought
+    section_hears_passes (section_cell x.head.state o) o G ticks point m x (in_touch ticks x).timers that (cell_of o x.head.state) k brought
 
 lost_quiet : (out : Output) → IsQuiet (out ∷ []) → (c : Connection) → Quiet c (c, out ∷ [])
 unfolding Quiet
@@ -177,6 +175,10 @@ at_reference_passes G reference part passes c k n =
     (λ is. at_this_passes G reference part passes c.this c.that k is)
     (λ no. passes_back G c (at_this part (turned c))
     (at_this_passes G reference part passes c.that c.this (kept_back c k) (other_named (is_named reference c.this) (is_named reference c.that) n no)))
+
+pub second_true : (a b : Bool) → (a && b) ≡ true → b ≡ true
+second_true true b e = e
+second_true false b e = absurd (false≢true e)
 
 pub first_true : (a b : Bool) → (a && b) ≡ true → a ≡ true
 first_true true b e = refl
@@ -237,49 +239,6 @@ text_passes ticks x m (u ∷ units) r same =
     ∙ ap (λ (outs : List Output). dt1_among r.1 ++ outs) (once_joined (x.head.class == 3) (λ u. sent_on x.head (dt1_of x.head u)) u units)) in
     (rest.0 ∙ p.1, rest.1 ∙ p.0, rest.2 ∙ both_sent)
 
--- the table has the cell of a text for a user's end that is ready alone
-abbrev pub IsSendCell : Cell → UserState → Type 0
-IsSendCell cell.UserSends s = Meets connected (user_stage s)
-IsSendCell _ s = Unit {0}
-
-send_cell : (s : UserState) (o : UserOccasion) → IsSendCell (user_cell s o) s
-unfolding user_row
-send_cell user.Offered by.Accepts = tt
-send_cell _ by.Accepts = tt
-send_cell user.Offered by.Refuses = tt
-send_cell _ by.Refuses = tt
-send_cell user.Offered by.Sends = tt
-send_cell _ by.Sends = tt
-send_cell user.Offered by.Expedites = tt
-send_cell _ by.Expedites = tt
-send_cell user.Offered by.Resets = tt
-send_cell _ by.Resets = tt
-send_cell user.Offered by.Disconnects = tt
-send_cell _ by.Disconnects = tt
-send_cell user.Offered by.AcceptTold = tt
-send_cell _ by.AcceptTold = tt
-send_cell user.Offered by.RefuseTold = tt
-send_cell _ by.RefuseTold = tt
-send_cell user.Offered by.EndTold = tt
-send_cell _ by.EndTold = tt
-send_cell user.Offered by.UnitTold = tt
-send_cell _ by.UnitTold = tt
-send_cell user.Offered by.ExpeditedTold = tt
-send_cell _ by.ExpeditedTold = tt
-send_cell user.Offered by.ResetTold = tt
-send_cell _ by.ResetTold = tt
-send_cell user.Offered by.DoneTold = tt
-send_cell _ by.DoneTold = tt
-
-pub asking : (s : UserState) (r : Request) → IsSendCell (asking_cell s r) s
-asking s (request.Accept mine class credit body) = send_cell s by.Accepts
-asking s (request.Refuse mine cause body) = send_cell s by.Refuses
-asking s (request.Send mine body) = send_cell s by.Sends
-asking s (request.Expedite mine body) = send_cell s by.Expedites
-asking s (request.Reset mine) = send_cell s by.Resets
-asking s (request.Disc mine cause body) = send_cell s by.Disconnects
-asking s _ = tt
-
 sends_text : (ticks : Ticks) (ssn mine : ℕ) (body : List ℕ) (u : User) (x : Section) → Meets connected (section_stage x.head.state)
     → PassesBy (Brings (Requested ssn (request.Send mine body))) (both (owner u) (wire x))
     (settles ticks (owner (record u { got = u.got ++ units_of body }), gives_then [] (map handed (units_of body))) (wire x))
@@ -288,18 +247,18 @@ sends_text ticks ssn mine body u x m =
     let t = text_passes ticks x m (units_of body) (both (owner (record u { got = u.got ++ units_of body })) (wire x), []) refl in
     on_this (units_of body) (record { brought = refl; comes = t.0; stays = inl t.1; sends = t.2 })
 
-user_asks_passes : (c : Cell) (r : Request) (ssn : ℕ) (ticks : Ticks) (u : User) (x : Section) → IsSendCell c u.state → AreInStep (owner u) (wire x)
+user_asks_passes : (c : Cell) (o : UserOccasion) (r : Request) (ssn : ℕ) (ticks : Ticks) (u : User) (x : Section) → IsUserCellOf c o u.state → AreInStep (owner u) (wire x)
     → PassesBy (Brings (Requested ssn r)) (both (owner u) (wire x)) (settles ticks (let done = user_asks c r u in (owner done.0, done.1)) (wire x))
 unfolding user_asks ActsQuiet AreOther
-user_asks_passes cell.UserSends (request.Send mine body) ssn ticks u x is k = sends_text ticks ssn mine body u x (other_meets (user_stage u.state) (section_stage x.head.state) is k.0)
-user_asks_passes cell.UserSends r ssn ticks u x is k = quiet_passes (Brings (Requested ssn r)) (both (owner u) (wire x)) _ (settles_quiet ticks (owner u) (wire x) _ (none_quiet, tt, inl refl))
-user_asks_passes c r ssn ticks u x is k = quiet_passes (Brings (Requested ssn r)) (both (owner u) (wire x)) _ (settles_quiet ticks (owner u) (wire x) _ (user_asks_quiet c r u tt))
+user_asks_passes cell.UserSends o (request.Send mine body) ssn ticks u x is k = sends_text ticks ssn mine body u x (other_meets (user_stage u.state) (section_stage x.head.state) is k.0)
+user_asks_passes cell.UserSends o r ssn ticks u x is k = quiet_passes (Brings (Requested ssn r)) (both (owner u) (wire x)) _ (settles_quiet ticks (owner u) (wire x) _ (none_quiet, tt, inl refl))
+user_asks_passes c o r ssn ticks u x is k = quiet_passes (Brings (Requested ssn r)) (both (owner u) (wire x)) _ (settles_quiet ticks (owner u) (wire x) _ (user_asks_quiet c r u tt))
 
 asks_unless_passes : (why : Option Reason) (ticks : Ticks) (ssn : ℕ) (r : Request) (u : User) (x : Section) → AreInStep (owner u) (wire x)
     → PassesBy (Brings (Requested ssn r)) (both (owner u) (wire x)) (asks_unless why ticks r u x)
 unfolding IsQuiet dt1_among
 asks_unless_passes (Some why) ticks ssn r u x k = quiet_passes (Brings (Requested ssn r)) (both (owner u) (wire x)) _ (lost_quiet _ refl (both (owner u) (wire x)))
-asks_unless_passes None ticks ssn r u x k = user_asks_passes (asking_cell u.state r) r ssn ticks u x (asking u.state r) k
+asks_unless_passes None ticks ssn r u x k = user_asks_passes (asking_cell u.state r) (as_asked r) r ssn ticks u x (asking_cell_of r u.state) k
 
 asks_pass : (ticks : Ticks) (ssn : ℕ) (r : Request) (this that : End) → AreInStep this that → PassesBy (Brings (Requested ssn r)) (both this that) (asks ticks ssn r this that)
 unfolding asks IsQuiet dt1_among

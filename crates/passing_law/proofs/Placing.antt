@@ -9,14 +9,12 @@ use Rattle.plant_core.specs.declared.terms.Ticks.{Ticks}
 use Rattle.section_model.specs.declared.cell.Cell.{Cell}
 use Rattle.section_model.specs.declared.cell.Cell.TheVariants as cell
 use Rattle.section_model.specs.declared.cell.Occasion.{Occasion}
-use Rattle.section_model.specs.declared.cell.Occasion.TheVariants as on
 use Rattle.section_model.specs.declared.cell.Timer.{Timer}
 use Rattle.section_model.specs.declared.cell.SectionState.{SectionState}
-use Rattle.section_model.specs.declared.cell.SectionState.TheVariants.{Asked, Asking, Waning}
 use Rattle.section_model.specs.declared.hand.Hand.{Hand}
 use Rattle.section_model.specs.declared.hand.Hand.TheVariants as hand
 use Rattle.section_model.specs.declared.hand.Acted.{Acted}
-use Rattle.section_model.specs.Table.{section_row, section_cell}
+use Rattle.section_model.specs.Table.{section_cell}
 use Rattle.section_model.specs.Parameters.{Parameters, arrival_in}
 use Rattle.section_model.specs.Timing.{firing_order, firing, rearmed}
 use Rattle.section_model.specs.Ends.{End, wire, owner, SectionHead, Line, Section, Connection, is_up, is_reached}
@@ -32,6 +30,7 @@ use Rattle.connection_law.proofs.Reference.Ends.{IsKept, Both, both_same, both_i
 use Rattle.connection_law.proofs.Reference.Settling.{settled}
 use Rattle.connection_law.proofs.Reference.Step.{Keeps, KeepsEnds, keeps_that, keeps_then, heard_kept, asked_kept, after_event_kept}
 use Rattle.passing_law.specs.PlaceLaw.{KeepsPlace, StaysPut, PlacesStay}
+use Rattle.passing_law.proofs.Cells.{IsCellOf, cell_of, as_occasion, taking_cell}
 
 -- a state in its place, as it was
 same : (x : SectionHead) → KeepsPlace x x
@@ -49,87 +48,22 @@ place_then x y z a b = λ r.
 unknown : (x y : SectionHead) → is_reached x.state ≡ false → KeepsPlace x y
 unknown x y e = λ r. absurd (false≢true (sym e ∙ r))
 
--- The cells that say the other end, or wait until it is known, are those of a section whose other end isn't known.
-abbrev IsReachCell : Cell → SectionState → Type 0
-IsReachCell cell.Confirm s = is_reached s ≡ false
-IsReachCell cell.ConfirmLate s = is_reached s ≡ false
-IsReachCell cell.KeepEnd s = is_reached s ≡ false
-IsReachCell _ s = Unit {0}
-
-reach_cell : (o : Occasion) (s : SectionState) → IsReachCell (section_cell s o) s
-unfolding section_row
-reach_cell on.Cc Asking = refl
-reach_cell on.Cc Waning = refl
-reach_cell on.Cc _ = tt
-reach_cell on.Cref Asked = tt
-reach_cell on.Cref _ = tt
-reach_cell on.Rlsd Asked = tt
-reach_cell on.Rlsd _ = tt
-reach_cell on.Rlc Asked = tt
-reach_cell on.Rlc _ = tt
-reach_cell on.Dt1 Asked = tt
-reach_cell on.Dt1 _ = tt
-reach_cell on.Dt2 Asked = tt
-reach_cell on.Dt2 _ = tt
-reach_cell on.Ak Asked = tt
-reach_cell on.Ak _ = tt
-reach_cell on.Ed Asked = tt
-reach_cell on.Ed _ = tt
-reach_cell on.Ea Asked = tt
-reach_cell on.Ea _ = tt
-reach_cell on.Rsr Asked = tt
-reach_cell on.Rsr _ = tt
-reach_cell on.Rsc Asked = tt
-reach_cell on.Rsc _ = tt
-reach_cell on.Err Asked = tt
-reach_cell on.Err _ = tt
-reach_cell on.It Asked = tt
-reach_cell on.It _ = tt
-reach_cell on.ConnectFires Asked = tt
-reach_cell on.ConnectFires _ = tt
-reach_cell on.ResetFires Asked = tt
-reach_cell on.ResetFires _ = tt
-reach_cell on.IarFires Asked = tt
-reach_cell on.IarFires _ = tt
-reach_cell on.IasFires Asked = tt
-reach_cell on.IasFires _ = tt
-reach_cell on.RelFires Asked = tt
-reach_cell on.RelFires _ = tt
-reach_cell on.IntFires Asked = tt
-reach_cell on.IntFires _ = tt
-reach_cell on.RepeatFires Asked = tt
-reach_cell on.RepeatFires _ = tt
-reach_cell on.AcceptComes Asked = tt
-reach_cell on.AcceptComes _ = tt
-reach_cell on.RefuseComes Asked = tt
-reach_cell on.RefuseComes _ = tt
-reach_cell on.EndComes Asking = refl
-reach_cell on.EndComes _ = tt
-reach_cell on.UnitComes Asked = tt
-reach_cell on.UnitComes _ = tt
-reach_cell on.ExpeditedComes Asked = tt
-reach_cell on.ExpeditedComes _ = tt
-reach_cell on.ResetComes Asked = tt
-reach_cell on.ResetComes _ = tt
-reach_cell on.DoneComes Asked = tt
-reach_cell on.DoneComes _ = tt
-
 -- The line.
 
 LineStays : Line → Line × Acted → Type 0
 LineStays x done = KeepsPlace x.head done.0.head
 
-line_hears_place : (c : Cell) (point : ℕ) (m : Parameters) (x : Line) → IsReachCell c x.head.state → LineStays x (line_hears c point m x)
+line_hears_place : (c : Cell) (o : Occasion) (point : ℕ) (m : Parameters) (x : Line) → IsCellOf c o x.head.state → LineStays x (line_hears c point m x)
 unfolding line_hears LineStays
-line_hears_place cell.Confirm point m x e = unknown x.head (line_hears cell.Confirm point m x).0.head e
-line_hears_place cell.ConfirmLate point m x e = unknown x.head (line_hears cell.ConfirmLate point m x).0.head e
-line_hears_place cell.Refused point m x e = moved x.head _ refl
-line_hears_place cell.Free point m x e = moved x.head _ refl
-line_hears_place cell.Released point m x e = moved x.head _ refl
-line_hears_place cell.ReleaseCollision point m x e = moved x.head _ refl
-line_hears_place cell.ErrorReceived point m x e = either (LineStays x) (m.cause == ERROR_CLASS_MISMATCH) _ _ (λ _. moved x.head _ refl) (λ _. moved x.head _ refl)
-line_hears_place cell.TestReceived point m x e = either (LineStays x) (m.slr == x.head.other && m.class == x.head.class) _ _ (λ _. same x.head) (λ _. moved x.head _ refl)
-line_hears_place _ point m x e = same x.head
+line_hears_place cell.Confirm o point m x e = unknown x.head (line_hears cell.Confirm point m x).0.head (rw e refl)
+line_hears_place cell.ConfirmLate o point m x e = unknown x.head (line_hears cell.ConfirmLate point m x).0.head (rw e refl)
+line_hears_place cell.Refused o point m x e = moved x.head _ refl
+line_hears_place cell.Free o point m x e = moved x.head _ refl
+line_hears_place cell.Released o point m x e = moved x.head _ refl
+line_hears_place cell.ReleaseCollision o point m x e = moved x.head _ refl
+line_hears_place cell.ErrorReceived o point m x e = either (LineStays x) (m.cause == ERROR_CLASS_MISMATCH) _ _ (λ _. moved x.head _ refl) (λ _. moved x.head _ refl)
+line_hears_place cell.TestReceived o point m x e = either (LineStays x) (m.slr == x.head.other && m.class == x.head.class) _ _ (λ _. same x.head) (λ _. moved x.head _ refl)
+line_hears_place _ o point m x e = same x.head
 
 line_fires_place : (c : Cell) (x : Line) → LineStays x (line_fires c x)
 unfolding line_fires LineStays
@@ -139,20 +73,20 @@ line_fires_place cell.PeerSilent x = moved x.head _ refl
 line_fires_place cell.Free x = moved x.head _ refl
 line_fires_place _ x = same x.head
 
-line_takes_place : (c : Cell) (h : Hand) (x : Line) → IsReachCell c x.head.state → LineStays x (line_takes c h x)
+line_takes_place : (c : Cell) (o : Occasion) (h : Hand) (x : Line) → IsCellOf c o x.head.state → LineStays x (line_takes c h x)
 unfolding line_takes LineStays
-line_takes_place cell.PassAccept (hand.Accept class credit called body importance) x e = λ r. record { reached = refl; point = refl; sls = refl; other = refl }
-line_takes_place cell.PassAccept _ x e = same x.head
-line_takes_place cell.PassRefuse (hand.Refuse cause called body importance) x e = moved x.head _ refl
-line_takes_place cell.PassRefuse _ x e = same x.head
-line_takes_place cell.PassEnd (hand.End cause body importance) x e = moved x.head _ refl
-line_takes_place cell.PassEnd _ x e = same x.head
-line_takes_place cell.KeepEnd h x e = unknown x.head (line_takes cell.KeepEnd h x).0.head e
-line_takes_place cell.PassUnit (hand.Unit more body) x e = same x.head
-line_takes_place cell.PassUnit _ x e = same x.head
-line_takes_place cell.Left (hand.Left units expedited) x e = same x.head
-line_takes_place cell.Left _ x e = same x.head
-line_takes_place _ h x e = same x.head
+line_takes_place cell.PassAccept o (hand.Accept class credit called body importance) x e = λ r. record { reached = refl; point = refl; sls = refl; other = refl }
+line_takes_place cell.PassAccept o _ x e = same x.head
+line_takes_place cell.PassRefuse o (hand.Refuse cause called body importance) x e = moved x.head _ refl
+line_takes_place cell.PassRefuse o _ x e = same x.head
+line_takes_place cell.PassEnd o (hand.End cause body importance) x e = moved x.head _ refl
+line_takes_place cell.PassEnd o _ x e = same x.head
+line_takes_place cell.KeepEnd o h x e = unknown x.head (line_takes cell.KeepEnd h x).0.head (rw e refl)
+line_takes_place cell.PassUnit o (hand.Unit more body) x e = same x.head
+line_takes_place cell.PassUnit o _ x e = same x.head
+line_takes_place cell.Left o (hand.Left units expedited) x e = same x.head
+line_takes_place cell.Left o _ x e = same x.head
+line_takes_place _ o h x e = same x.head
 
 -- The windows.
 
@@ -202,38 +136,28 @@ windowed_takes_place _ h x = same x.head
 SectionStays : Section → Section × Acted → Type 0
 SectionStays x done = KeepsPlace x.head done.0.head
 
-section_hears_place : (ticks : Ticks) (c : Cell) (point : ℕ) (m : Parameters) (x : Section) → IsReachCell c x.head.state → StaysPut (wire x) (section_hears ticks c point m x).0
+section_hears_place : (ticks : Ticks) (c : Cell) (o : Occasion) (point : ℕ) (m : Parameters) (x : Section) → IsCellOf c o x.head.state → StaysPut (wire x) (section_hears ticks c point m x).0
 unfolding section_hears SectionStays WindowsStay LineStays
-section_hears_place ticks c point m x e =
+section_hears_place ticks c o point m x e =
     either (SectionStays x) (in_windows c x) _ _
-    (λ _. windowed_hears_place c m (record { head = x.head; windows = x.windows })) (λ _. line_hears_place c point m (line_in x) e)
+    (λ _. windowed_hears_place c m (record { head = x.head; windows = x.windows })) (λ _. line_hears_place c o point m (line_in x) e)
 
 section_fires_place : (ticks : Ticks) (c : Cell) (x : Section) → StaysPut (wire x) (section_fires ticks c x).0
 unfolding section_fires windowed_fires SectionStays LineStays
 section_fires_place ticks c x = either (SectionStays x) (in_windows c x) _ _ (λ _. same x.head) (λ _. line_fires_place c (line_in x))
 
-section_takes_place : (ticks : Ticks) (c : Cell) (h : Hand) (x : Section) → IsReachCell c x.head.state → StaysPut (wire x) (section_takes ticks c h x).0
+section_takes_place : (ticks : Ticks) (c : Cell) (o : Occasion) (h : Hand) (x : Section) → IsCellOf c o x.head.state → StaysPut (wire x) (section_takes ticks c h x).0
 unfolding section_takes SectionStays WindowsStay LineStays
-section_takes_place ticks c h x e =
+section_takes_place ticks c o h x e =
     either (SectionStays x) (in_windows c x) _ _
-    (λ _. windowed_takes_place c h (record { head = x.head; windows = x.windows })) (λ _. line_takes_place c h (line_in x) e)
+    (λ _. windowed_takes_place c h (record { head = x.head; windows = x.windows })) (λ _. line_takes_place c o h (line_in x) e)
 
 hears_place : (ticks : Ticks) (o : Occasion) (point : ℕ) (m : Parameters) (x : Section) (c : Option Output) → StaysPut (wire x) (hears_checked ticks o point m (in_touch ticks x) c).0
 hears_place ticks o point m x (Some out) = same x.head
-hears_place ticks o point m x None = section_hears_place ticks (section_cell x.head.state o) point m (in_touch ticks x) (reach_cell o x.head.state)
-
-taking_cell : (h : Hand) (s : SectionState) → IsReachCell (section_takes_by s h) s
-taking_cell (hand.Accept class credit called body importance) s = reach_cell on.AcceptComes s
-taking_cell (hand.Refuse cause called body importance) s = reach_cell on.RefuseComes s
-taking_cell (hand.End cause body importance) s = reach_cell on.EndComes s
-taking_cell (hand.Unit more body) s = reach_cell on.UnitComes s
-taking_cell (hand.Expedited body) s = reach_cell on.ExpeditedComes s
-taking_cell (hand.Reset cause) s = reach_cell on.ResetComes s
-taking_cell hand.Done s = reach_cell on.DoneComes s
-taking_cell (hand.Left units expedited) s = tt
+hears_place ticks o point m x None = section_hears_place ticks (section_cell x.head.state o) o point m (in_touch ticks x) (cell_of o x.head.state)
 
 takes_place : (ticks : Ticks) (h : Hand) (e : End) → StaysPut e (end_takes ticks h e).0
-takes_place ticks h (wire x) = section_takes_place ticks (section_takes_by x.head.state h) h x (taking_cell h x.head.state)
+takes_place ticks h (wire x) = section_takes_place ticks (section_takes_by x.head.state h) (as_occasion h) h x (taking_cell h x.head.state)
 takes_place ticks h (owner u) = tt
 
 end_same : (e : End) → StaysPut e e

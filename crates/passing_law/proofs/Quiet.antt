@@ -1,5 +1,6 @@
 -- Acts by which no unit passes.
 use Rattle.std.proofs.Common.{◌≡◌, ◌⊎◌, inl, inr, ℕ, ◌==◌, ◌&&◌, ◌||◌, not, nat_le, true, false, List, [], ◌∷◌, ◌++◌, Option, Some, None, refl, ◌∙◌}
+use Rattle.std.specs.List.{AllByRecursion}
 use Rattle.std.proofs.lemmas.List.Elements.{filter-append}
 use Rattle.relay_base.specs.declared.causes.TheConstants.{ERROR_CLASS_MISMATCH, RESET_INCORRECT_RECEIVE_NUMBER, RESET_REMOTE_PROCEDURE_ERROR}
 use Rattle.relay_base.specs.declared.words.Output.{Output}
@@ -48,13 +49,11 @@ IsOther (hand.Unit more body) = ⊥
 IsOther _ = Unit {0}
 
 unfoldable pub AreOther : List Hand → Type 0
-AreOther [] = Unit {0}
-AreOther (h ∷ hands) = IsOther h × AreOther hands
+AreOther hands = AllByRecursion IsOther hands
 
-pub parted : (one two : List Hand) → AreOther (one ++ two) → AreOther one × AreOther two
-unfolding AreOther
-parted [] two n = (tt, n)
-parted (h ∷ one) two n = let rest = parted one two n.1 in ((n.0, rest.0), rest.1)
+pub parted : (P : Hand → Type 0) (one two : List Hand) → AllByRecursion P (one ++ two) → AllByRecursion P one × AllByRecursion P two
+parted P [] two all = (tt, all)
+parted P (h ∷ one) two all = let rest = parted P one two all.1 in ((all.0, rest.0), rest.1)
 
 -- what came in stays as it was, or begins anew
 abbrev pub Kept : List DataUnit → List DataUnit → Type 0

@@ -7,7 +7,6 @@ use Rattle.q713_shape.specs.Writing.{octets_of}
 use Rattle.q713_codec.specs.Writing.{spelling_of}
 use Rattle.section_model.specs.declared.cell.Cell.{Cell}
 use Rattle.section_model.specs.declared.cell.Cell.TheVariants as cell
-use Rattle.section_model.specs.declared.cell.Occasion.{Occasion}
 use Rattle.section_model.specs.declared.cell.Occasion.TheVariants as on
 use Rattle.section_model.specs.declared.cell.UserOccasion.TheVariants as by
 use Rattle.section_model.specs.declared.cell.SectionState.{SectionState}
@@ -26,7 +25,6 @@ use Rattle.section_model.specs.UserEnd.{user_takes, collects, handed}
 use Rattle.section_model.specs.Acting.{line_in, windows_after, section_takes, user_takes_by, end_takes}
 use Rattle.section_model.specs.Coupling.{with_more, other_takes, exchange}
 use Rattle.section_model.specs.Laws.{IsAnswer, AreAnswers}
-use Rattle.carried_law.specs.Units.{carries}
 use Rattle.connection_law.specs.InStep.{got_at, connected, Meets, section_stage, user_stage, stage_at}
 use Rattle.connection_law.proofs.Flow.Flowing.{either}
 use Rattle.passing_law.specs.PassingLaw.{dt1_among, passed_on, at_once}
@@ -35,7 +33,7 @@ use Rattle.passing_law.proofs.Exchanging.{both}
 
 -- A section that stays in its state keeps what came in.
 
-not_set_up : (s : SectionState) → (is_up s && not (is_connected s)) ≡ false
+pub not_set_up : (s : SectionState) → (is_up s && not (is_connected s)) ≡ false
 not_set_up Asked = refl
 not_set_up Asking = refl
 not_set_up Waning = refl
@@ -198,66 +196,3 @@ unit_passes ticks u e giver m =
       two.2 ∙ (dt1_joined first.1 taken.1.outs ∙ rw one.2 (none_first (dt1_among taken.1.outs) t.2)),
       subst (λ e'. SameHead e e') (sym same) t.3,
     )
-
--- A message with a unit is taken in a section that is up.
-abbrev pub IsDataCell : Cell → Occasion → SectionState → Type 0
-IsDataCell cell.TakeData o s = (carries o ≡ true) × Meets connected (section_stage s)
-IsDataCell cell.TakeNumberedData o s = (carries o ≡ true) × Meets connected (section_stage s)
-IsDataCell _ o s = Unit {0}
-
-pub data_cell : (o : Occasion) (s : SectionState) → IsDataCell (section_cell s o) o s
-unfolding section_row
-data_cell on.Cc Asked = tt
-data_cell on.Cc _ = tt
-data_cell on.Cref Asked = tt
-data_cell on.Cref _ = tt
-data_cell on.Rlsd Asked = tt
-data_cell on.Rlsd _ = tt
-data_cell on.Rlc Asked = tt
-data_cell on.Rlc _ = tt
-data_cell on.Dt1 Up = (refl, tt)
-data_cell on.Dt1 _ = tt
-data_cell on.Dt2 Up = (refl, tt)
-data_cell on.Dt2 _ = tt
-data_cell on.Ak Asked = tt
-data_cell on.Ak _ = tt
-data_cell on.Ed Asked = tt
-data_cell on.Ed _ = tt
-data_cell on.Ea Asked = tt
-data_cell on.Ea _ = tt
-data_cell on.Rsr Asked = tt
-data_cell on.Rsr _ = tt
-data_cell on.Rsc Asked = tt
-data_cell on.Rsc _ = tt
-data_cell on.Err Asked = tt
-data_cell on.Err _ = tt
-data_cell on.It Asked = tt
-data_cell on.It _ = tt
-data_cell on.ConnectFires Asked = tt
-data_cell on.ConnectFires _ = tt
-data_cell on.ResetFires Asked = tt
-data_cell on.ResetFires _ = tt
-data_cell on.IarFires Asked = tt
-data_cell on.IarFires _ = tt
-data_cell on.IasFires Asked = tt
-data_cell on.IasFires _ = tt
-data_cell on.RelFires Asked = tt
-data_cell on.RelFires _ = tt
-data_cell on.IntFires Asked = tt
-data_cell on.IntFires _ = tt
-data_cell on.RepeatFires Asked = tt
-data_cell on.RepeatFires _ = tt
-data_cell on.AcceptComes Asked = tt
-data_cell on.AcceptComes _ = tt
-data_cell on.RefuseComes Asked = tt
-data_cell on.RefuseComes _ = tt
-data_cell on.EndComes Asked = tt
-data_cell on.EndComes _ = tt
-data_cell on.UnitComes Asked = tt
-data_cell on.UnitComes _ = tt
-data_cell on.ExpeditedComes Asked = tt
-data_cell on.ExpeditedComes _ = tt
-data_cell on.ResetComes Asked = tt
-data_cell on.ResetComes _ = tt
-data_cell on.DoneComes Asked = tt
-data_cell on.DoneComes _ = tt

@@ -3,3 +3,4 @@ pub mod TakingLaw
 pub mod LeavingLaw
 pub mod PlaceLaw
 pub mod EarlyLaw
+pub mod ClearingLaw

@@ -1,4 +1,5 @@
 //! Laws of the definitions, each as the contract of a function.
+ghost use Rattle.passing_law.specs.ClearingLaw.{NoClearing};
 ghost use Rattle.passing_law.specs.EarlyLaw.{EarlyLaw};
 ghost use Rattle.passing_law.specs.LeavingLaw.{UnitsLeave};
 ghost use Rattle.passing_law.specs.PassingLaw.{UnitsPass};
@@ -30,4 +31,9 @@ pub fn places_stay()
 /// At an end that was asked for a connection, or that asks for it, no unit came in. No end is so again after it was set up, or is over.
 pub fn early_is_empty()
     ensures { EarlyLaw }
+{}
+
+/// What came in at an end goes on over each step, but in class 3 with RSR or RSC among the outputs.
+pub fn no_clearing()
+    ensures { NoClearing }
 {}
