@@ -15,9 +15,10 @@ use Rattle.section_model.specs.declared.cell.UserState.TheVariants as user
 use Rattle.section_model.specs.declared.hand.Hand.{Hand}
 use Rattle.section_model.specs.declared.hand.Hand.TheVariants as hand
 use Rattle.section_model.specs.Table.{section_row, user_row, section_cell, user_cell}
-use Rattle.section_model.specs.Acting.{section_takes_by}
+use Rattle.section_model.specs.Acting.{section_takes_by, user_takes_by}
 use Rattle.section_model.specs.Step.{asking_cell}
 use Rattle.carried_law.specs.Units.{carries}
+use Rattle.passing_law.specs.EarlyLaw.{IsBefore}
 use Rattle.connection_law.specs.InStep.{connected, Meets, section_stage, user_stage}
 
 abbrev pub IsResetComes : Occasion → Type 0
@@ -123,6 +124,8 @@ IsResets _ = ⊥
 abbrev pub IsUserCellOf : Cell → UserOccasion → UserState → Type 0
 IsUserCellOf cell.UserSends o s = Meets connected (user_stage s)
 IsUserCellOf cell.UserResets o s = IsResets o
+IsUserCellOf cell.UserAccepts o s = IsBefore (user_stage s)
+IsUserCellOf cell.TellConfirm o s = IsBefore (user_stage s)
 IsUserCellOf _ o s = Unit {0}
 
 pub user_cell_of : (o : UserOccasion) (s : UserState) → IsUserCellOf (user_cell s o) o s
@@ -140,6 +143,7 @@ user_cell_of by.Resets _ = tt
 user_cell_of by.Disconnects user.Offered = tt
 user_cell_of by.Disconnects _ = tt
 user_cell_of by.AcceptTold user.Offered = tt
+user_cell_of by.AcceptTold user.Calling = tt
 user_cell_of by.AcceptTold _ = tt
 user_cell_of by.RefuseTold user.Offered = tt
 user_cell_of by.RefuseTold _ = tt
@@ -172,3 +176,24 @@ asking_cell_of (request.Expedite mine body) s = user_cell_of by.Expedites s
 asking_cell_of (request.Reset mine) s = user_cell_of by.Resets s
 asking_cell_of (request.Disc mine cause body) s = user_cell_of by.Disconnects s
 asking_cell_of _ s = tt
+
+-- what an effect of the section is to a user's end
+abbrev pub as_told : Hand → UserOccasion
+as_told (hand.Accept class credit called body importance) = by.AcceptTold
+as_told (hand.Refuse cause called body importance) = by.RefuseTold
+as_told (hand.End cause body importance) = by.EndTold
+as_told (hand.Unit more body) = by.UnitTold
+as_told (hand.Expedited body) = by.ExpeditedTold
+as_told (hand.Reset cause) = by.ResetTold
+as_told hand.Done = by.DoneTold
+as_told (hand.Left units expedited) = by.DoneTold
+
+pub telling_cell : (h : Hand) (s : UserState) → IsUserCellOf (user_takes_by s h) (as_told h) s
+telling_cell (hand.Accept class credit called body importance) s = user_cell_of by.AcceptTold s
+telling_cell (hand.Refuse cause called body importance) s = user_cell_of by.RefuseTold s
+telling_cell (hand.End cause body importance) s = user_cell_of by.EndTold s
+telling_cell (hand.Unit more body) s = user_cell_of by.UnitTold s
+telling_cell (hand.Expedited body) s = user_cell_of by.ExpeditedTold s
+telling_cell (hand.Reset cause) s = user_cell_of by.ResetTold s
+telling_cell hand.Done s = user_cell_of by.DoneTold s
+telling_cell (hand.Left units expedited) s = tt

@@ -31,7 +31,7 @@ use Rattle.section_model.specs.Table.{section_row, user_row, section_cell}
 use Rattle.section_model.specs.Parameters.{Parameters, Arrival, arrival_in}
 use Rattle.section_model.specs.Timing.{firing_order, firing, rearmed}
 use Rattle.section_model.specs.Ends.{End, wire, owner, DataUnit, Line, Section, User, Connection, turned, is_up, is_connected}
-use Rattle.section_flow.specs.Windows.{Windows, is_valid, wrong_number}
+use Rattle.section_flow.specs.Windows.{is_valid, wrong_number}
 use Rattle.section_model.specs.Line.{line_hears, line_fires, line_takes}
 use Rattle.section_model.specs.Windowed.{Windowed, windowed_hears, windowed_fires, windowed_takes, resets, is_next, is_used_up, sends_expedited}
 use Rattle.section_model.specs.UserEnd.{user_takes, user_asks, units_of, handed}
@@ -39,14 +39,14 @@ use Rattle.section_model.specs.Acting.{by_line, line_in, is_by_class, in_windows
 use Rattle.section_model.specs.Coupling.{with_more, other_takes, exchange, settles}
 use Rattle.section_model.specs.Laws.{hands_of}
 use Rattle.section_model.specs.Step.{checked, hears_checked, in_touch, is_from_elsewhere, hears_message, asking_cell, is_nothing, refusal, reason_against, asks_unless, asks, ticked, is_due_at, fires_at, fires, fires_next, fires_due, ticks_by, after_event, is_named, at_this, heard_by, asked_by, event_step, connection_step}
-use Rattle.connection_law.specs.InStep.{Stage, section_stage, user_stage, stage_at, class_at, got_at, sent_at, AreInStep, IsInStep}
+use Rattle.connection_law.specs.InStep.{Stage, section_stage, stage_at, class_at, got_at, sent_at, AreInStep, IsInStep}
 use Rattle.connection_law.proofs.Flow.Flowing.{either}
 use Rattle.connection_law.proofs.Message.Sent.{after_leaving}
 use Rattle.connection_law.proofs.Reference.Ends.{Both}
 use Rattle.text_law.specs.TextLaw.{Begins}
 use Rattle.passing_law.specs.EarlyLaw.{IsBefore, IsEmptyEarly}
 use Rattle.passing_law.specs.ClearingLaw.{is_reset, SendsReset, NoClearing}
-use Rattle.passing_law.proofs.Cells.{IsResetComes, IsCellOf, cell_of, as_occasion, taking_cell, IsResets, IsUserCellOf, as_asked, asking_cell_of}
+use Rattle.passing_law.proofs.Cells.{IsResetComes, IsCellOf, cell_of, as_occasion, taking_cell, IsResets, IsUserCellOf, as_asked, asking_cell_of, as_told, telling_cell}
 use Rattle.passing_law.proofs.Quiet.{parted}
 use Rattle.passing_law.proofs.Exchanging.{both}
 use Rattle.passing_law.proofs.Taking.{not_set_up}
@@ -60,24 +60,26 @@ all_of units = record { more = []; is = sym (append-nil units) }
 pub begins_then : (a b c : List DataUnit) → Begins a b → Begins b c → Begins a c
 begins_then a b c one other = record { more = one.more ++ other.more; is = other.is ∙ rw one.is (append_assoc a one.more other.more) }
 
--- From a stage, what came in and how many were sent to those later on: but where the connection isn't set up, they go on.
-abbrev pub GoesFrom : Stage → List DataUnit → ℕ → List DataUnit → ℕ → Type 0
-GoesFrom s got sent got' sent' = IsBefore s ⊎ (Begins got got' × (sent' ≡ sent))
+-- From a stage, what came in, how many were sent and the class to those later on: but where the connection isn't set up, they go on.
+abbrev pub GoesFrom : Stage → List DataUnit → ℕ → ℕ → List DataUnit → ℕ → ℕ → Type 0
+GoesFrom s got sent class got' sent' class' = IsBefore s ⊎ (Begins got got' × (sent' ≡ sent) × (class' ≡ class))
+
+abbrev GoesTo : End → End → Type 0
+GoesTo e f = GoesFrom (stage_at e) (got_at e) (sent_at e) (class_at e) (got_at f) (sent_at f) (class_at f)
 
 abbrev pub Goes : End → End → Type 0
-Goes e f = KeptEarly e f × GoesFrom (stage_at e) (got_at e) (sent_at e) (got_at f) (sent_at f)
+Goes e f = KeptEarly e f × GoesTo e f
 
 goes_same : (e : End) → Goes e e
-goes_same e = (end_same e, inr (all_of (got_at e), refl))
+goes_same e = (end_same e, inr (all_of (got_at e), refl, refl))
 
 goes_then : (e f g : End) → Goes e f → Goes f g → Goes e g
 goes_then e f g one other = (early_then (stage_at e) (stage_at f) (stage_at g) (got_at e) (got_at f) (got_at g) one.0 other.0, in_turn one.0 one.1 other.1)
   where
-    in_turn : KeptEarly e f → GoesFrom (stage_at e) (got_at e) (sent_at e) (got_at f) (sent_at f) → GoesFrom (stage_at f) (got_at f) (sent_at f) (got_at g) (sent_at g)
-        → GoesFrom (stage_at e) (got_at e) (sent_at e) (got_at g) (sent_at g)
+    in_turn : KeptEarly e f → GoesTo e f → GoesTo f g → GoesTo e g
     in_turn k (inl early) other = inl early
     in_turn k (inr one) (inl early) = inl (k early).0
-    in_turn k (inr one) (inr other) = inr (begins_then (got_at e) (got_at f) (got_at g) one.0 other.0, other.1 ∙ one.1)
+    in_turn k (inr one) (inr other) = inr (begins_then (got_at e) (got_at f) (got_at g) one.0 other.0, other.1 ∙ one.1, other.2 ∙ one.2)
 
 both_go_then : (c d e : Connection) → Both Goes c d → Both Goes d e → Both Goes c e
 both_go_then c d e one other = (goes_then c.this d.this e.this one.0 other.0, goes_then c.that d.that e.that one.1 other.1)
@@ -95,7 +97,7 @@ AreNoReset hands = AllByRecursion IsNoReset hands
 
 -- an act that goes on, and hands no reset over
 abbrev TakeGoes : End → End × Acted → Type 0
-TakeGoes e done = GoesFrom (stage_at e) (got_at e) (sent_at e) (got_at done.0) (sent_at done.0) × AreNoReset (hands_of done.1)
+TakeGoes e done = GoesTo e done.0 × AreNoReset (hands_of done.1)
 
 -- or one of class 3 that sends RSR or RSC
 abbrev ActGoes : End → End × Acted → Type 0
@@ -105,59 +107,54 @@ ActGoes e done = ((class_at e ≡ 3) × SendsReset done.1.outs) ⊎ TakeGoes e d
 
 LineGoes : Line → Line × Acted → Type 0
 LineGoes x done =
-    ((is_up done.0.head.state && not (is_connected x.head.state)) ≡ true → IsBefore (section_stage x.head.state)) × Begins x.got done.0.got × AreNoReset (hands_of done.1)
-
-unmoved : (x : Line) → (is_up x.head.state && not (is_connected x.head.state)) ≡ true → IsBefore (section_stage x.head.state)
-unmoved x up = absurd (false≢true (sym (not_set_up x.head.state) ∙ up))
-
-never : {A : Type 0} → false ≡ true → A
-never e = absurd (false≢true e)
+    (IsBefore (section_stage x.head.state) ⊎ (((is_up done.0.head.state && not (is_connected x.head.state)) ≡ false) × Begins x.got done.0.got × (done.0.head.class ≡ x.head.class)))
+    × AreNoReset (hands_of done.1)
 
 line_hears_goes : (c : Cell) (o : Occasion) (point : ℕ) (m : Parameters) (x : Line) → IsCellOf c o x.head.state → LineGoes x (line_hears c point m x)
 unfolding line_hears LineGoes
 line_hears_goes cell.Confirm o point m x is =
     either (LineGoes x) ((m.class == 2 || m.class == 3) && nat_le m.class x.head.class) _ _
-    (λ _. (λ up. rw is tt, all_of x.got, (tt, tt))) (λ _. (λ up. never up, all_of x.got, (tt, tt)))
-line_hears_goes cell.ConfirmLate o point m x is = (λ up. never up, all_of x.got, tt)
-line_hears_goes cell.Refused o point m x is = (λ up. never up, all_of x.got, (tt, tt))
-line_hears_goes cell.Free o point m x is = (λ up. never up, all_of x.got, tt)
-line_hears_goes cell.Released o point m x is = (λ up. never up, all_of x.got, (tt, tt))
-line_hears_goes cell.ReleaseCollision o point m x is = (λ up. never up, all_of x.got, tt)
-line_hears_goes cell.TakeData o point m x is = (unmoved x, record { more = _; is = refl }, (tt, tt))
+    (λ _. (inl (rw is tt), (tt, tt))) (λ _. (inr (refl, all_of x.got, refl), (tt, tt)))
+line_hears_goes cell.ConfirmLate o point m x is = (inr (refl, all_of x.got, refl), tt)
+line_hears_goes cell.Refused o point m x is = (inr (refl, all_of x.got, refl), (tt, tt))
+line_hears_goes cell.Free o point m x is = (inr (refl, all_of x.got, refl), tt)
+line_hears_goes cell.Released o point m x is = (inr (refl, all_of x.got, refl), (tt, tt))
+line_hears_goes cell.ReleaseCollision o point m x is = (inr (refl, all_of x.got, refl), tt)
+line_hears_goes cell.TakeData o point m x is = (inr (not_set_up x.head.state, record { more = _; is = refl }, refl), (tt, tt))
 line_hears_goes cell.ErrorReceived o point m x is =
-    either (LineGoes x) (m.cause == ERROR_CLASS_MISMATCH) _ _ (λ _. (λ up. never up, all_of x.got, (tt, tt))) (λ _. (λ up. never up, all_of x.got, (tt, tt)))
+    either (LineGoes x) (m.cause == ERROR_CLASS_MISMATCH) _ _ (λ _. (inr (refl, all_of x.got, refl), (tt, tt))) (λ _. (inr (refl, all_of x.got, refl), (tt, tt)))
 line_hears_goes cell.TestReceived o point m x is =
-    either (LineGoes x) (m.slr == x.head.other && m.class == x.head.class) _ _ (λ _. (unmoved x, all_of x.got, tt)) (λ _. (λ up. never up, all_of x.got, (tt, tt)))
-line_hears_goes _ o point m x is = (unmoved x, all_of x.got, tt)
+    either (LineGoes x) (m.slr == x.head.other && m.class == x.head.class) _ _ (λ _. (inr (not_set_up x.head.state, all_of x.got, refl), tt)) (λ _. (inr (refl, all_of x.got, refl), (tt, tt)))
+line_hears_goes _ o point m x is = (inr (not_set_up x.head.state, all_of x.got, refl), tt)
 
 line_fires_goes : (c : Cell) (x : Line) → LineGoes x (line_fires c x)
 unfolding line_fires LineGoes
-line_fires_goes cell.NotAnswered x = (λ up. never up, all_of x.got, (tt, tt))
-line_fires_goes cell.ResetExpired x = (λ up. never up, all_of x.got, (tt, tt))
-line_fires_goes cell.PeerSilent x = (λ up. never up, all_of x.got, (tt, tt))
-line_fires_goes cell.Free x = (λ up. never up, all_of x.got, tt)
-line_fires_goes _ x = (unmoved x, all_of x.got, tt)
+line_fires_goes cell.NotAnswered x = (inr (refl, all_of x.got, refl), (tt, tt))
+line_fires_goes cell.ResetExpired x = (inr (refl, all_of x.got, refl), (tt, tt))
+line_fires_goes cell.PeerSilent x = (inr (refl, all_of x.got, refl), (tt, tt))
+line_fires_goes cell.Free x = (inr (refl, all_of x.got, refl), tt)
+line_fires_goes _ x = (inr (not_set_up x.head.state, all_of x.got, refl), tt)
 
 line_takes_goes : (c : Cell) (o : Occasion) (h : Hand) (x : Line) → IsCellOf c o x.head.state → LineGoes x (line_takes c h x)
 unfolding line_takes LineGoes
-line_takes_goes cell.PassAccept o (hand.Accept class credit called body importance) x is = (λ up. rw is tt, all_of x.got, tt)
-line_takes_goes cell.PassAccept o _ x is = (unmoved x, all_of x.got, tt)
-line_takes_goes cell.PassRefuse o (hand.Refuse cause called body importance) x is = (λ up. never up, all_of x.got, tt)
-line_takes_goes cell.PassRefuse o _ x is = (unmoved x, all_of x.got, tt)
-line_takes_goes cell.PassEnd o (hand.End cause body importance) x is = (λ up. never up, all_of x.got, tt)
-line_takes_goes cell.PassEnd o _ x is = (unmoved x, all_of x.got, tt)
-line_takes_goes cell.KeepEnd o (hand.End cause body importance) x is = (λ up. never up, all_of x.got, tt)
-line_takes_goes cell.KeepEnd o _ x is = (unmoved x, all_of x.got, tt)
-line_takes_goes cell.PassUnit o (hand.Unit more body) x is = (unmoved x, all_of x.got, (tt, tt))
-line_takes_goes cell.PassUnit o _ x is = (unmoved x, all_of x.got, tt)
-line_takes_goes cell.Left o (hand.Left units expedited) x is = (unmoved x, all_of x.got, tt)
-line_takes_goes cell.Left o _ x is = (unmoved x, all_of x.got, tt)
-line_takes_goes _ o h x is = (unmoved x, all_of x.got, tt)
+line_takes_goes cell.PassAccept o (hand.Accept class credit called body importance) x is = (inl (rw is tt), tt)
+line_takes_goes cell.PassAccept o _ x is = (inr (not_set_up x.head.state, all_of x.got, refl), tt)
+line_takes_goes cell.PassRefuse o (hand.Refuse cause called body importance) x is = (inr (refl, all_of x.got, refl), tt)
+line_takes_goes cell.PassRefuse o _ x is = (inr (not_set_up x.head.state, all_of x.got, refl), tt)
+line_takes_goes cell.PassEnd o (hand.End cause body importance) x is = (inr (refl, all_of x.got, refl), tt)
+line_takes_goes cell.PassEnd o _ x is = (inr (not_set_up x.head.state, all_of x.got, refl), tt)
+line_takes_goes cell.KeepEnd o (hand.End cause body importance) x is = (inr (refl, all_of x.got, refl), tt)
+line_takes_goes cell.KeepEnd o _ x is = (inr (not_set_up x.head.state, all_of x.got, refl), tt)
+line_takes_goes cell.PassUnit o (hand.Unit more body) x is = (inr (not_set_up x.head.state, all_of x.got, refl), (tt, tt))
+line_takes_goes cell.PassUnit o _ x is = (inr (not_set_up x.head.state, all_of x.got, refl), tt)
+line_takes_goes cell.Left o (hand.Left units expedited) x is = (inr (not_set_up x.head.state, all_of x.got, refl), tt)
+line_takes_goes cell.Left o _ x is = (inr (not_set_up x.head.state, all_of x.got, refl), tt)
+line_takes_goes _ o h x is = (inr (not_set_up x.head.state, all_of x.got, refl), tt)
 
 -- The windows.
 
 WindowsTake : Windowed → Windowed × Acted → Type 0
-WindowsTake x done = Begins x.windows.got done.0.windows.got × (done.0.windows.sent ≡ x.windows.sent) × AreNoReset (hands_of done.1)
+WindowsTake x done = Begins x.windows.got done.0.windows.got × (done.0.windows.sent ≡ x.windows.sent) × (done.0.head.class ≡ x.head.class) × AreNoReset (hands_of done.1)
 
 WindowsGo : Windowed → Windowed × Acted → Type 0
 WindowsGo x done = SendsReset done.1.outs ⊎ WindowsTake x done
@@ -168,8 +165,8 @@ resets_go cause x = inl refl
 
 expedites_go : (body : Option (List ℕ)) (x : Windowed) → WindowsTake x (sends_expedited body x)
 unfolding WindowsTake
-expedites_go None x = (all_of x.windows.got, refl, tt)
-expedites_go (Some body) x = (all_of x.windows.got, refl, (tt, tt))
+expedites_go None x = (all_of x.windows.got, refl, refl, tt)
+expedites_go (Some body) x = (all_of x.windows.got, refl, refl, (tt, tt))
 
 windowed_hears_goes : (c : Cell) (m : Parameters) (x : Windowed) → WindowsGo x (windowed_hears c m x)
 unfolding windowed_hears WindowsGo WindowsTake spelling_of octets_of
@@ -177,48 +174,48 @@ windowed_hears_goes cell.TakeNumberedData m x =
     either (WindowsGo x) (not (is_next m x)) _ _ (λ _. resets_go (wrong_number x.windows) x)
     (λ _. either (WindowsGo x) (is_used_up x) _ _ (λ _. resets_go RESET_OUT_OF_WINDOW x)
     (λ _. either (WindowsGo x) (not (is_valid m.pr x.windows)) _ _ (λ _. resets_go RESET_INCORRECT_RECEIVE_NUMBER x)
-    (λ _. inr (record { more = _; is = refl }, refl, (tt, tt)))))
+    (λ _. inr (record { more = _; is = refl }, refl, refl, (tt, tt)))))
 windowed_hears_goes cell.TakeAcknowledgement m x =
-    either (WindowsGo x) (is_valid m.pr x.windows) _ _ (λ _. inr (all_of x.windows.got, refl, tt)) (λ _. resets_go RESET_INCORRECT_RECEIVE_NUMBER x)
+    either (WindowsGo x) (is_valid m.pr x.windows) _ _ (λ _. inr (all_of x.windows.got, refl, refl, tt)) (λ _. resets_go RESET_INCORRECT_RECEIVE_NUMBER x)
 windowed_hears_goes cell.TakeExpedited m x =
-    either (WindowsGo x) x.windows.owed _ _ (λ _. resets_go RESET_REMOTE_PROCEDURE_ERROR x) (λ _. inr (all_of x.windows.got, refl, (tt, tt)))
+    either (WindowsGo x) x.windows.owed _ _ (λ _. resets_go RESET_REMOTE_PROCEDURE_ERROR x) (λ _. inr (all_of x.windows.got, refl, refl, (tt, tt)))
 windowed_hears_goes cell.TakeExpeditedAcknowledgement m x =
     either (WindowsGo x) x.windows.unanswered _ _
-    (λ _. inr (expedites_go x.windows.waiting (record x { windows = record x.windows { unanswered = false } }))) (λ _. inr (all_of x.windows.got, refl, tt))
+    (λ _. inr (expedites_go x.windows.waiting (record x { windows = record x.windows { unanswered = false } }))) (λ _. inr (all_of x.windows.got, refl, refl, tt))
 windowed_hears_goes cell.ResetByPeer m x = inl refl
-windowed_hears_goes cell.ResetComplete m x = inr (all_of x.windows.got, refl, (tt, tt))
-windowed_hears_goes _ m x = inr (all_of x.windows.got, refl, tt)
+windowed_hears_goes cell.ResetComplete m x = inr (all_of x.windows.got, refl, refl, (tt, tt))
+windowed_hears_goes _ m x = inr (all_of x.windows.got, refl, refl, tt)
 
 windowed_takes_goes : (c : Cell) (o : Occasion) (h : Hand) (x : Windowed) → (IsResetComes o → ⊥) → IsCellOf c o x.head.state → WindowsTake x (windowed_takes c h x)
 unfolding windowed_takes WindowsTake
-windowed_takes_goes cell.PassUnit o (hand.Unit more body) x plain is = (all_of x.windows.got, refl, tt)
-windowed_takes_goes cell.PassUnit o _ x plain is = (all_of x.windows.got, refl, tt)
+windowed_takes_goes cell.PassUnit o (hand.Unit more body) x plain is = (all_of x.windows.got, refl, refl, tt)
+windowed_takes_goes cell.PassUnit o _ x plain is = (all_of x.windows.got, refl, refl, tt)
 windowed_takes_goes cell.PassExpedited o (hand.Expedited body) x plain is =
-    either (WindowsTake x) (is_up x.head.state && not x.windows.unanswered) _ _ (λ _. expedites_go (Some body) x) (λ _. (all_of x.windows.got, refl, tt))
-windowed_takes_goes cell.PassExpedited o _ x plain is = (all_of x.windows.got, refl, tt)
+    either (WindowsTake x) (is_up x.head.state && not x.windows.unanswered) _ _ (λ _. expedites_go (Some body) x) (λ _. (all_of x.windows.got, refl, refl, tt))
+windowed_takes_goes cell.PassExpedited o _ x plain is = (all_of x.windows.got, refl, refl, tt)
 windowed_takes_goes cell.PassReset o h x plain is = absurd (plain is)
 windowed_takes_goes cell.ClearCounts o h x plain is = absurd (plain is)
-windowed_takes_goes cell.Left o (hand.Left units true) x plain is = (all_of x.windows.got, refl, tt)
-windowed_takes_goes cell.Left o (hand.Left units false) x plain is = (all_of x.windows.got, refl, tt)
-windowed_takes_goes cell.Left o _ x plain is = (all_of x.windows.got, refl, tt)
-windowed_takes_goes _ o h x plain is = (all_of x.windows.got, refl, tt)
+windowed_takes_goes cell.Left o (hand.Left units true) x plain is = (all_of x.windows.got, refl, refl, tt)
+windowed_takes_goes cell.Left o (hand.Left units false) x plain is = (all_of x.windows.got, refl, refl, tt)
+windowed_takes_goes cell.Left o _ x plain is = (all_of x.windows.got, refl, refl, tt)
+windowed_takes_goes _ o h x plain is = (all_of x.windows.got, refl, refl, tt)
 
 -- A section.
 
 SectionTakes : Section → Section × Acted → Type 0
-SectionTakes x done = GoesFrom (section_stage x.head.state) x.windows.got x.windows.sent done.0.windows.got done.0.windows.sent × AreNoReset (hands_of done.1)
+SectionTakes x done = GoesTo (wire x) (wire done.0) × AreNoReset (hands_of done.1)
 
 SectionGoes : Section → Section × Acted → Type 0
 SectionGoes x done = ((x.head.class ≡ 3) × SendsReset done.1.outs) ⊎ SectionTakes x done
 
 by_line_goes : (x : Section) (act : Line → Line × Acted) → LineGoes (line_in x) (act (line_in x)) → SectionTakes x (by_line act x)
 unfolding LineGoes SectionTakes
-by_line_goes x act g =
-    let line = (act (line_in x)).0 in (
-      either (λ (w : Windows). GoesFrom (section_stage x.head.state) x.windows.got x.windows.sent w.got w.sent) (is_up line.head.state && not (is_connected x.head.state)) _ _
-          (λ up. inl (g.0 up)) (λ _. inr (g.1, refl)),
-      g.2,
-    )
+by_line_goes x act g = (goes g.0, g.1)
+  where
+    goes : IsBefore (section_stage x.head.state) ⊎ (((is_up (act (line_in x)).0.head.state && not (is_connected x.head.state)) ≡ false) × Begins x.windows.got (act (line_in x)).0.got × ((act (line_in x)).0.head.class ≡ x.head.class))
+        → GoesTo (wire x) (wire (by_line act x).0)
+    goes (inl early) = inl early
+    goes (inr g) = inr (rw g.0 (g.1, refl, g.2))
 
 is_windowed : (c : Cell) (x : Section) → in_windows c x ≡ true → x.head.class ≡ 3
 is_windowed c x is = eqb-true x.head.class 3 (second_true (is_by_class c) (x.head.class == 3) is)
@@ -233,47 +230,47 @@ section_hears_goes ticks c o point m x is =
     by_windows_go : (done : Windowed × Acted) → x.head.class ≡ 3 → WindowsGo (record { head = x.head; windows = x.windows }) done
         → SectionGoes x (record x { head = done.0.head; windows = done.0.windows }, done.1)
     by_windows_go done three (inl reset) = inl (three, reset)
-    by_windows_go done three (inr g) = inr (inr (g.0, g.1), g.2)
+    by_windows_go done three (inr g) = inr (inr (g.0, g.1, g.2), g.3)
 
 section_fires_goes : (ticks : Ticks) (c : Cell) (x : Section) → TakeGoes (wire x) (section_fires ticks c x)
 unfolding section_fires windowed_fires SectionTakes
 section_fires_goes ticks c x =
-    either (SectionTakes x) (in_windows c x) _ _ (λ _. (inr (all_of x.windows.got, refl), tt)) (λ _. by_line_goes x (line_fires c) (line_fires_goes c (line_in x)))
+    either (SectionTakes x) (in_windows c x) _ _ (λ _. (inr (all_of x.windows.got, refl, refl), tt)) (λ _. by_line_goes x (line_fires c) (line_fires_goes c (line_in x)))
 
 section_takes_goes : (ticks : Ticks) (c : Cell) (o : Occasion) (h : Hand) (x : Section) → (IsResetComes o → ⊥) → IsCellOf c o x.head.state → TakeGoes (wire x) (section_takes ticks c h x)
 unfolding section_takes SectionTakes WindowsTake
 section_takes_goes ticks c o h x plain is =
     either (SectionTakes x) (in_windows c x) _ _
-    (λ _. let g = windowed_takes_goes c o h (record { head = x.head; windows = x.windows }) plain is in (inr (g.0, g.1), g.2))
+    (λ _. let g = windowed_takes_goes c o h (record { head = x.head; windows = x.windows }) plain is in (inr (g.0, g.1, g.2), g.3))
     (λ _. by_line_goes x (line_takes c h) (line_takes_goes c o h (line_in x) is))
 
 -- A user's end.
 
 UserGoes : User → User × Acted → Type 0
-UserGoes u done = GoesFrom (user_stage u.state) u.got 0 done.0.got 0 × AreNoReset (hands_of done.1)
+UserGoes u done = GoesTo (owner u) (owner done.0) × AreNoReset (hands_of done.1)
 
-as_is : (u : User) → GoesFrom (user_stage u.state) u.got 0 u.got 0
-as_is u = inr (all_of u.got, refl)
+as_is : (u : User) → GoesTo (owner u) (owner u)
+as_is u = inr (all_of u.got, refl, refl)
 
-user_takes_goes : (c : Cell) (h : Hand) (u : User) → IsNoReset h → UserGoes u (user_takes c h u)
+user_takes_goes : (c : Cell) (o : UserOccasion) (h : Hand) (u : User) → IsNoReset h → IsUserCellOf c o u.state → UserGoes u (user_takes c h u)
 unfolding user_takes UserGoes
-user_takes_goes cell.TellConfirm (hand.Accept class credit called body importance) u plain = (as_is u, tt)
-user_takes_goes cell.TellConfirm _ u plain = (as_is u, tt)
-user_takes_goes cell.TellDisconnect (hand.Refuse cause called body importance) u plain = (as_is u, tt)
-user_takes_goes cell.TellDisconnect (hand.End cause body importance) u plain = (as_is u, tt)
-user_takes_goes cell.TellDisconnect _ u plain = (as_is u, tt)
-user_takes_goes cell.TellUnit (hand.Unit more body) u plain =
+user_takes_goes cell.TellConfirm o (hand.Accept class credit called body importance) u plain is = (inl is, tt)
+user_takes_goes cell.TellConfirm o _ u plain is = (as_is u, tt)
+user_takes_goes cell.TellDisconnect o (hand.Refuse cause called body importance) u plain is = (as_is u, tt)
+user_takes_goes cell.TellDisconnect o (hand.End cause body importance) u plain is = (as_is u, tt)
+user_takes_goes cell.TellDisconnect o _ u plain is = (as_is u, tt)
+user_takes_goes cell.TellUnit o (hand.Unit more body) u plain is =
     either (UserGoes u) (nat_lt LONGEST_TEXT (length (u.text ++ body))) _ _ (λ _. (as_is u, (tt, tt)))
     (λ _. either (UserGoes u) more _ _ (λ _. (as_is u, (tt, tt))) (λ _. (as_is u, (tt, tt))))
-user_takes_goes cell.TellUnit _ u plain = (as_is u, tt)
-user_takes_goes cell.TellExpedited (hand.Expedited body) u plain = (as_is u, (tt, tt))
-user_takes_goes cell.TellExpedited _ u plain = (as_is u, tt)
-user_takes_goes cell.TellReset (hand.Reset cause) u plain = absurd plain
-user_takes_goes cell.TellReset _ u plain = (as_is u, tt)
-user_takes_goes cell.TellResetDone h u plain = (as_is u, tt)
-user_takes_goes cell.Left (hand.Left units expedited) u plain = (as_is u, tt)
-user_takes_goes cell.Left _ u plain = (as_is u, tt)
-user_takes_goes _ h u plain = (as_is u, tt)
+user_takes_goes cell.TellUnit o _ u plain is = (as_is u, tt)
+user_takes_goes cell.TellExpedited o (hand.Expedited body) u plain is = (as_is u, (tt, tt))
+user_takes_goes cell.TellExpedited o _ u plain is = (as_is u, tt)
+user_takes_goes cell.TellReset o (hand.Reset cause) u plain is = absurd plain
+user_takes_goes cell.TellReset o _ u plain is = (as_is u, tt)
+user_takes_goes cell.TellResetDone o h u plain is = (as_is u, tt)
+user_takes_goes cell.Left o (hand.Left units expedited) u plain is = (as_is u, tt)
+user_takes_goes cell.Left o _ u plain is = (as_is u, tt)
+user_takes_goes _ o h u plain is = (as_is u, tt)
 
 units_no_reset : (units : List DataUnit) → AreNoReset (map handed units)
 units_no_reset [] = tt
@@ -281,9 +278,9 @@ units_no_reset (u ∷ units) = (tt, units_no_reset units)
 
 user_asks_goes : (c : Cell) (o : UserOccasion) (r : Request) (u : User) → (IsResets o → ⊥) → IsUserCellOf c o u.state → UserGoes u (user_asks c r u)
 unfolding user_asks UserGoes
-user_asks_goes cell.UserSends o (request.Send mine body) u plain is = (inr (record { more = units_of body; is = refl }, refl), units_no_reset (units_of body))
+user_asks_goes cell.UserSends o (request.Send mine body) u plain is = (inr (record { more = units_of body; is = refl }, refl, refl), units_no_reset (units_of body))
 user_asks_goes cell.UserSends o _ u plain is = (as_is u, tt)
-user_asks_goes cell.UserAccepts o (request.Accept mine class credit body) u plain is = (as_is u, (tt, tt))
+user_asks_goes cell.UserAccepts o (request.Accept mine class credit body) u plain is = (inl is, (tt, tt))
 user_asks_goes cell.UserAccepts o _ u plain is = (as_is u, tt)
 user_asks_goes cell.UserRefuses o (request.Refuse mine cause body) u plain is = (as_is u, (tt, tt))
 user_asks_goes cell.UserRefuses o _ u plain is = (as_is u, tt)
@@ -303,7 +300,7 @@ no_reset_comes _ plain is = is
 takes_goes : (ticks : Ticks) (h : Hand) (e : End) → IsNoReset h → TakeGoes e (end_takes ticks h e)
 unfolding UserGoes
 takes_goes ticks h (wire x) plain = section_takes_goes ticks (section_takes_by x.head.state h) (as_occasion h) h x (no_reset_comes h plain) (taking_cell h x.head.state)
-takes_goes ticks h (owner u) plain = user_takes_goes (user_takes_by u.state h) h u plain
+takes_goes ticks h (owner u) plain = user_takes_goes (user_takes_by u.state h) (as_told h) h u plain (telling_cell h u.state)
 
 unfoldable Exchanges : ℕ → Ticks → Type 0
 Exchanges n ticks = (acting : End × Acted) (that : End) → AreNoReset (hands_of acting.1) → Both Goes (both acting.0 that) (exchange n ticks acting that).0
@@ -373,7 +370,7 @@ seen_back c r k (inr goes) = inr (goes.1, goes.0)
 -- A message.
 
 checked_goes : (ticks : Ticks) (o : Occasion) (point : ℕ) (m : Parameters) (x : Section) (c : Option Output) → ActGoes (wire x) (hears_checked ticks o point m (in_touch ticks x) c)
-checked_goes ticks o point m x (Some out) = inr (inr (all_of x.windows.got, refl), tt)
+checked_goes ticks o point m x (Some out) = inr (inr (all_of x.windows.got, refl, refl), tt)
 checked_goes ticks o point m x None = section_hears_goes ticks (section_cell x.head.state o) o point m (in_touch ticks x) (cell_of o x.head.state)
 
 hears_goes : (ticks : Ticks) (o : Occasion) (point : ℕ) (m : Parameters) (x : Section) (that : End) → StepGoes (both (wire x) that) (hears_message ticks o point m x that)
@@ -512,7 +509,7 @@ event_goes ticks c Tick k class = inr (ticks_go ticks c)
 goes_on : (e acted after : End) → IsEmptyEarly e → Goes e acted → got_at after ≡ got_at acted → Begins (got_at e) (got_at after)
 goes_on e acted after empty goes same = rw same (by_stage goes.1)
   where
-    by_stage : GoesFrom (stage_at e) (got_at e) (sent_at e) (got_at acted) (sent_at acted) → Begins (got_at e) (got_at acted)
+    by_stage : GoesTo e acted → Begins (got_at e) (got_at acted)
     by_stage (inl early) = record { more = got_at acted; is = rw (empty early) refl }
     by_stage (inr goes) = goes.0
 

@@ -306,7 +306,7 @@ event_early ticks (Arrived point sls bytes) c = heard_kept (kept ticks) point (a
 event_early ticks (Requested ssn r) c = asked_kept (kept ticks) ssn r c.this c.that
 event_early ticks Tick c = ticks_early ticks c
 
-step_early : (ticks : Ticks) (c : Connection) (event : Event) → Both KeptEarly c (connection_step ticks c event).0
+pub step_early : (ticks : Ticks) (c : Connection) (event : Event) → Both KeptEarly c (connection_step ticks c event).0
 unfolding connection_step
 step_early ticks c event = after_event_kept (kept ticks) c (event_step ticks c event) (event_early ticks event c)
 
@@ -347,7 +347,12 @@ opened_empty terms (by_user ssn tag w) (Some answer) references = by_user_empty 
 opened_empty terms (by_user ssn tag w) None references = tt
 opened_empty terms no_wish answer references = tt
 
-stays_empty : (e f : End) → KeptEarly e f → got_at e ≡ [] → IsEmptyEarly f
+pub opening_empty : (terms : Terms) (wish : Wish) (answer : Option Answer) (references : List ℕ) (c : Connection) → (opened terms wish answer references).connection ≡ Some c
+    → (got_at c.this ≡ []) × (got_at c.that ≡ [])
+unfolding OpensEmpty
+opening_empty terms wish answer references c e = subst OpensEmpty e (opened_empty terms wish answer references)
+
+pub stays_empty : (e f : End) → KeptEarly e f → got_at e ≡ [] → IsEmptyEarly f
 stays_empty e f k none = λ early. (k early).1 none
 
 was_early : (e f : End) → KeptEarly e f → WasEarly e f
@@ -359,7 +364,7 @@ is_empty : (terms : Terms) (event : Event) (answer : Option Answer) (references 
 unfolding OpensEmpty
 is_empty terms event answer references c events e =
     let d = follow terms.ticks c events in
-    let none = subst OpensEmpty e (opened_empty terms (wish_of terms event) answer references) in
+    let none = opening_empty terms (wish_of terms event) answer references c e in
     let k = along_early terms.ticks c events in (stays_empty c.this d.this k.0 none.0, stays_empty c.that d.that k.1 none.1)
 
 pub early_law : EarlyLaw

@@ -49,7 +49,7 @@ text_within zero k body e = tt
 text_within (suc m) k body e =
     (rw (length-take LONGEST_UNIT (drop (LONGEST_UNIT * k) body), length-drop (LONGEST_UNIT * k) body) (omega (arith, e), omega arith), text_within m (k + 1) body (omega (arith, e)))
 
-brought_within : (event : Event) (e : End) (units : List DataUnit) → Brings event e units → UnitsWithin units
+pub brought_within : (event : Event) (e : End) (units : List DataUnit) → Brings event e units → UnitsWithin units
 unfolding units_for
 brought_within (Arrived point sls bytes) (wire x) units b = subst UnitsWithin (sym b) (by_arrival bytes (arrival_in bytes) refl x.head.mine)
 brought_within (Arrived point sls bytes) (owner u) units b = absurd b
@@ -60,7 +60,7 @@ brought_within Tick e units b = absurd b
 
 -- In class 2.
 
-nothing_on : (y : SectionHead) → units_on y [] ≡ []
+pub nothing_on : (y : SectionHead) → units_on y [] ≡ []
 unfolding units_on
 nothing_on y = refl
 
@@ -149,7 +149,7 @@ own_data y pr after other three fits within =
     (λ _. ap (units_on y.head) (numbered_as y.head y.windows.sent pr units) ∙ units_are_read.all_dt2 y.head y.windows.sent pr units fits within)
     (λ other_class. absurd (false≢true (sym other_class ∙ rw three refl)))
 
-other_data : (y : SectionHead) (e after other : End) (pr : ℕ) → IsApart y e → units_on y (data_on e pr after other) ≡ []
+pub other_data : (y : SectionHead) (e after other : End) (pr : ℕ) → IsApart y e → units_on y (data_on e pr after other) ≡ []
 other_data y (wire x) after other pr apart =
     let units = drop x.windows.sent (take (sent_at after) (got_at other)) in
     either (λ (outs : List Output). units_on y outs ≡ []) (x.head.class == 3) _ _

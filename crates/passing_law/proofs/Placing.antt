@@ -23,7 +23,7 @@ use Rattle.section_model.specs.Line.{line_hears, line_fires, line_takes}
 use Rattle.section_model.specs.Windowed.{Windowed, windowed_hears, windowed_fires, windowed_takes, resets, is_next, is_used_up, sends_expedited, leaves, acknowledges}
 use Rattle.section_model.specs.Acting.{timed, by_windows, line_in, in_windows, section_hears, section_fires, section_takes, section_takes_by, end_takes}
 use Rattle.section_model.specs.Coupling.{on_that}
-use Rattle.section_model.specs.Step.{hears_checked, in_touch, ticked, is_due_at, fires_at, fires, fires_next, fires_due, ticks_by, event_step, connection_step}
+use Rattle.section_model.specs.Step.{hears_checked, in_touch, ticked, is_due_at, fires_at, fires, fires_next, fires_due, ticks_by, after_event, event_step, connection_step}
 use Rattle.section_model.specs.Lane.{next, follow}
 use Rattle.connection_law.proofs.Flow.Flowing.{either}
 use Rattle.connection_law.proofs.Reference.Ends.{IsKept, Both, both_same, both_in_turn}
@@ -230,16 +230,20 @@ ticks_place ticks c =
     keeps_then k (on_that (fires_due ticks)) (keeps_that StaysPut (fires_due ticks) (fires_due_place ticks)) c (fires_due ticks lower)
     (both_in_turn k c lower (fires_due ticks lower).0 (ticked_place c.this, ticked_place c.that) (fires_due_place ticks lower))
 
-event_place : (ticks : Ticks) (event : Event) → Keeps StaysPut (λ c. event_step ticks c event)
+pub event_place : (ticks : Ticks) (event : Event) → Keeps StaysPut (λ c. event_step ticks c event)
 event_place ticks (Arrived point sls bytes) c = heard_kept (kept ticks) point (arrival_in bytes) c
 event_place ticks (Requested ssn r) c = asked_kept (kept ticks) ssn r c.this c.that
 event_place ticks Tick c = ticks_place ticks c
 
-step_place : (ticks : Ticks) (c : Connection) (event : Event) → Both StaysPut c (connection_step ticks c event).0
+-- and what follows the event
+pub after_place : (ticks : Ticks) (r : Connection × List Output) → Both StaysPut r.0 (after_event ticks r).0
+after_place ticks r = after_event_kept (kept ticks) r.0 r (both_same (kept ticks) r.0)
+
+pub step_place : (ticks : Ticks) (c : Connection) (event : Event) → Both StaysPut c (connection_step ticks c event).0
 unfolding connection_step
 step_place ticks c event = after_event_kept (kept ticks) c (event_step ticks c event) (event_place ticks event c)
 
-along_place : (ticks : Ticks) (c : Connection) (events : List Event) → Both StaysPut c (follow ticks c events)
+pub along_place : (ticks : Ticks) (c : Connection) (events : List Event) → Both StaysPut c (follow ticks c events)
 unfolding follow
 along_place ticks c [] = both_same (kept ticks) c
 along_place ticks c (event ∷ events) =

@@ -9,7 +9,7 @@ use Rattle.plant_core.specs.declared.terms.Ticks.{Ticks}
 use Rattle.section_model.specs.Ends.{End, wire, owner, DataUnit, SectionHead, Connection}
 use Rattle.section_model.specs.UserEnd.{units_of}
 use Rattle.section_model.specs.Step.{hears, connection_step}
-use Rattle.connection_law.specs.InStep.{got_at, IsInStep}
+use Rattle.connection_law.specs.InStep.{connected, stage_at, got_at, IsInStep}
 use Rattle.connection_law.specs.Messages.{is_of_type}
 use Rattle.carried_law.specs.CarriedLaw.{all_as_dt1}
 use Rattle.carried_law.specs.Units.{units_for}
@@ -42,9 +42,10 @@ Brings (Arrived point sls bytes) (wire x) units = units ≡ units_for x.head.min
 Brings (Requested ssn (request.Send mine body)) (owner u) units = units ≡ units_of body
 Brings _ end units = ⊥
 
--- units come in at an end, and leave at once on the other one if they may
+-- units come in at an end that is set up, and leave at once on the other one if they may
 pub record Pass (IsBrought : End → List DataUnit → Type 0) (units : List DataUnit) (end other end_after other_after : End) (outs : List Output) : Type 0 where
   pub brought : IsBrought end units
+  pub set_up : stage_at end ≡ connected
   pub comes : got_at end_after ≡ got_at end ++ units
   pub stays : StaysOrClears other other_after
   pub sends : dt1_among outs ≡ at_once other units
