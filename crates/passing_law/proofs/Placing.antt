@@ -164,7 +164,7 @@ end_same : (e : End) → StaysPut e e
 end_same (wire x) = same x.head
 end_same (owner u) = tt
 
-end_then : (e f g : End) → StaysPut e f → StaysPut f g → StaysPut e g
+pub end_then : (e f g : End) → StaysPut e f → StaysPut f g → StaysPut e g
 end_then (wire x) (wire y) (wire z) a b = place_then x.head y.head z.head a b
 end_then (owner u) (owner v) (owner w) a b = tt
 end_then (wire x) (wire y) (owner w) a b = absurd b
