@@ -19,7 +19,7 @@ use Rattle.section_model.specs.Opening.{wish_of}
 use Rattle.section_model.specs.Lane.{next, heard, follow}
 use Rattle.carried_law.specs.Units.{units_from, units_on}
 use Rattle.carried_law.proofs.Reading.{joined_on}
-use Rattle.connection_law.specs.InStep.{Stage, asked, asking, connected, over, Meets, section_stage, stage_at, class_at, passed_at, got_at, sent_at, AreInStep, IsInStep}
+use Rattle.connection_law.specs.InStep.{Stage, asked, asking, connected, over, Meets, section_stage, user_stage, stage_at, class_at, passed_at, got_at, sent_at, AreInStep, IsInStep}
 use Rattle.connection_law.specs.Messages.{acted, stepped}
 use Rattle.connection_law.specs.DataSent.{all_as_data, data_on}
 use Rattle.connection_law.proofs.Flow.Flowing.{either}
@@ -30,14 +30,14 @@ use Rattle.connection_law.proofs.Flow.Step.{step_keeps}
 use Rattle.connection_law.proofs.Message.Sent.{after_leaving, data_sent}
 use Rattle.connection_law.proofs.Reference.Ends.{Both}
 use Rattle.text_law.specs.TextLaw.{Begins}
-use Rattle.passing_law.specs.PassingLaw.{dt1_among, StaysOrClears, Brings, Passing, none, on_this, on_that}
+use Rattle.passing_law.specs.PassingLaw.{IsOpen, dt1_among, StaysOrClears, Brings, Passing, none, on_this, on_that}
 use Rattle.passing_law.specs.PlaceLaw.{SamePlace, KeepsPlace, StaysPut}
 use Rattle.passing_law.specs.LeavingLaw.{AreSides, this_and_that, that_and_this, IsApart, ComeIn}
 use Rattle.passing_law.specs.EarlyLaw.{IsBefore, IsEmptyEarly}
 use Rattle.passing_law.specs.ClearingLaw.{is_reset, SendsReset}
 use Rattle.passing_law.proofs.Accepting.{any_after}
 use Rattle.passing_law.proofs.Carrying.{only_dt2}
-use Rattle.passing_law.proofs.Passing.{only_connected, units_pass}
+use Rattle.passing_law.proofs.Passing.{units_pass}
 use Rattle.passing_law.proofs.Leaving.{brought_within, other_data, nothing_on, units_leave}
 use Rattle.passing_law.proofs.Placing.{end_then, event_place, step_place, along_place, after_place}
 use Rattle.passing_law.proofs.Early.{KeptEarly, step_early, opening_empty}
@@ -61,18 +61,18 @@ apart_place x y (wire z) p apart = rw p apart
 apart_place x y (owner u) p apart = tt
 
 -- an end that is a section, and keeps its place until a later one
-record SectionAt (e : End) (x : SectionHead) : Type 0 where
-  section : Section
-  is : e ≡ wire section
-  keeps : KeepsPlace section.head x
+pub record SectionAt (e : End) (x : SectionHead) : Type 0 where
+  pub section : Section
+  pub is : e ≡ wire section
+  pub keeps : KeepsPlace section.head x
 
-section_at : (e : End) (x : Section) → StaysPut e (wire x) → SectionAt e x.head
+pub section_at : (e : End) (x : Section) → StaysPut e (wire x) → SectionAt e x.head
 section_at (wire y) x keeps = record { section = y; is = refl; keeps = keeps }
 section_at (owner u) x keeps = absurd keeps
 
 -- Both sides of a connection.
 
-of_end : (R : End → End → Type 0) (end other : Connection → End) (c d : Connection) → AreSides end other → Both R c d → R (end c) (end d)
+pub of_end : (R : End → End → Type 0) (end other : Connection → End) (c d : Connection) → AreSides end other → Both R c d → R (end c) (end d)
 of_end R end other c d this_and_that r = r.0
 of_end R end other c d that_and_this r = r.1
 
@@ -123,20 +123,28 @@ other_within end other c that_and_this w = w.0
 
 -- Where an end isn't set up, or is over, nothing comes in at the other one, and no DT1 leaves.
 
+open_stage : (e : End) → IsOpen e → stage_at e ≡ connected
+open_stage (wire x) up = ap section_stage up
+open_stage (owner u) ready = ap user_stage ready
+
 abbrev NonePassing : (Connection → End) → Connection → Connection → List Output → Type 0
 NonePassing other c d outs = (dt1_among outs ≡ []) × StaysOrClears (other c) (other d)
 
 is_met : (s t : Stage) → s ≡ connected → Meets s t → t ≡ connected
-is_met s t e m = only_connected t (subst (λ s. Meets s t) e m)
+is_met s t e m = met t (subst (λ s. Meets s t) e m)
+  where
+    met : (t : Stage) → Meets connected t → t ≡ connected
+    met connected m = refl
+    met _ m = absurd m
 
 none_passing : (event : Event) (end other : Connection → End) (c d : Connection) (outs : List Output) → AreSides end other → IsInStep c → (stage_at (end c) ≡ connected → ⊥)
     → Passing (Brings event) c d outs → NonePassing other c d outs
 none_passing event end other c d outs this_and_that k not_up (none p) = (p.sends, p.that)
 none_passing event end other c d outs that_and_this k not_up (none p) = (p.sends, p.this)
-none_passing event end other c d outs this_and_that k not_up (on_this units p) = absurd (not_up p.set_up)
-none_passing event end other c d outs that_and_this k not_up (on_that units p) = absurd (not_up p.set_up)
-none_passing event end other c d outs this_and_that k not_up (on_that units p) = absurd (not_up (is_met (stage_at c.that) (stage_at c.this) p.set_up (kept_back c k).0))
-none_passing event end other c d outs that_and_this k not_up (on_this units p) = absurd (not_up (is_met (stage_at c.this) (stage_at c.that) p.set_up k.0))
+none_passing event end other c d outs this_and_that k not_up (on_this units p) = absurd (not_up (open_stage (end c) p.is_open))
+none_passing event end other c d outs that_and_this k not_up (on_that units p) = absurd (not_up (open_stage (end c) p.is_open))
+none_passing event end other c d outs this_and_that k not_up (on_that units p) = absurd (not_up (is_met (stage_at c.that) (stage_at c.this) (open_stage c.that p.is_open) (kept_back c k).0))
+none_passing event end other c d outs that_and_this k not_up (on_this units p) = absurd (not_up (is_met (stage_at c.this) (stage_at c.that) (open_stage c.this p.is_open) k.0))
 
 still_none : (before after : End) → StaysOrClears before after → got_at before ≡ [] → got_at after ≡ []
 still_none before after (inl same) e = same ∙ e
@@ -175,7 +183,7 @@ none_left : (left units : List DataUnit) (passed passed' : ℕ) (got got' : List
     → left ++ units ≡ take passed' got'
 none_left left units passed passed' got got' first g u g' = rw (first, g, u, g', take-nil {A = DataUnit} passed, take-nil {A = DataUnit} passed') refl
 
-empty_first : (a b : List DataUnit) → a ++ b ≡ [] → a ≡ []
+pub empty_first : (a b : List DataUnit) → a ++ b ≡ [] → a ≡ []
 empty_first [] b e = refl
 empty_first (u ∷ a) b e = absurd (not_empty e)
   where
@@ -282,7 +290,7 @@ end_class end other c that_and_this k (inl two) = inl (sym k.1 ∙ two)
 end_class end other c that_and_this k (inr three) = inr (sym k.1 ∙ three)
 
 -- an end whose place is known, and which isn't early: as it is before the step, as the event leaves it, and after
-record IsOpen (ticks : Ticks) (x : Section) (end other : Connection → End) (c : Connection) (event : Event) : Type 0 where
+record IsKnown (ticks : Ticks) (x : Section) (end other : Connection → End) (c : Connection) (event : Event) : Type 0 where
   before : Section
   is_before : end c ≡ wire before
   reached : is_reached before.head.state ≡ true
@@ -291,11 +299,11 @@ record IsOpen (ticks : Ticks) (x : Section) (end other : Connection → End) (c 
   left_end : IsLeft (end (acted ticks c event)) (end (stepped ticks c event))
   left_other : IsLeft (other (acted ticks c event)) (other (stepped ticks c event))
 
-known : (x : Section) (e : End) (y : Section) → e ≡ wire y → StaysPut e (wire x) → is_reached y.head.state ≡ true → SamePlace y.head x.head
+pub known : (x : Section) (e : End) (y : Section) → e ≡ wire y → StaysPut e (wire x) → is_reached y.head.state ≡ true → SamePlace y.head x.head
 known x e y is put = subst (λ e. StaysPut e (wire x)) is put
 
 step_in_two : (ticks : Ticks) (c : Connection) (event : Event) (end other : Connection → End) (x : Section) (left : List DataUnit) → IsHop ticks x end other c event → Kept x.head end other c left
-    → IsOpen ticks x end other c event → class_at (end c) ≡ 2 → StepLeaves ticks x other c event left
+    → IsKnown ticks x end other c event → class_at (end c) ≡ 2 → StepLeaves ticks x other c event left
 step_in_two ticks c event end other x left hop kept open_end two =
     let d = stepped ticks c event in
     let outs = (connection_step ticks c event).1 in
@@ -314,7 +322,7 @@ step_in_two ticks c event end other x left hop kept open_end two =
     (subst (λ units. ComeIn units (other c) (other d)) (on_place x.head y.head outs (sym place.point) (sym place.sls) (sym place.other)) come)
 
 step_in_three : (ticks : Ticks) (c : Connection) (event : Event) (end other : Connection → End) (x : Section) (left : List DataUnit) → IsHop ticks x end other c event → Kept x.head end other c left
-    → IsOpen ticks x end other c event → class_at (end c) ≡ 3 → StepLeaves ticks x other c event left
+    → IsKnown ticks x end other c event → class_at (end c) ≡ 3 → StepLeaves ticks x other c event left
 step_in_three ticks c event end other x left hop kept open_end three =
     let a = acted ticks c event in
     let d = stepped ticks c event in
@@ -355,7 +363,7 @@ open_step ticks c event end other x left hop kept y is reached not_early = by_ev
         let k = sides_in_step end other c hop.sides kept.in_step in
         let left_both = both_left ticks r in
         let d = (after_event ticks r).0 in
-        let o : IsOpen ticks x end other c event = record {
+        let o : IsKnown ticks x end other c event = record {
           before = y;
           is_before = is;
           reached = reached;
@@ -366,7 +374,7 @@ open_step ticks c event end other x left hop kept y is reached not_early = by_ev
         } in
         by_class o (end_class end other c hop.sides kept.in_step hop.apart.class)
       where
-        by_class : IsOpen ticks x end other c event → (class_at (end c) ≡ 2) ⊎ (class_at (end c) ≡ 3) → StepLeaves ticks x other c event left
+        by_class : IsKnown ticks x end other c event → (class_at (end c) ≡ 2) ⊎ (class_at (end c) ≡ 3) → StepLeaves ticks x other c event left
         by_class o (inl two) = step_in_two ticks c event end other x left hop kept o two
         by_class o (inr three) = step_in_three ticks c event end other x left hop kept o three
 
@@ -409,7 +417,7 @@ first_step ticks c event end other x left hop kept =
 
 -- All that is kept over a step.
 
-stays_early : (e f : End) → KeptEarly e f → IsEmptyEarly e → IsEmptyEarly f
+pub stays_early : (e f : End) → KeptEarly e f → IsEmptyEarly e → IsEmptyEarly f
 stays_early e f k empty = λ early. let before = k early in before.1 (empty before.0)
 
 unreached_before : (a b : Bool) → (a ≡ true → b ≡ true) → b ≡ false → a ≡ false
@@ -446,11 +454,11 @@ kept_step ticks c event end other x left hop kept =
 
 -- Along all that is heard.
 
-AllHear : Ticks → Connection → List Event → Type 0
+unfoldable pub AllHear : Ticks → Connection → List Event → Type 0
 AllHear ticks c [] = Unit {0}
 AllHear ticks c (event ∷ events) = (hears c event ≡ true) × AllHear ticks (next ticks c event) events
 
-all_hear : (ticks : Ticks) (c : Connection) (events : List Event) → AllHear ticks c (heard ticks c events)
+pub all_hear : (ticks : Ticks) (c : Connection) (events : List Event) → AllHear ticks c (heard ticks c events)
 unfolding heard AllHear
 all_hear ticks c [] = tt
 all_hear ticks c (event ∷ events) = by_test (hears c event) refl (all_hear ticks (next ticks c event) events) (all_hear ticks c events)
@@ -460,7 +468,7 @@ all_hear ticks c (event ∷ events) = by_test (hears c event) refl (all_hear tic
     by_test true h here there = (h, here)
     by_test false h here there = there
 
-neither : (a b : Bool) → (a || b) ≡ false → (a ≡ false) × (b ≡ false)
+pub neither : (a b : Bool) → (a || b) ≡ false → (a ≡ false) × (b ≡ false)
 neither true b e = absurd (false≢true (sym e))
 neither false b e = (refl, e)
 

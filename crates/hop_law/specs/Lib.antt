@@ -1,1 +1,2 @@
 pub mod LeftAlong
+pub mod TakenAlong

@@ -1,7 +1,13 @@
 //! Laws of the definitions, each as the contract of a function.
 ghost use Rattle.hop_law.specs.LeftAlong.{LeftAlong};
+ghost use Rattle.hop_law.specs.TakenAlong.{TakenAlong};
 
 /// The units that left on a section are the first of those that came in at the other end of its connection, as long as no reset was sent.
 pub fn left_along()
     ensures { LeftAlong }
+{}
+
+/// The units that came in at a section are those that messages brought for it while it was up, as long as no reset was sent.
+pub fn taken_along()
+    ensures { TakenAlong }
 {}

@@ -3,4 +3,4 @@
 
 mod laws;
 
-pub use laws::left_along;
+pub use laws::{left_along, taken_along};

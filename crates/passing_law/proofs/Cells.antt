@@ -19,7 +19,7 @@ use Rattle.section_model.specs.Acting.{section_takes_by, user_takes_by}
 use Rattle.section_model.specs.Step.{asking_cell}
 use Rattle.carried_law.specs.Units.{carries}
 use Rattle.passing_law.specs.EarlyLaw.{IsBefore}
-use Rattle.connection_law.specs.InStep.{connected, Meets, section_stage, user_stage}
+use Rattle.connection_law.specs.InStep.{user_stage}
 
 abbrev pub IsResetComes : Occasion → Type 0
 IsResetComes on.ResetComes = Unit {0}
@@ -27,8 +27,8 @@ IsResetComes _ = ⊥
 
 -- A cell of a section is in its row and column.
 abbrev pub IsCellOf : Cell → Occasion → SectionState → Type 0
-IsCellOf cell.TakeData o s = (carries o ≡ true) × Meets connected (section_stage s)
-IsCellOf cell.TakeNumberedData o s = (carries o ≡ true) × Meets connected (section_stage s)
+IsCellOf cell.TakeData o s = (carries o ≡ true) × (s ≡ Up)
+IsCellOf cell.TakeNumberedData o s = (carries o ≡ true) × (s ≡ Up)
 IsCellOf cell.Confirm o s = s ≡ Asking
 IsCellOf cell.ConfirmLate o s = s ≡ Waning
 IsCellOf cell.KeepEnd o s = s ≡ Asking
@@ -48,9 +48,9 @@ cell_of on.Rlsd Asked = tt
 cell_of on.Rlsd _ = tt
 cell_of on.Rlc Asked = tt
 cell_of on.Rlc _ = tt
-cell_of on.Dt1 Up = (refl, tt)
+cell_of on.Dt1 Up = (refl, refl)
 cell_of on.Dt1 _ = tt
-cell_of on.Dt2 Up = (refl, tt)
+cell_of on.Dt2 Up = (refl, refl)
 cell_of on.Dt2 _ = tt
 cell_of on.Ak Asked = tt
 cell_of on.Ak _ = tt
@@ -122,7 +122,7 @@ IsResets _ = ⊥
 
 -- And so a cell of a user's end.
 abbrev pub IsUserCellOf : Cell → UserOccasion → UserState → Type 0
-IsUserCellOf cell.UserSends o s = Meets connected (user_stage s)
+IsUserCellOf cell.UserSends o s = s ≡ user.Ready
 IsUserCellOf cell.UserResets o s = IsResets o
 IsUserCellOf cell.UserAccepts o s = IsBefore (user_stage s)
 IsUserCellOf cell.TellConfirm o s = IsBefore (user_stage s)
@@ -134,7 +134,7 @@ user_cell_of by.Accepts user.Offered = tt
 user_cell_of by.Accepts _ = tt
 user_cell_of by.Refuses user.Offered = tt
 user_cell_of by.Refuses _ = tt
-user_cell_of by.Sends user.Offered = tt
+user_cell_of by.Sends user.Ready = refl
 user_cell_of by.Sends _ = tt
 user_cell_of by.Expedites user.Offered = tt
 user_cell_of by.Expedites _ = tt

@@ -77,7 +77,7 @@ line_hears_early cell.Refused o point m x d = λ e. absurd e
 line_hears_early cell.Free o point m x d = λ e. absurd e
 line_hears_early cell.Released o point m x d = λ e. absurd e
 line_hears_early cell.ReleaseCollision o point m x d = λ e. absurd e
-line_hears_early cell.TakeData o point m x d = grows (section_stage x.head.state) x.got _ d.1
+line_hears_early cell.TakeData o point m x d = grows (section_stage x.head.state) x.got _ (rw d.1 tt)
 line_hears_early cell.ErrorReceived o point m x d = either (LineEarly x) (m.cause == ERROR_CLASS_MISMATCH) _ _ (λ _. λ e. absurd e) (λ _. λ e. absurd e)
 line_hears_early cell.TestReceived o point m x d =
     either (LineEarly x) (m.slr == x.head.other && m.class == x.head.class) _ _ (λ _. same (section_stage x.head.state) x.got) (λ _. λ e. absurd e)
@@ -127,7 +127,7 @@ windowed_hears_early cell.TakeNumberedData o m x d =
     either (WindowsEarly x) (not (is_next m x)) _ _ (λ _. resets_early (wrong_number x.windows) x)
     (λ _. either (WindowsEarly x) (is_used_up x) _ _ (λ _. resets_early RESET_OUT_OF_WINDOW x)
     (λ _. either (WindowsEarly x) (not (is_valid m.pr x.windows)) _ _ (λ _. resets_early RESET_INCORRECT_RECEIVE_NUMBER x)
-    (λ _. grows (section_stage x.head.state) x.windows.got _ d.1)))
+    (λ _. grows (section_stage x.head.state) x.windows.got _ (rw d.1 tt))))
 windowed_hears_early cell.TakeAcknowledgement o m x d =
     either (WindowsEarly x) (is_valid m.pr x.windows) _ _ (λ _. same (section_stage x.head.state) x.windows.got) (λ _. resets_early RESET_INCORRECT_RECEIVE_NUMBER x)
 windowed_hears_early cell.TakeExpedited o m x d =
@@ -219,7 +219,7 @@ user_takes_early _ h u = same (user_stage u.state) u.got
 
 user_asks_early : (c : Cell) (o : UserOccasion) (r : Request) (u : User) → IsUserCellOf c o u.state → UserEarly u (user_asks c r u)
 unfolding user_asks UserEarly
-user_asks_early cell.UserSends o (request.Send mine body) u is = grows (user_stage u.state) u.got _ is
+user_asks_early cell.UserSends o (request.Send mine body) u is = grows (user_stage u.state) u.got _ (rw is tt)
 user_asks_early cell.UserSends o _ u is = same (user_stage u.state) u.got
 user_asks_early cell.UserAccepts o (request.Accept mine class credit body) u is = λ e. absurd e
 user_asks_early cell.UserAccepts o _ u is = same (user_stage u.state) u.got

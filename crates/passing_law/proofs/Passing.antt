@@ -15,6 +15,10 @@ use Rattle.q713_codec.specs.Writing.{spelling_of}
 use Rattle.section_model.specs.declared.cell.Cell.{Cell}
 use Rattle.section_model.specs.declared.cell.Cell.TheVariants as cell
 use Rattle.section_model.specs.declared.cell.Occasion.{Occasion}
+use Rattle.section_model.specs.declared.cell.SectionState.{SectionState}
+use Rattle.section_model.specs.declared.cell.SectionState.TheVariants.{Up}
+use Rattle.section_model.specs.declared.cell.UserState.{UserState}
+use Rattle.section_model.specs.declared.cell.UserState.TheVariants as user
 use Rattle.section_model.specs.declared.cell.Timer.{Timer}
 use Rattle.section_model.specs.declared.cell.UserOccasion.{UserOccasion}
 use Rattle.section_model.specs.declared.hand.Hand.TheVariants as hand
@@ -66,18 +70,20 @@ other_meets connected connected m n = tt
 other_meets connected _ m n = absurd n
 other_meets _ t m n = absurd m
 
--- data may pass in one stage alone
-pub only_connected : (s : Stage) → Meets connected s → s ≡ connected
-only_connected connected m = refl
-only_connected _ m = absurd m
+-- where a section is up, or a user's end ready, data may pass
+up_meets : (s : SectionState) → s ≡ Up → Meets connected (section_stage s)
+up_meets s up = rw up tt
+
+ready_meets : (s : UserState) → s ≡ user.Ready → Meets connected (user_stage s)
+ready_meets s ready = rw ready tt
 
 -- A unit comes in at a section.
 
-gives_unit : (G : Brought) (ticks : Ticks) (x : Section) (done that : End) (u : DataUnit) → Meets connected (section_stage x.head.state) → G (wire x) (u ∷ []) → got_at done ≡ x.windows.got ++ u ∷ [] → Meets connected (stage_at that)
+gives_unit : (G : Brought) (ticks : Ticks) (x : Section) (done that : End) (u : DataUnit) → x.head.state ≡ Up → G (wire x) (u ∷ []) → got_at done ≡ x.windows.got ++ u ∷ [] → Meets connected (stage_at that)
     → PassesBy G (both (wire x) that) (settles ticks (done, gives_then [] (handed u ∷ [])) that)
 unfolding exchange Passes
 gives_unit G ticks x done that u up g got m =
-    let p = unit_passes ticks u that done m in on_this (u ∷ []) (record { brought = g; set_up = only_connected (section_stage x.head.state) up; comes = p.1 ∙ got; stays = inl p.0; sends = p.2 })
+    let p = unit_passes ticks u that done m in on_this (u ∷ []) (record { brought = g; is_open = up; comes = p.1 ∙ got; stays = inl p.0; sends = p.2 })
 
 unfoldable HearsPass : Brought → Ticks → Section → Timers → End → Section × Acted → Type 0
 HearsPass G ticks x t that done = PassesBy G (both (wire x) that) (settles ticks (timed ticks (record x { timers = t }) done) that)
@@ -105,7 +111,7 @@ unfolding WindowsPass HearsPass
 resets_pass G ticks x t that cause =
     quiet_passes G (both (wire x) that) _ (settles_quiet ticks (wire x) that _ (resets_quiet cause (record { head = x.head; windows = x.windows })))
 
-numbered_passes : (G : Brought) (ticks : Ticks) (m : Parameters) (x : Section) (t : Timers) (that : End) → Meets connected (section_stage x.head.state) → G (wire x) (unit_in_message m ∷ []) → Meets connected (stage_at that)
+numbered_passes : (G : Brought) (ticks : Ticks) (m : Parameters) (x : Section) (t : Timers) (that : End) → x.head.state ≡ Up → G (wire x) (unit_in_message m ∷ []) → Meets connected (stage_at that)
     → WindowsPass G ticks x t that (takes_data m (record { head = x.head; windows = x.windows }))
 unfolding WindowsPass HearsPass
 numbered_passes G ticks m x t that up g meets =
@@ -123,10 +129,10 @@ section_hears_passes cell.TakeData o G ticks point m x t that is k brought =
     either (HearsPass G ticks x t that) (x.head.class == 3) _ _ (λ _. nothing_passes G ticks x t that)
     (λ _. let u = unit_in_message m in
     gives_unit G ticks x _ that u is.1 (brought is.0) (state_kept (record x { timers = t }) (record (line_in x) { got = x.windows.got ++ u ∷ [] }) refl)
-    (other_meets (section_stage x.head.state) (stage_at that) is.1 k.0))
+    (other_meets (section_stage x.head.state) (stage_at that) (up_meets x.head.state is.1) k.0))
 section_hears_passes cell.TakeNumberedData o G ticks point m x t that is k brought =
     either (HearsPass G ticks x t that) (x.head.class == 3) _ _
-    (λ _. numbered_passes G ticks m x t that is.1 (brought is.0) (other_meets (section_stage x.head.state) (stage_at that) is.1 k.0))
+    (λ _. numbered_passes G ticks m x t that is.1 (brought is.0) (other_meets (section_stage x.head.state) (stage_at that) (up_meets x.head.state is.1) k.0))
     (λ _. line_rests G ticks x t that)
 section_hears_passes c o G ticks point m x t that is k brought =
     quiet_passes G (both (wire x) that) _ (settles_quiet ticks (wire x) that _ (section_hears_quiet ticks c point m (record x { timers = t }) tt))
@@ -244,18 +250,18 @@ text_passes ticks x m (u ∷ units) r same =
     ∙ ap (λ (outs : List Output). dt1_among r.1 ++ outs) (once_joined (x.head.class == 3) (λ u. sent_on x.head (dt1_of x.head u)) u units)) in
     (rest.0 ∙ p.1, rest.1 ∙ p.0, rest.2 ∙ both_sent)
 
-sends_text : (ticks : Ticks) (ssn mine : ℕ) (body : List ℕ) (u : User) (x : Section) → Meets connected (user_stage u.state) → Meets connected (section_stage x.head.state)
+sends_text : (ticks : Ticks) (ssn mine : ℕ) (body : List ℕ) (u : User) (x : Section) → u.state ≡ user.Ready → Meets connected (section_stage x.head.state)
     → PassesBy (Brings (Requested ssn (request.Send mine body))) (both (owner u) (wire x))
     (settles ticks (owner (record u { got = u.got ++ units_of body }), gives_then [] (map handed (units_of body))) (wire x))
 unfolding exchange dt1_among
 sends_text ticks ssn mine body u x up m =
     let t = text_passes ticks x m (units_of body) (both (owner (record u { got = u.got ++ units_of body })) (wire x), []) refl in
-    on_this (units_of body) (record { brought = refl; set_up = only_connected (user_stage u.state) up; comes = t.0; stays = inl t.1; sends = t.2 })
+    on_this (units_of body) (record { brought = refl; is_open = up; comes = t.0; stays = inl t.1; sends = t.2 })
 
 user_asks_passes : (c : Cell) (o : UserOccasion) (r : Request) (ssn : ℕ) (ticks : Ticks) (u : User) (x : Section) → IsUserCellOf c o u.state → AreInStep (owner u) (wire x)
     → PassesBy (Brings (Requested ssn r)) (both (owner u) (wire x)) (settles ticks (let done = user_asks c r u in (owner done.0, done.1)) (wire x))
 unfolding user_asks ActsQuiet AreOther
-user_asks_passes cell.UserSends o (request.Send mine body) ssn ticks u x is k = sends_text ticks ssn mine body u x is (other_meets (user_stage u.state) (section_stage x.head.state) is k.0)
+user_asks_passes cell.UserSends o (request.Send mine body) ssn ticks u x is k = sends_text ticks ssn mine body u x is (other_meets (user_stage u.state) (section_stage x.head.state) (ready_meets u.state is) k.0)
 user_asks_passes cell.UserSends o r ssn ticks u x is k = quiet_passes (Brings (Requested ssn r)) (both (owner u) (wire x)) _ (settles_quiet ticks (owner u) (wire x) _ (none_quiet, tt, inl refl))
 user_asks_passes c o r ssn ticks u x is k = quiet_passes (Brings (Requested ssn r)) (both (owner u) (wire x)) _ (settles_quiet ticks (owner u) (wire x) _ (user_asks_quiet c r u tt))
 
@@ -385,9 +391,9 @@ passes_after : (G : Brought) (c : Connection) (r s : Connection × List Output) 
 passes_after G c r s this that sends (none p) =
     none (record { this = stays_after c.this r.0.this s.0.this this p.this; that = stays_after c.that r.0.that s.0.that that p.that; sends = sends ∙ p.sends })
 passes_after G c r s this that sends (on_this units p) =
-    on_this units (record { brought = p.brought; set_up = p.set_up; comes = this ∙ p.comes; stays = stays_after c.that r.0.that s.0.that that p.stays; sends = sends ∙ p.sends })
+    on_this units (record { brought = p.brought; is_open = p.is_open; comes = this ∙ p.comes; stays = stays_after c.that r.0.that s.0.that that p.stays; sends = sends ∙ p.sends })
 passes_after G c r s this that sends (on_other units p) =
-    on_other units (record { brought = p.brought; set_up = p.set_up; comes = that ∙ p.comes; stays = stays_after c.this r.0.this s.0.this this p.stays; sends = sends ∙ p.sends })
+    on_other units (record { brought = p.brought; is_open = p.is_open; comes = that ∙ p.comes; stays = stays_after c.this r.0.this s.0.this this p.stays; sends = sends ∙ p.sends })
 
 pub units_pass : UnitsPass
 unfolding connection_step

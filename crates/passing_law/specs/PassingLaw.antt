@@ -6,10 +6,12 @@ use Rattle.relay_base.specs.declared.words.Event.TheVariants.{Message as Arrived
 use Rattle.relay_base.specs.declared.words.Output.{Output}
 use Rattle.relay_base.specs.declared.words.Request.TheVariants as request
 use Rattle.plant_core.specs.declared.terms.Ticks.{Ticks}
+use Rattle.section_model.specs.declared.cell.SectionState.TheVariants.{Up}
+use Rattle.section_model.specs.declared.cell.UserState.TheVariants.{Ready}
 use Rattle.section_model.specs.Ends.{End, wire, owner, DataUnit, SectionHead, Connection}
 use Rattle.section_model.specs.UserEnd.{units_of}
 use Rattle.section_model.specs.Step.{hears, connection_step}
-use Rattle.connection_law.specs.InStep.{connected, stage_at, got_at, IsInStep}
+use Rattle.connection_law.specs.InStep.{got_at, IsInStep}
 use Rattle.connection_law.specs.Messages.{is_of_type}
 use Rattle.carried_law.specs.CarriedLaw.{all_as_dt1}
 use Rattle.carried_law.specs.Units.{units_for}
@@ -42,10 +44,15 @@ Brings (Arrived point sls bytes) (wire x) units = units ≡ units_for x.head.min
 Brings (Requested ssn (request.Send mine body)) (owner u) units = units ≡ units_of body
 Brings _ end units = ⊥
 
--- units come in at an end that is set up, and leave at once on the other one if they may
+-- data may come in at an end: of a section that is up, or of a user's end that is ready
+abbrev pub IsOpen : End → Type 0
+IsOpen (wire x) = x.head.state ≡ Up
+IsOpen (owner u) = u.state ≡ Ready
+
+-- units come in at an end, and leave at once on the other one if they may
 pub record Pass (IsBrought : End → List DataUnit → Type 0) (units : List DataUnit) (end other end_after other_after : End) (outs : List Output) : Type 0 where
   pub brought : IsBrought end units
-  pub set_up : stage_at end ≡ connected
+  pub is_open : IsOpen end
   pub comes : got_at end_after ≡ got_at end ++ units
   pub stays : StaysOrClears other other_after
   pub sends : dt1_among outs ≡ at_once other units
