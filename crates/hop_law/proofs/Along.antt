@@ -30,6 +30,7 @@ use Rattle.connection_law.proofs.Flow.Step.{step_keeps}
 use Rattle.connection_law.proofs.Message.Sent.{after_leaving, data_sent}
 use Rattle.connection_law.proofs.Reference.Ends.{Both}
 use Rattle.text_law.specs.TextLaw.{Begins}
+use Rattle.passing_law.specs.ClassLaw.{IsOfAClass}
 use Rattle.passing_law.specs.PassingLaw.{IsOpen, dt1_among, StaysOrClears, Brings, Passing, none, on_this, on_that}
 use Rattle.passing_law.specs.PlaceLaw.{SamePlace, KeepsPlace, StaysPut}
 use Rattle.passing_law.specs.LeavingLaw.{AreSides, this_and_that, that_and_this, IsApart, ComeIn}
@@ -41,6 +42,7 @@ use Rattle.passing_law.proofs.Passing.{units_pass}
 use Rattle.passing_law.proofs.Leaving.{brought_within, other_data, nothing_on, units_leave}
 use Rattle.passing_law.proofs.Placing.{end_then, event_place, step_place, along_place, after_place}
 use Rattle.passing_law.proofs.Early.{KeptEarly, step_early, opening_empty}
+use Rattle.passing_law.proofs.Classes.{classes_stay}
 use Rattle.passing_law.proofs.Clearing.{Goes, event_goes}
 use Rattle.hop_law.specs.LeftAlong.{outs_along, IsApartAt, StaysApart, LeftAlong}
 
@@ -221,6 +223,7 @@ left_in_window left units passed passed' sent acted sent' count got got' first s
 
 record Kept (x : SectionHead) (end other : Connection → End) (c : Connection) (left : List DataUnit) : Type 0 where
   in_step : IsInStep c
+  class : IsOfAClass (class_at c.this)
   empty : IsEmptyEarly c.this × IsEmptyEarly c.that
   within : Within c
   unreached : (y : Section) → end c ≡ wire y → is_reached y.head.state ≡ false → got_at (other c) ≡ []
@@ -354,7 +357,7 @@ step_in_three ticks c event end other x left hop kept open_end three =
 open_step : (ticks : Ticks) (c : Connection) (event : Event) (end other : Connection → End) (x : Section) (left : List DataUnit) → IsHop ticks x end other c event → Kept x.head end other c left
     → (y : Section) → end c ≡ wire y → is_reached y.head.state ≡ true → (IsBefore (stage_at (end c)) → ⊥) → StepLeaves ticks x other c event left
 unfolding connection_step
-open_step ticks c event end other x left hop kept y is reached not_early = by_event (event_goes ticks c event kept.in_step hop.apart.class)
+open_step ticks c event end other x left hop kept y is reached not_early = by_event (event_goes ticks c event kept.in_step kept.class)
   where
     by_event : ((class_at c.this ≡ 3) × SendsReset (event_step ticks c event).1) ⊎ Both Goes c (event_step ticks c event).0 → StepLeaves ticks x other c event left
     by_event (inl reset) = absurd (false≢true (sym hop.none ∙ any_after is_reset ticks (event_step ticks c event) reset.1))
@@ -372,7 +375,7 @@ open_step ticks c event end other x left hop kept y is reached not_early = by_ev
           left_end = of_end IsLeft end other r.0 d hop.sides left_both;
           left_other = of_other IsLeft end other r.0 d hop.sides left_both;
         } in
-        by_class o (end_class end other c hop.sides kept.in_step hop.apart.class)
+        by_class o (end_class end other c hop.sides kept.in_step kept.class)
       where
         by_class : IsKnown ticks x end other c event → (class_at (end c) ≡ 2) ⊎ (class_at (end c) ≡ 3) → StepLeaves ticks x other c event left
         by_class o (inl two) = step_in_two ticks c event end other x left hop kept o two
@@ -436,6 +439,7 @@ kept_step ticks c event end other x left hop kept =
     let outs = (connection_step ticks c event).1 in
     let early = step_early ticks c event in record {
       in_step = step_keeps ticks c event kept.in_step;
+      class = classes_stay ticks c event hop.heard kept.class;
       empty = (stays_early c.this d.this early.0 kept.empty.0, stays_early c.that d.that early.1 kept.empty.1);
       within = within_after event c d outs (units_pass ticks c event hop.heard kept.in_step) kept.within;
       unreached = still_unreached;
@@ -507,13 +511,14 @@ along ticks end other x (event ∷ events) c left sides fits is hear apart no_re
 
 pub left_along : LeftAlong
 unfolding Within
-left_along terms event answer references c events end other x credit opening sides is fits apart no_reset =
+left_along terms event answer references c events end other x credit opening class sides is fits apart no_reset =
     let o = opening_begins terms event answer references c credit opening in
     let empty = opening_empty terms (wish_of terms event) answer references c opening in
     let empty_other : got_at (other c) ≡ [] = none_there end other c sides empty in
     let hears = heard terms.ticks c events in
     let begun : Kept x.head end other c [] = record {
       in_step = o.0;
+      class = class;
       empty = (λ early. empty.0, λ early. empty.1);
       within = (subst UnitsWithin (sym empty.0) tt, subst UnitsWithin (sym empty.1) tt);
       unreached = λ y here unreached. empty_other;

@@ -26,6 +26,7 @@ use Rattle.connection_law.proofs.Flow.Opening.{opening_begins}
 use Rattle.connection_law.proofs.Flow.Step.{step_keeps}
 use Rattle.connection_law.proofs.Reference.Step.{step_stays}
 use Rattle.text_law.specs.TextLaw.{Begins}
+use Rattle.passing_law.specs.ClassLaw.{IsOfAClass}
 use Rattle.passing_law.specs.PassingLaw.{IsOpen, StaysOrClears, Brings, Passing, none, on_this, on_that}
 use Rattle.passing_law.specs.PlaceLaw.{StaysPut}
 use Rattle.passing_law.specs.TakingLaw.{AsksReset, IsFor, StandsAt, at_this, at_that, IsTaken}
@@ -36,6 +37,7 @@ use Rattle.passing_law.proofs.Accepting.{units_are_taken}
 use Rattle.passing_law.proofs.Passing.{first_true, second_true, units_pass}
 use Rattle.passing_law.proofs.Placing.{along_place}
 use Rattle.passing_law.proofs.Early.{step_early, opening_empty}
+use Rattle.passing_law.proofs.Classes.{classes_stay}
 use Rattle.passing_law.proofs.Clearing.{no_clearing}
 use Rattle.hop_law.specs.LeftAlong.{outs_along}
 use Rattle.hop_law.specs.TakenAlong.{brought_to, brought_along, IsOfClass, ArrivalFits, Fits, AllFit, TakenAlong}
@@ -183,27 +185,27 @@ still_differs ticks c event differs = λ e. let stays = step_stays ticks c event
 -- Along all that is heard.
 
 taken_from : (ticks : Ticks) (end other : Connection → End) (x : Section) (events : List Event) (c : Connection) → AreSides end other → end (follow ticks c events) ≡ wire x
-    → AllHear ticks c events → AllFit ticks end c events → list_any is_reset (outs_along ticks c events) ≡ false → IsInStep c → IsEmptyEarly c.this × IsEmptyEarly c.that
+    → AllHear ticks c events → AllFit ticks end c events → list_any is_reset (outs_along ticks c events) ≡ false → IsInStep c → IsOfAClass (class_at c.this) → IsEmptyEarly c.this × IsEmptyEarly c.that
     → reference_of c.this ≢ reference_of c.that → got_at (end (follow ticks c events)) ≡ got_at (end c) ++ brought_along ticks end c events
 unfolding follow AllHear AllFit outs_along brought_along
-taken_from ticks end other x [] c sides is hear fit no_reset k empty differs = sym (append-nil (got_at (end c)))
-taken_from ticks end other x (event ∷ events) c sides is hear fit no_reset k empty differs =
+taken_from ticks end other x [] c sides is hear fit no_reset k class empty differs = sym (append-nil (got_at (end c)))
+taken_from ticks end other x (event ∷ events) c sides is hear fit no_reset k class empty differs =
     let r = connection_step ticks c event in
     let d = next ticks c event in
     let quiet = neither (list_any is_reset r.1) (list_any is_reset (outs_along ticks d events)) (sym (list_any-append is_reset r.1 (outs_along ticks d events)) ∙ no_reset) in
     let put : StaysPut (end c) (wire x) = subst (λ e. StaysPut (end c) e) is (of_end StaysPut end other c (follow ticks d events) sides (along_place ticks c (event ∷ events))) in
     let early = step_early ticks c event in
-    let one = step_takes ticks c event end other x sides hear.0 put k empty differs fit.0.0 fit.0.1 quiet.0 in
-    let rest = taken_from ticks end other x events d sides is hear.1 fit.1 quiet.1 (step_keeps ticks c event k)
+    let one = step_takes ticks c event end other x sides hear.0 put k empty differs fit.0 class quiet.0 in
+    let rest = taken_from ticks end other x events d sides is hear.1 fit.1 quiet.1 (step_keeps ticks c event k) (classes_stay ticks c event hear.0 class)
     (stays_early c.this d.this early.0 empty.0, stays_early c.that d.that early.1 empty.1) (still_differs ticks c event differs) in
     rest ∙ (ap (λ (got : List DataUnit). got ++ brought_along ticks end d events) one ∙ append_assoc (got_at (end c)) (brought_to (end c) event) (brought_along ticks end d events))
 
 pub taken_along : TakenAlong
-taken_along terms event answer references c events end other x credit opening sides differs is fit no_reset =
+taken_along terms event answer references c events end other x credit opening class sides differs is fit no_reset =
     let empty = opening_empty terms (wish_of terms event) answer references c opening in
     let hears = heard terms.ticks c events in
     sym (ap got_at is)
-    ∙ (taken_from terms.ticks end other x hears c sides is (all_hear terms.ticks c events) fit no_reset (opening_begins terms event answer references c credit opening).0
+    ∙ (taken_from terms.ticks end other x hears c sides is (all_hear terms.ticks c events) fit no_reset (opening_begins terms event answer references c credit opening).0 class
     (λ early. empty.0, λ early. empty.1) differs
     ∙ ap (λ (got : List DataUnit). got ++ brought_along terms.ticks end c hears) (none_here end other c sides empty))
   where

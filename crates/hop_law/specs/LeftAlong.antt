@@ -1,6 +1,6 @@
--- The law of the units that left on a section (Q.714, 3.5), along all that the connection hears: as long as neither RSR nor RSC left on it, they are the
+-- The law of the units that left on a section (Q.714, 3.5), along all that the connection hears: as long as it sends neither RSR nor RSC, they are the
 -- first of those that came in at the other end, as many as are counted there as left.
-use Rattle.std.specs.Prelude.{◌≡◌, ◌⊎◌, ℕ, ◌≤◌, ◌<◌, false, List, [], ◌∷◌, ◌++◌, take, Option, Some}
+use Rattle.std.specs.Prelude.{◌≡◌, ℕ, ◌≤◌, ◌<◌, false, List, [], ◌∷◌, ◌++◌, take, Option, Some}
 use Rattle.std.specs.List.{list_any}
 use Rattle.relay_base.specs.declared.limits.TheConstants.{GREATEST_CREDIT, REFERENCES}
 use Rattle.relay_base.specs.declared.words.Event.{Event}
@@ -15,6 +15,7 @@ use Rattle.section_model.specs.Lane.{next, heard, follow}
 use Rattle.carried_law.specs.Units.{units_on}
 use Rattle.connection_law.specs.InStep.{class_at, passed_at, got_at}
 use Rattle.connection_law.specs.Messages.{acted}
+use Rattle.passing_law.specs.ClassLaw.{IsOfAClass}
 use Rattle.passing_law.specs.LeavingLaw.{AreSides, IsApart}
 use Rattle.passing_law.specs.ClearingLaw.{is_reset}
 
@@ -23,9 +24,8 @@ unfoldable pub outs_along : Ticks → Connection → List Event → List Output
 outs_along ticks c [] = []
 outs_along ticks c (event ∷ events) = (connection_step ticks c event).1 ++ outs_along ticks (next ticks c event) events
 
--- At each event the connection is of class 2 or 3, and its other end is no section to a point, before the event and as the event itself leaves it.
+-- At each event the other end is no section to the point of a section, before the event and as the event itself leaves it.
 pub record IsApartAt (ticks : Ticks) (y : SectionHead) (other : Connection → End) (c : Connection) (event : Event) : Type 0 where
-  pub class : (class_at c.this ≡ 2) ⊎ (class_at c.this ≡ 3)
   pub before : IsApart y (other c)
   pub acted : IsApart y (other (acted ticks c event))
 
@@ -42,7 +42,8 @@ abbrev pub LeftAlong : Type 0
 LeftAlong =
     (terms : Terms) (event : Event) (answer : Option Answer) (references : List ℕ) (c : Connection) (events : List Event)
     (end other : Connection → End) (x : Section) →
-    terms.credit ≤ GREATEST_CREDIT → (opened terms (wish_of terms event) answer references).connection ≡ Some c → AreSides end other →
+    terms.credit ≤ GREATEST_CREDIT → (opened terms (wish_of terms event) answer references).connection ≡ Some c →
+    IsOfAClass (class_at c.this) → AreSides end other →
     (let hears = heard terms.ticks c events in
     let outs = outs_along terms.ticks c hears in
     let d = follow terms.ticks c hears in

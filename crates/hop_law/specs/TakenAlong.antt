@@ -1,6 +1,6 @@
--- The law of the units that come in at a section (Q.714, 3.5), along all that the connection hears: as long as neither RSR nor RSC left on it, each unit
+-- The law of the units that come in at a section (Q.714, 3.5), along all that the connection hears: as long as it sends neither RSR nor RSC, each unit
 -- that a message brings while the section is up comes in, in order, and no others.
-use Rattle.std.specs.Prelude.{◌≡◌, ◌≢◌, ◌⊎◌, ℕ, ◌==◌, ◌&&◌, ◌≤◌, true, false, List, [], ◌∷◌, ◌++◌, if◌then◌else◌, Option, Some, None}
+use Rattle.std.specs.Prelude.{◌≡◌, ◌≢◌, ℕ, ◌==◌, ◌&&◌, ◌≤◌, true, false, List, [], ◌∷◌, ◌++◌, if◌then◌else◌, Option, Some, None}
 use Rattle.std.specs.List.{list_any}
 use Rattle.relay_base.specs.declared.limits.TheConstants.{GREATEST_CREDIT}
 use Rattle.relay_base.specs.declared.words.Event.{Event}
@@ -17,6 +17,7 @@ use Rattle.section_model.specs.Opening.{wish_of, opened}
 use Rattle.section_model.specs.Lane.{next, heard, follow, reference_of}
 use Rattle.carried_law.specs.Units.{carries, units_for}
 use Rattle.connection_law.specs.InStep.{class_at}
+use Rattle.passing_law.specs.ClassLaw.{IsOfAClass}
 use Rattle.passing_law.specs.LeavingLaw.{AreSides}
 use Rattle.passing_law.specs.ClearingLaw.{is_reset}
 use Rattle.hop_law.specs.LeftAlong.{outs_along}
@@ -46,15 +47,15 @@ Fits _ event = Unit {0}
 
 unfoldable pub AllFit : Ticks → (Connection → End) → Connection → List Event → Type 0
 AllFit ticks end c [] = Unit {0}
-AllFit ticks end c (event ∷ events) = (Fits (end c) event × ((class_at c.this ≡ 2) ⊎ (class_at c.this ≡ 3))) × AllFit ticks end (next ticks c event) events
+AllFit ticks end c (event ∷ events) = Fits (end c) event × AllFit ticks end (next ticks c event) events
 
 -- The law, from an opening on whose ends have not the same reference.
 abbrev pub TakenAlong : Type 0
 TakenAlong =
     (terms : Terms) (event : Event) (answer : Option Answer) (references : List ℕ) (c : Connection) (events : List Event)
     (end other : Connection → End) (x : Section) →
-    terms.credit ≤ GREATEST_CREDIT → (opened terms (wish_of terms event) answer references).connection ≡ Some c → AreSides end other →
-    reference_of c.this ≢ reference_of c.that →
+    terms.credit ≤ GREATEST_CREDIT → (opened terms (wish_of terms event) answer references).connection ≡ Some c →
+    IsOfAClass (class_at c.this) → AreSides end other → reference_of c.this ≢ reference_of c.that →
     (let hears = heard terms.ticks c events in
     end (follow terms.ticks c hears) ≡ wire x → AllFit terms.ticks end c hears → list_any is_reset (outs_along terms.ticks c hears) ≡ false →
     x.windows.got ≡ brought_along terms.ticks end c hears)

@@ -1,4 +1,5 @@
-//! The law of one hop along a chain of nodes (Q.714, 3.5), as the contracts of functions without a body.
+//! Laws of the units of a connection along all that it hears (Q.714, 3.5), as the contracts of functions without a body: what left on a section, and what
+//! came in at one. So much of a hop along a chain of nodes.
 #![tactic(auto)]
 
 mod laws;

@@ -9,3 +9,4 @@ pub mod Leaving
 pub mod Placing
 pub mod Early
 pub mod Clearing
+pub mod Classes

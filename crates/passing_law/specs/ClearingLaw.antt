@@ -10,6 +10,7 @@ use Rattle.section_model.specs.Step.{connection_step}
 use Rattle.connection_law.specs.InStep.{class_at, got_at, IsInStep}
 use Rattle.connection_law.specs.Messages.{is_of_type}
 use Rattle.text_law.specs.TextLaw.{Begins}
+use Rattle.passing_law.specs.ClassLaw.{IsOfAClass}
 use Rattle.passing_law.specs.EarlyLaw.{IsEmptyEarly}
 
 -- RSR (Q.713, 4.14), or RSC (4.15)
@@ -27,5 +28,5 @@ BothGoOn before after = Begins (got_at before.this) (got_at after.this) × Begin
 abbrev pub NoClearing : Type 0
 NoClearing =
     (ticks : Ticks) (c : Connection) (event : Event) →
-    IsInStep c → (class_at c.this ≡ 2) ⊎ (class_at c.this ≡ 3) → IsEmptyEarly c.this → IsEmptyEarly c.that →
+    IsInStep c → IsOfAClass (class_at c.this) → IsEmptyEarly c.this → IsEmptyEarly c.that →
     (let r = connection_step ticks c event in ((class_at c.this ≡ 3) × SendsReset r.1) ⊎ BothGoOn c r.0)

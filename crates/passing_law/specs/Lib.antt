@@ -3,4 +3,5 @@ pub mod TakingLaw
 pub mod LeavingLaw
 pub mod PlaceLaw
 pub mod EarlyLaw
+pub mod ClassLaw
 pub mod ClearingLaw

@@ -1,4 +1,5 @@
 //! Laws of the definitions, each as the contract of a function.
+ghost use Rattle.passing_law.specs.ClassLaw.{ClassesStay};
 ghost use Rattle.passing_law.specs.ClearingLaw.{NoClearing};
 ghost use Rattle.passing_law.specs.EarlyLaw.{EarlyLaw};
 ghost use Rattle.passing_law.specs.LeavingLaw.{UnitsLeave};
@@ -36,4 +37,9 @@ pub fn early_is_empty()
 /// What came in at an end goes on over each step, but in class 3 with RSR or RSC among the outputs.
 pub fn no_clearing()
     ensures { NoClearing }
+{}
+
+/// A connection of class 2 or 3 stays one, whatever it hears.
+pub fn classes_stay()
+    ensures { ClassesStay }
 {}
