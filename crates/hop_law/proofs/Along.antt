@@ -44,7 +44,9 @@ use Rattle.passing_law.proofs.Placing.{end_then, event_place, step_place, along_
 use Rattle.passing_law.proofs.Early.{KeptEarly, step_early, opening_empty}
 use Rattle.passing_law.proofs.Classes.{classes_stay}
 use Rattle.passing_law.proofs.Clearing.{Goes, event_goes}
-use Rattle.hop_law.specs.LeftAlong.{outs_along, IsApartAt, StaysApart, LeftAlong}
+use Rattle.passing_law.proofs.Taking.{SameHead}
+use Rattle.hop_law.proofs.Heads.{after_heads, apart_before}
+use Rattle.hop_law.specs.LeftAlong.{outs_along, StaysApart, LeftAlong}
 
 -- Units on a section, which its place alone decides.
 
@@ -220,6 +222,25 @@ left_in_window left units passed passed' sent acted sent' count got got' first s
     after = rw (← s', more) refl
 
 -- One step.
+
+-- the other end is no section to the point, before the event and as it leaves it
+record IsApartAt (ticks : Ticks) (y : SectionHead) (other : Connection → End) (c : Connection) (event : Event) : Type 0 where
+  before : IsApart y (other c)
+  acted : IsApart y (other (acted ticks c event))
+
+apart_first : (ticks : Ticks) (y : SectionHead) (other : Connection → End) (c : Connection) (events : List Event) → StaysApart ticks y other c events → IsApart y (other c)
+unfolding StaysApart
+apart_first ticks y other c [] apart = apart
+apart_first ticks y other c (event ∷ events) apart = apart.0
+
+apart_at : (ticks : Ticks) (y : SectionHead) (end other : Connection → End) (c : Connection) (event : Event) → AreSides end other → IsApart y (other c) → IsApart y (other (next ticks c event))
+    → IsApartAt ticks y other c event
+unfolding connection_step
+apart_at ticks y end other c event sides before after = record {
+  before = before;
+  acted = apart_before y (other (acted ticks c event)) (other (next ticks c event))
+      (of_other SameHead end other (acted ticks c event) (next ticks c event) sides (after_heads ticks (event_step ticks c event))) after;
+}
 
 record Kept (x : SectionHead) (end other : Connection → End) (c : Connection) (left : List DataUnit) : Type 0 where
   in_step : IsInStep c
@@ -491,7 +512,7 @@ along ticks end other x (event ∷ events) c left sides fits is hear apart no_re
     let hop : IsHop ticks x end other c event = record {
       sides = sides;
       heard = hear.0;
-      apart = apart.0;
+      apart = apart_at ticks x.head end other c event sides apart.0 (apart_first ticks x.head other d events apart.1);
       none = none_of.0;
       fits = fits;
       placed = placed ticks c event end other x sides after;

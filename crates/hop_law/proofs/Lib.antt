@@ -1,2 +1,3 @@
+pub mod Heads
 pub mod Along
 pub mod Taken

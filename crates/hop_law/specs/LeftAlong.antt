@@ -14,7 +14,6 @@ use Rattle.section_model.specs.Opening.{wish_of, opened}
 use Rattle.section_model.specs.Lane.{next, heard, follow}
 use Rattle.carried_law.specs.Units.{units_on}
 use Rattle.connection_law.specs.InStep.{class_at, passed_at, got_at}
-use Rattle.connection_law.specs.Messages.{acted}
 use Rattle.passing_law.specs.ClassLaw.{IsOfAClass}
 use Rattle.passing_law.specs.LeavingLaw.{AreSides, IsApart}
 use Rattle.passing_law.specs.ClearingLaw.{is_reset}
@@ -24,14 +23,10 @@ unfoldable pub outs_along : Ticks → Connection → List Event → List Output
 outs_along ticks c [] = []
 outs_along ticks c (event ∷ events) = (connection_step ticks c event).1 ++ outs_along ticks (next ticks c event) events
 
--- At each event the other end is no section to the point of a section, before the event and as the event itself leaves it.
-pub record IsApartAt (ticks : Ticks) (y : SectionHead) (other : Connection → End) (c : Connection) (event : Event) : Type 0 where
-  pub before : IsApart y (other c)
-  pub acted : IsApart y (other (acted ticks c event))
-
+-- at each moment the other end is no section to the point of a section
 unfoldable pub StaysApart : Ticks → SectionHead → (Connection → End) → Connection → List Event → Type 0
-StaysApart ticks y other c [] = Unit {0}
-StaysApart ticks y other c (event ∷ events) = IsApartAt ticks y other c event × StaysApart ticks y other (next ticks c event) events
+StaysApart ticks y other c [] = IsApart y (other c)
+StaysApart ticks y other c (event ∷ events) = IsApart y (other c) × StaysApart ticks y other (next ticks c event) events
 
 -- what left on the section since the opening is the first of what came in at the other end
 abbrev pub AreFirstOf : List Output → SectionHead → End → Type 0
