@@ -1,15 +1,14 @@
 -- Timers in order: what a tree's root parts, and what stays in order.
-use Rattle.std.proofs.Common.{◌≡◌, ℕ, suc, ◌+◌, ◌^◌, ◌<◌, ◌≤◌, length, length-append, List, [], ◌∷◌, ◌++◌, map, Bool, true, false, not, filter, All, ◌-◌, refl, sym, ap, ap₂, ◌∙◌, append_assoc, arith, subst, cond}
-use Rattle.std.specs.Prelude.{nat_le, min, AllPairs}
+use Rattle.std.proofs.Common.{◌≡◌, ℕ, suc, ◌+◌, ◌<◌, ◌≤◌, List, [], ◌∷◌, ◌++◌, map, Bool, true, false, not, filter, All, ◌-◌, refl, sym, ap, ap₂, ◌∙◌, append_assoc, arith, subst, cond}
+use Rattle.std.specs.Prelude.{◌*◌, nat_le, max, min, if◌then◌else◌, AllPairs}
 use Rattle.std.proofs.Math.Nat.{min-le_left, min-le_right}
 use Rattle.std.proofs.lemmas.List.Elements.{All-nil, All-cons, All-head, All-tail, All-append, All-filter, All-weaker, All-map, filter-append}
-use Rattle.std.proofs.lemmas.List.{append-nil, length-map, map-append}
-use Rattle.std.proofs.lemmas.List.Filters.{length-filter_both}
+use Rattle.std.proofs.lemmas.List.{append-nil, map-append}
 use Rattle.std.proofs.lemmas.List.Kept.{AllPairs-cons}
 use Rattle.timer_wheel.specs.declared.due.Due.{Due}
 use Rattle.timer_wheel.specs.declared.due.Alarm.{Alarm}
 use Rattle.timer_wheel.specs.Order.{is_before}
-use Rattle.timer_wheel.specs.Inner.Tree.{before, behind, due_by, fires, not_fires, recounted, Rises}
+use Rattle.timer_wheel.specs.Inner.Tree.{before, behind, fires, not_fires, recounted, started_again, Rises}
 
 pub filter_all : {X : Type 0} (test : X → Bool) (xs : List X) → All (λ x. test x ≡ true) xs → filter test xs ≡ xs
 filter_all test [] h = refl
@@ -32,13 +31,14 @@ all_stay alarms tick soonest h early =
     filter_all (not_fires tick) alarms
     (All-weaker (λ (a : Alarm). soonest ≤ a.tick) (λ a. not_fires tick a ≡ true) (λ a bound. ap not (late tick soonest a.tick early bound)) alarms h)
 
--- of some timers, no more fire than they are
-few_fire : (tick : ℕ) (alarms : List Alarm) → length (due_by tick alarms) ≤ length alarms
-few_fire tick alarms = omega (arith, length-map (filter (fires tick) alarms) (λ a. a.due), length-filter_both (fires tick) (not_fires tick) (λ a. refl) alarms)
-
-pub count_fits : (tick : ℕ) (left : List Alarm) (alarm : Alarm) (right : List Alarm) → length (left ++ alarm ∷ right) < 2 ^ 64
-    → length (due_by tick left) + length (due_by tick right) + 1 < 2 ^ 64
-count_fits tick left alarm right few = omega (arith, few, length-append left (alarm ∷ right), few_fire tick left, few_fire tick right)
+-- before the soonest tick none is started again
+pub none_again : (alarms : List Alarm) (tick most soonest : ℕ) → All (λ a. soonest ≤ a.tick) alarms → tick < soonest → map (started_again tick most) alarms ≡ alarms
+none_again [] tick most soonest h early = refl
+none_again (x ∷ alarms) tick most soonest h early =
+    let none = late tick soonest x.tick early (All-head (λ (a : Alarm). soonest ≤ a.tick) x alarms h) in
+    ap₂ (λ b l. let a : Alarm =
+    record { due = x.due; tick = if b then tick + max 1 (min (2 * x.interval) most) else x.tick; interval = if b then min (2 * x.interval) most else x.interval } in a ∷ l)
+    none (none_again alarms tick most soonest (All-tail (λ (a : Alarm). soonest ≤ a.tick) x alarms h) early)
 
 pub before-trans : (a b c : Due) → is_before a b ≡ true → is_before b c ≡ true → is_before a c ≡ true
 before-trans a b c h k = grind (arith, h, k)

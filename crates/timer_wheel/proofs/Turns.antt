@@ -1,14 +1,14 @@
 -- What is seen of the timers after each call.
 use Rattle.std.proofs.Common.{◌≡◌, ℕ, ◌+◌, ◌-◌, ◌<◌, ◌≤◌, List, [], ◌∷◌, ◌++◌, length, length-append, get_or, map, Bool, true, false, not, cond, filter, All, refl, sym, ap, ap₂, ◌∙◌, arith}
-use Rattle.std.specs.Prelude.{◌==◌, ◌&&◌, nat_le, AllPairs}
-use Rattle.std.proofs.lemmas.List.Elements.{All-cons, All-head, All-tail, All-append, All-weaker, All-map, filter_passes}
+use Rattle.std.specs.Prelude.{◌==◌, ◌&&◌, ◌*◌, nat_le, max, min, if◌then◌else◌, AllPairs}
+use Rattle.std.proofs.lemmas.List.Elements.{All-nil, All-cons, All-head, All-tail, All-append, All-weaker, All-map, filter_passes}
 use Rattle.std.proofs.lemmas.List.Kept.{AllPairs-cons, AllPairs-filter}
 use Rattle.std.proofs.lemmas.List.{map-append, length-map}
 use Rattle.timer_wheel.specs.declared.due.Due.{Due}
 use Rattle.timer_wheel.specs.declared.due.Alarm.{Alarm}
 use Rattle.timer_wheel.specs.Order.{is_before}
-use Rattle.timer_wheel.specs.Timers.{Armed, is_timer, others, with_timer, due_now, lowered, after_tick, IsRising, AreRunning}
-use Rattle.timer_wheel.specs.Inner.Tree.{before, behind, fires, not_fires, recounted, Rises}
+use Rattle.timer_wheel.specs.Timers.{Armed, is_timer, others, with_armed, due_now, lowered, after_tick, again, after_tick_again, IsRising, AreRunning}
+use Rattle.timer_wheel.specs.Inner.Tree.{before, behind, fires, not_fires, recounted, started_again, Rises}
 use Rattle.timer_wheel.specs.Inner.Turning.{left_at, armed_at}
 use Rattle.timer_wheel.proofs.Order.{before-trans, before-asym, filter_none, head_of, tail_of}
 
@@ -21,14 +21,15 @@ filter_mapped f test (x ∷ xs) = by_test (test (f x)) (filter_mapped f test xs)
     by_test true rest = ap (λ l. f x ∷ l) rest
     by_test false rest = rest
 
-pub with_at : (now ticks : ℕ) (due : Due) (list : List Alarm)
-    → with_timer due ticks (armed_at now list) ≡ armed_at now (before due list ++ record { due = due; tick = now + ticks } ∷ behind due list)
-with_at now ticks due list =
+pub with_at : (now ticks interval : ℕ) (due : Due) (list : List Alarm)
+    → with_armed (record { due = due; ticks = ticks; interval = interval }) (armed_at now list)
+    ≡ armed_at now (before due list ++ record { due = due; tick = now + ticks; interval = interval } ∷ behind due list)
+with_at now ticks interval due list =
     let all : now + ticks - now ≡ ticks = omega arith in
-    ap₂ (λ l r. l ++ record { due = due; ticks = ticks } ∷ r) (filter_mapped (left_at now) (λ a. is_before a.due due) list)
+    ap₂ (λ l r. l ++ record { due = due; ticks = ticks; interval = interval } ∷ r) (filter_mapped (left_at now) (λ a. is_before a.due due) list)
     (filter_mapped (left_at now) (λ a. is_before due a.due) list)
-    ∙ ap (λ n. armed_at now (before due list) ++ record { due = due; ticks = n } ∷ armed_at now (behind due list)) (sym all)
-    ∙ sym (map-append (left_at now) (before due list) (record { due = due; tick = now + ticks } ∷ behind due list))
+    ∙ ap (λ n. armed_at now (before due list) ++ record { due = due; ticks = n; interval = interval } ∷ armed_at now (behind due list)) (sym all)
+    ∙ sym (map-append (left_at now) (before due list) (record { due = due; tick = now + ticks; interval = interval } ∷ behind due list))
 
 not_same : Due → Alarm → Bool
 not_same due a = not (a.due.conn == due.conn && a.due.timer == due.timer)
@@ -126,7 +127,7 @@ after_at now (x ∷ list) h =
     by_test true rest = rest
     by_test false rest =
         let less : x.tick - now - 1 ≡ x.tick - (now + 1) = omega arith in
-        ap₂ (λ n l. record { due = x.due; ticks = n } ∷ l) less rest
+        ap₂ (λ n l. record { due = x.due; ticks = n; interval = x.interval } ∷ l) less rest
 
 later_stays : (tick at : ℕ) → not (nat_le at tick) ≡ true → tick < at
 later_stays tick at h = grind (arith, h)
@@ -136,10 +137,47 @@ later_after tick list =
     All-weaker (λ (a : Alarm). not_fires tick a ≡ true) (λ a. tick < a.tick) (λ a h. later_stays tick a.tick h) (filter (not_fires tick) list)
     (filter_passes (not_fires tick) list)
 
+-- a timer that a tick starts again
+one_again : (now most : ℕ) (x : Alarm) → now < x.tick → left_at (now + 1) (started_again (now + 1) most x) ≡ after_tick_again most (left_at now x)
+one_again now most x h = by_test (nat_le x.tick (now + 1)) ∙ sym (ap stepped (one_left now x.tick h))
+  where
+    n : ℕ
+    n = min (2 * x.interval) most
+
+    stepped : Bool → Armed
+    stepped b = if b then again n (left_at now x) else lowered (left_at now x)
+
+    started : Bool → Alarm
+    started b = record { due = x.due; tick = if b then now + 1 + max 1 n else x.tick; interval = if b then n else x.interval }
+
+    by_test : (b : Bool) → left_at (now + 1) (started b) ≡ stepped b
+    by_test true =
+        let all : now + 1 + max 1 n - (now + 1) ≡ max 1 n = omega arith in
+        ap (λ ticks. let a : Armed = record { due = x.due; ticks = ticks; interval = n } in a) all
+    by_test false =
+        let less : x.tick - (now + 1) ≡ x.tick - now - 1 = omega arith in
+        ap (λ ticks. let a : Armed = record { due = x.due; ticks = ticks; interval = x.interval } in a) less
+
+pub again_at : (now most : ℕ) (list : List Alarm) → All (λ a. now < a.tick) list
+    → armed_at (now + 1) (map (started_again (now + 1) most) list) ≡ map (after_tick_again most) (armed_at now list)
+again_at now most [] h = refl
+again_at now most (x ∷ list) h =
+    ap₂ (λ a l. a ∷ l) (one_again now most x (All-head (λ (a : Alarm). now < a.tick) x list h))
+    (again_at now most list (All-tail (λ (a : Alarm). now < a.tick) x list h))
+
+later_one : (tick most at interval : ℕ) → tick < (if nat_le at tick then tick + max 1 (min (2 * interval) most) else at)
+later_one tick most at interval = grind arith
+
+pub later_again : (tick most : ℕ) (list : List Alarm) → All (λ a. tick < a.tick) (map (started_again tick most) list)
+later_again tick most [] = All-nil (λ (a : Alarm). tick < a.tick)
+later_again tick most (x ∷ list) =
+    All-cons (λ (a : Alarm). tick < a.tick) (started_again tick most x) (map (started_again tick most) list)
+    (later_one tick most x.tick x.interval) (later_again tick most list)
+
 pub recounted_at : (now : ℕ) (list : List Alarm) → armed_at 0 (map (recounted now) list) ≡ armed_at now list
 recounted_at now [] = refl
 recounted_at now (x ∷ list) =
-    let none : x.tick - now - 0 ≡ x.tick - now = omega arith in ap₂ (λ n l. record { due = x.due; ticks = n } ∷ l) none (recounted_at now list)
+    let none : x.tick - now - 0 ≡ x.tick - now = omega arith in ap₂ (λ n l. record { due = x.due; ticks = n; interval = x.interval } ∷ l) none (recounted_at now list)
 
 pub later_recounted : (now : ℕ) (list : List Alarm) → All (λ a. now < a.tick) list → All (λ a. 0 < a.tick) (map (recounted now) list)
 later_recounted now list h =
@@ -152,6 +190,9 @@ pairs_map R f (x ∷ xs) h =
 
 pub rises_recounted : (now : ℕ) (list : List Alarm) → Rises list → Rises (map (recounted now) list)
 rises_recounted now list h = pairs_map (λ (a b : Alarm). is_before a.due b.due ≡ true) (recounted now) list h
+
+pub rises_again : (tick most : ℕ) (list : List Alarm) → Rises list → Rises (map (started_again tick most) list)
+rises_again tick most list h = pairs_map (λ (a b : Alarm). is_before a.due b.due ≡ true) (started_again tick most) list h
 
 pub rising_at : (now : ℕ) (list : List Alarm) → Rises list → IsRising (armed_at now list)
 rising_at now list h = pairs_map (λ (a b : Armed). is_before a.due b.due ≡ true) (left_at now) list h

@@ -1,9 +1,9 @@
-//! The timers of a lane's connections: which run, and which the next tick makes due.
+//! The timers of a lane: which run, and which the next tick makes due.
 #![tactic(auto)]
 
 mod due;
 mod tree;
 mod wheel;
 
-pub use due::{Due, DueList};
+pub use due::Due;
 pub use wheel::Wheel;

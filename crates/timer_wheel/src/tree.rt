@@ -1,11 +1,12 @@
 //! The running timers in a tree, from left to right by rising connection and timer. Each node has a rank that is scattered over all
 //! numbers, and none below it a higher one, so that the depth is about a logarithm of the timers, in whatever order they are started.
-ghost use Rattle.std.specs.Prelude.{◌≡◌, ◌+◌, ◌<◌, ◌≤◌, ◌∷◌, ◌++◌, ◌^◌, [], All, filter, length, min, vec_len, map};
+ghost use Rattle.std.specs.Prelude.{◌≡◌, ◌+◌, ◌<◌, ◌≤◌, ◌∷◌, ◌++◌, ◌^◌, [], All, filter, length, min, vec_len, map, OnOk};
 ghost use Rattle.std.specs.Vec.{vec_capacity};
 ghost use Rattle.timer_wheel.specs.Order.{is_before};
-ghost use Rattle.timer_wheel.specs.Inner.Tree.{alarms, before, behind, due_by, not_fires, recounted, IsSound, Rises};
+ghost use Rattle.timer_wheel.specs.Inner.Tree.{alarms, before, behind, count_beside, with_alarm, due_by, not_fires, recounted, started_again, IsSound, Rises};
 
 use crate::due::{Alarm, Due};
+use relay_base::Memory;
 use std::mem;
 
 /// A node and what is below it, or nothing.
@@ -37,6 +38,7 @@ impl Node {
             alarm: Alarm {
                 due: Due { conn: 0, timer: 0 },
                 tick: 0,
+                interval: 0,
             },
             rank: 0,
             soonest: 0,
@@ -64,6 +66,15 @@ impl Tree {
     }
 }
 
+/// No timer of these fires before this tick.
+fn soonest_of(left: &Tree, alarm: Alarm, right: &Tree) -> u64
+    requires left { IsSound left.now }
+    requires right { IsSound right.now }
+    ensures { All (λ a. result ≤ a.tick) (alarms left.now ++ alarm ∷ alarms right.now) }
+{
+    alarm.tick.min(left.soonest()).min(right.soonest())
+}
+
 /// A node without its sides, and these.
 fn open(mut node: Box<Node>) -> (Tree, Box<Node>, Tree)
     ensures left { result.0 ≡ node.value.left }
@@ -83,7 +94,7 @@ fn fork(mut node: Box<Node>, left: Tree, right: Tree) -> Tree
     ensures alarms { alarms result ≡ alarms left ++ node.value.alarm ∷ alarms right }
     ensures sound { IsSound result }
 {
-    node.soonest = node.alarm.tick.min(left.soonest()).min(right.soonest());
+    node.soonest = soonest_of(&left, node.alarm, &right);
     node.left = left;
     node.right = right;
     Tree::Fork(node)
@@ -168,9 +179,8 @@ fn crown(tree: Tree, alarm: Alarm, rank: u32, spare: &mut Vec<Box<Node>>) -> Tre
     requires sound { IsSound tree }
     requires rising { Rises (alarms tree) }
     requires nodes { vec_len spare.old + length (alarms tree) ≤ vec_capacity spare.old }
-    requires room { let others = length (before alarm.due (alarms tree)) + length (behind alarm.due (alarms tree))
-        in others < vec_len spare.old + length (alarms tree) }
-    ensures alarms { alarms result ≡ before alarm.due (alarms tree) ++ alarm ∷ behind alarm.due (alarms tree) }
+    requires room { count_beside alarm.due (alarms tree) < vec_len spare.old + length (alarms tree) }
+    ensures alarms { alarms result ≡ with_alarm alarm (alarms tree) }
     ensures sound { IsSound result }
     ensures nodes { vec_len spare.new + length (alarms result) ≡ vec_len spare.old + length (alarms tree) }
     ensures capacity { vec_capacity spare.new ≡ vec_capacity spare.old }
@@ -188,9 +198,8 @@ pub(crate) fn with(tree: Tree, alarm: Alarm, rank: u32, spare: &mut Vec<Box<Node
     requires sound { IsSound tree }
     requires rising { Rises (alarms tree) }
     requires nodes { vec_len spare.old + length (alarms tree) ≤ vec_capacity spare.old }
-    requires room { let others = length (before alarm.due (alarms tree)) + length (behind alarm.due (alarms tree))
-        in others < vec_len spare.old + length (alarms tree) }
-    ensures alarms { alarms result.0 ≡ before alarm.due (alarms tree) ++ alarm ∷ behind alarm.due (alarms tree) }
+    requires room { count_beside alarm.due (alarms tree) < vec_len spare.old + length (alarms tree) }
+    ensures alarms { alarms result.0 ≡ with_alarm alarm (alarms tree) }
     ensures sound { IsSound result.0 }
     ensures nodes { vec_len spare.new + length (alarms result.0) ≡ vec_len spare.old + length (alarms tree) }
     ensures capacity { vec_capacity spare.new ≡ vec_capacity spare.old }
@@ -245,6 +254,32 @@ pub(crate) fn without(tree: Tree, due: Due, spare: &mut Vec<Box<Node>>) -> (Tree
     }
 }
 
+/// A node with these sides; or the sides alone, where its timer fires up to this tick, and the node becomes spare.
+fn fork_unless_due(
+    node: Box<Node>,
+    left: Tree,
+    right: Tree,
+    tick: u64,
+    spare: &mut Vec<Box<Node>>,
+) -> Tree
+    requires left { IsSound left }
+    requires right { IsSound right }
+    requires room { vec_len spare.old < vec_capacity spare.old }
+    ensures alarms { let own = filter (not_fires tick) (node.value.alarm ∷ [])
+        in alarms result ≡ alarms left ++ own ++ alarms right }
+    ensures sound { IsSound result }
+    ensures nodes { let own = filter (not_fires tick) (node.value.alarm ∷ [])
+        in vec_len spare.new + length own ≡ vec_len spare.old + 1 }
+    ensures capacity { vec_capacity spare.new ≡ vec_capacity spare.old }
+{
+    if node.alarm.tick <= tick {
+        spare.push_reserved(node);
+        join(left, right)
+    } else {
+        fork(node, left, right)
+    }
+}
+
 /// Drops the timers that fire up to this tick. Their nodes become spare.
 #[tactic(auto, using(crate::proofs::Order::all_stay))]
 pub(crate) fn without_due(tree: Tree, tick: u64, spare: &mut Vec<Box<Node>>) -> Tree
@@ -264,55 +299,45 @@ pub(crate) fn without_due(tree: Tree, tick: u64, spare: &mut Vec<Box<Node>>) -> 
             let (left, node, right) = open(node);
             let left = without_due(left, tick, spare);
             let right = without_due(right, tick, spare);
-            if node.alarm.tick <= tick {
-                spare.push_reserved(node);
-                join(left, right)
-            } else {
-                fork(node, left, right)
-            }
+            fork_unless_due(node, left, right, tick, spare)
         }
     }
 }
 
-/// How many timers fire up to this tick.
+/// Puts the timers that fire up to this tick at the end of a list.
 #[tactic(auto, using(crate::proofs::Order::none_fires))]
-pub(crate) fn count_due(tree: &Tree, tick: u64) -> usize
+pub(crate) fn list_due(tree: &Tree, tick: u64, list: &mut Vec<Due>) -> Result<(), Memory>
     requires sound { IsSound tree.now }
-    requires few { length (alarms tree.now) < 2 ^ 64 }
-    ensures { result ≡ length (due_by tick (alarms tree.now)) }
+    ensures { OnOk result (list.new.items ≡ list.old.items ++ due_by tick (alarms tree.now)) }
 {
-    let Tree::Fork(node) = tree else {
-        return 0;
-    };
-    if node.soonest > tick {
-        return 0;
+    if let Tree::Fork(node) = tree {
+        if node.soonest > tick {
+            return Ok(());
+        }
+        list_due(&node.left, tick, list)?;
+        if node.alarm.tick <= tick {
+            list.push(node.alarm.due)?;
+        }
+        list_due(&node.right, tick, list)?;
     }
-    let beside = count_due(&node.left, tick) + count_due(&node.right, tick);
-    if node.alarm.tick <= tick {
-        beside + 1
-    } else {
-        beside
-    }
+    Ok(())
 }
 
-/// Puts the timers that fire up to this tick at the end of a list, which has room for them.
-#[tactic(auto, using(crate::proofs::Order::none_fires))]
-pub(crate) fn list_due(tree: &Tree, tick: u64, list: &mut Vec<Due>)
-    requires sound { IsSound tree.now }
-    requires room { let due = due_by tick (alarms tree.now) in vec_len list.old + length due ≤ vec_capacity list.old }
-    ensures items { list.new.items ≡ list.old.items ++ due_by tick (alarms tree.now) }
-    ensures room { vec_len list.new ≡ vec_len list.old + length (due_by tick (alarms tree.now)) }
-    ensures capacity { vec_capacity list.new ≡ vec_capacity list.old }
+/// Starts the timers that fire up to this tick again from it, with twice their intervals, but no more than the most.
+pub(crate) fn start_again(tree: &mut Tree, tick: u64, most: u32)
+    requires sound { IsSound tree.old }
+    requires within { tick ≤ 2 ^ 63 }
+    ensures alarms { alarms tree.new ≡ map (started_again tick most) (alarms tree.old) }
+    ensures sound { IsSound tree.new }
 {
     if let Tree::Fork(node) = tree {
         if node.soonest > tick {
             return;
         }
-        list_due(&node.left, tick, list);
-        if node.alarm.tick <= tick {
-            list.push_reserved(node.alarm.due);
-        }
-        list_due(&node.right, tick, list);
+        start_again(&mut node.left, tick, most);
+        start_again(&mut node.right, tick, most);
+        node.alarm = node.alarm.started_again(tick, most);
+        node.soonest = soonest_of(&node.left, node.alarm, &node.right);
     }
 }
 

@@ -3,14 +3,14 @@
 //! has it: no clause speaks of the tree's depth, and timers whose ranks fall badly make it deeper. So is that of `due` and `advance` for each timer that is
 //! due; where none is, it is constant: where each timer fires is held as a tick that is counted from one beginning, so that a tick changes no timer that
 //! stays. Once in 2^63 ticks the count begins anew.
-ghost use Rattle.std.specs.Prelude.{◌≡◌, ◌<◌, ◌≤◌, ◌+◌, ◌^◌, [], length, max, vec_len, OnOk, OnErr};
+ghost use Rattle.std.specs.Prelude.{◌≡◌, ◌<◌, ◌≤◌, ◌+◌, ◌^◌, [], length, map, max, vec_len, IfOk, OnOk, OnErr};
 ghost use Rattle.std.specs.Vec.{vec_capacity};
-ghost use Rattle.timer_wheel.specs.Timers.{timer_of, others, with_timer, due_now, after_tick, IsRising, AreRunning};
+ghost use Rattle.timer_wheel.specs.Timers.{Armed, timer_of, others, with_armed, with_timer, with_interval, due_now, after_tick, after_tick_again, IsRising, AreRunning};
 ghost use Rattle.timer_wheel.specs.Inner.Tree.{alarms};
 ghost use Rattle.timer_wheel.specs.Inner.Turning.{armed_at, IsTurned};
 
-use crate::due::{Alarm, Due, DueList};
-use crate::tree::{Node, Tree, count_due, rank, recount, with, without, without_due};
+use crate::due::{Alarm, Due};
+use crate::tree::{Node, Tree, list_due, rank, recount, start_again, with, without, without_due};
 use relay_base::Memory;
 use std::alloc::Global;
 use std::marker::Model;
@@ -115,6 +115,22 @@ impl Wheel {
         self.tree = tree;
     }
 
+    /// Starts a timer, in the place of an earlier start.
+    fn start(&mut self, due: Due, ticks: u32, interval: u32)
+        requires ticks { 1 ≤ ticks }
+        requires room { length (others due self.old.armed) < self.old.room }
+        ensures { let armed : Armed = record { due = due; ticks = ticks; interval = interval }
+            in self.new ≡ record self.old { armed = with_armed armed self.old.armed } }
+    {
+        let alarm = Alarm {
+            due,
+            tick: self.passed + u64::from(ticks),
+            interval,
+        };
+        let (tree, _) = with(self.tree.take(), alarm, rank(due), &mut self.spare);
+        self.tree = tree;
+    }
+
     /// Starts a timer for so many ticks, in the place of an earlier start. There is room for it beside the others.
     pub fn arm(&mut self, conn: u32, timer: u8, ticks: u32)
         requires ticks { 1 ≤ ticks }
@@ -122,28 +138,27 @@ impl Wheel {
         ensures { let due = timer_of conn timer
             in self.new ≡ record self.old { armed = with_timer due ticks self.old.armed } }
     {
-        let due = Due { conn, timer };
-        let tick = self.passed + u64::from(ticks);
-        let alarm = Alarm { due, tick };
-        let (tree, _) = with(self.tree.take(), alarm, rank(due), &mut self.spare);
-        self.tree = tree;
+        self.start(Due { conn, timer }, ticks, ticks);
     }
 
-    /// How many timers the next tick makes due.
-    pub fn due_count(&self) -> usize
-        ensures { result ≡ length (due_now self.now.armed) }
+    /// Starts a timer for the ticks of an interval, but for one where they are none, in the place of an earlier start. There is room for it.
+    pub fn arm_interval(&mut self, conn: u32, timer: u8, interval: u32)
+        requires room { length (others (timer_of conn timer) self.old.armed) < self.old.room }
+        ensures { let due = timer_of conn timer
+            in self.new ≡ record self.old { armed = with_interval due interval self.old.armed } }
     {
-        count_due(&self.tree, self.passed + 1)
+        self.start(Due { conn, timer }, interval.max(1), interval);
     }
 
-    /// Gives the timers that the next tick makes due, by rising connection and timer. The list has room for them, as one has with room for all that run.
-    pub fn due(&self, list: &mut DueList)
-        requires room { length (due_now self.now.armed) ≤ list.old.room }
-        ensures value { list.new ≡ record list.old { timers = due_now self.now.armed } }
+    /// The timers that the next tick makes due, by rising connection and timer.
+    pub fn due(&self, alloc: Global) -> Result<Vec<Due>, Memory>
+        ensures value { IfOk result (λ due. due.items ≡ due_now self.now.armed) }
         ensures rising { IsRising self.now.armed }
         ensures running { AreRunning self.now.armed }
     {
-        list.fill(&self.tree, self.passed + 1);
+        let mut list = Vec::new(alloc);
+        list_due(&self.tree, self.passed + 1, &mut list)?;
+        Ok(list)
     }
 
     /// Takes a tick, and drops the timers that it makes due.
@@ -152,6 +167,15 @@ impl Wheel {
     {
         self.passed = counted_anew(&mut self.tree, self.passed) + 1;
         self.tree = without_due(self.tree.take(), self.passed, &mut self.spare);
+    }
+
+    /// Takes a tick, and starts the timers that it makes due again, with twice their intervals, but no more than the most.
+    pub fn advance_again(&mut self, most: u32)
+        ensures value { self.new ≡ record self.old { armed = map (after_tick_again most) self.old.armed } }
+        ensures running { AreRunning self.old.armed }
+    {
+        self.passed = counted_anew(&mut self.tree, self.passed) + 1;
+        start_again(&mut self.tree, self.passed, most);
     }
 }
 

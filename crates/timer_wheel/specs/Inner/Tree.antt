@@ -1,5 +1,5 @@
 -- What a tree of timers holds.
-use Rattle.std.specs.Prelude.{◌≡◌, nat_le, ℕ, ◌-◌, ◌≤◌, Bool, not, List, [], ◌∷◌, ◌++◌, All, AllPairs, filter, map, true}
+use Rattle.std.specs.Prelude.{◌≡◌, nat_le, ℕ, ◌+◌, ◌-◌, ◌*◌, ◌≤◌, max, min, if◌then◌else◌, Bool, not, List, [], ◌∷◌, ◌++◌, All, AllPairs, filter, length, map, true}
 use Rattle.timer_wheel.specs.declared.due.Due.{Due}
 use Rattle.timer_wheel.specs.declared.due.Alarm.{Alarm}
 use Rattle.timer_wheel.specs.declared.tree.Tree.{Tree}
@@ -24,6 +24,14 @@ before due list = filter (λ a. is_before a.due due) list
 abbrev pub behind : Due → List Alarm → List Alarm
 behind due list = filter (λ a. is_before due a.due) list
 
+-- how many others there are
+abbrev pub count_beside : Due → List Alarm → ℕ
+count_beside due list = length (before due list) + length (behind due list)
+
+-- this timer between those before it and those behind it
+abbrev pub with_alarm : Alarm → List Alarm → List Alarm
+with_alarm alarm list = before alarm.due list ++ alarm ∷ behind alarm.due list
+
 -- up to this tick
 abbrev pub fires : ℕ → Alarm → Bool
 fires tick alarm = nat_le alarm.tick tick
@@ -41,3 +49,14 @@ Rises = AllPairs (λ earlier later. is_before earlier.due later.due ≡ true)
 -- the same timer where ticks are counted from so many later
 abbrev pub recounted : ℕ → Alarm → Alarm
 recounted ticks alarm = record alarm { tick = alarm.tick - ticks }
+
+-- a timer that fires up to this tick, started again from it with twice its interval, but no more than the most
+abbrev pub tick_again : ℕ → ℕ → Alarm → ℕ
+tick_again tick most alarm = if fires tick alarm then tick + max 1 (min (2 * alarm.interval) most) else alarm.tick
+
+abbrev pub interval_again : ℕ → ℕ → Alarm → ℕ
+interval_again tick most alarm = if fires tick alarm then min (2 * alarm.interval) most else alarm.interval
+
+abbrev pub started_again : ℕ → ℕ → Alarm → Alarm
+started_again tick most alarm =
+    record { due = alarm.due; tick = tick_again tick most alarm; interval = interval_again tick most alarm }

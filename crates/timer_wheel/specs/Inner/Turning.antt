@@ -6,7 +6,7 @@ use Rattle.timer_wheel.specs.Timers.{Armed}
 use Rattle.timer_wheel.specs.Inner.Tree.{alarms, IsSound, Rises}
 
 abbrev pub left_at : ℕ → Alarm → Armed
-left_at now alarm = record { due = alarm.due; ticks = alarm.tick - now }
+left_at now alarm = record { due = alarm.due; ticks = alarm.tick - now; interval = alarm.interval }
 
 -- all running timers, with what is left of each
 abbrev pub armed_at : ℕ → List Alarm → List Armed
