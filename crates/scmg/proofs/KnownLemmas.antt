@@ -3,9 +3,7 @@ use Rattle.std.proofs.Common.{◌≡◌, ℕ, ◌+◌, ◌==◌, Bool, true, fal
 use Rattle.std.specs.Prelude.{◌&&◌, ◌||◌}
 use Rattle.std.specs.List.{range_with_len}
 use Rattle.std.proofs.lemmas.Bool.{cases_Bool, eqb-true, eqb-false, ne_eqb}
-use Rattle.std.proofs.lemmas.List.{map-append}
 use Rattle.std.proofs.lemmas.List.Elements.{filter-append}
-use Rattle.relay_base.specs.declared.words.Output.{Output}
 use Rattle.relay_base.specs.declared.words.Output.TheVariants.{Told}
 use Rattle.relay_base.specs.declared.words.Tell.{Tell}
 use Rattle.plant_core.specs.declared.change.Change.{Change}
@@ -13,9 +11,11 @@ use Rattle.plant_core.specs.declared.change.Change.TheVariants.{AddRow, DelRow, 
 use Rattle.plant_core.specs.declared.change.Group.{Group}
 use Rattle.plant_core.specs.Plant.{RoutingData, is_among}
 use Rattle.plant_core.proofs.MemberLemmas.{any-append}
+use Rattle.plant_core.proofs.GroupLemmas.{users_all}
 use Rattle.plant_core.specs.Changes.{but_for, with_number, group_verdict, is_alters, changed, changed_all, plant_after}
 use Rattle.scmg.specs.declared.head.ControlHead.{ControlHead}
-use Rattle.scmg.specs.Control.{subsystems, is_told, told_among, told_all, made_known, to_concerned, only_among, known_by}
+use Rattle.scmg.specs.Inner.Kept.{in_order}
+use Rattle.scmg.specs.Control.{subsystems, is_about, is_told, told_among, told_all, made_known, to_concerned, only_among, known_by}
 
 -- numbers up to one more
 range-past : (a n : ℕ) → range_with_len a (n + 1) ≡ range_with_len a n ++ (a + n) ∷ []
@@ -28,24 +28,33 @@ range-past a (suc n) =
 range-more : (n : ℕ) → range_with_len 0 (n + 1) ≡ range_with_len 0 n ++ n ∷ []
 range-more n = let e : 0 + n ≡ n = omega arith in range-past 0 n ∙ ap (λ m. range_with_len 0 n ++ m ∷ []) e
 
-told-parts : (p : RoutingData) (subject : Option ℕ) (t : Tell) (n : ℕ)
-    → told_among p subject t (range_with_len 0 (n + 1)) ≡ told_among p subject t (range_with_len 0 n) ++ told_among p subject t (n ∷ [])
-told-parts p subject t n =
-    let f : ℕ → Output = λ ssn. Told ssn t in
-    ap (told_among p subject t) (range-more n)
-    ∙ ap (map f) (filter-append (is_told p subject) (range_with_len 0 n) (n ∷ []))
-    ∙ map-append f (filter (is_told p subject) (range_with_len 0 n)) (filter (is_told p subject) (n ∷ []))
+one-past : (p : ℕ → Bool) (n : ℕ) → filter p (range_with_len 0 (n + 1)) ≡ filter p (range_with_len 0 n) ++ filter p (n ∷ [])
+one-past p n = ap (filter p) (range-more n) ∙ filter-append p (range_with_len 0 n) (n ∷ [])
 
--- one more user is told, or passed over
-pub told-more : (p : RoutingData) (subject : Option ℕ) (t : Tell) (n : ℕ) → is_told p subject n ≡ true
-    → told_among p subject t (range_with_len 0 (n + 1)) ≡ told_among p subject t (range_with_len 0 n) ++ Told n t ∷ []
-told-more p subject t n e = told-parts p subject t n ∙ ap (λ b. told_among p subject t (range_with_len 0 n) ++ map (λ ssn. Told ssn t) (cond b (n ∷ []) [])) e
+-- one more number passes, or is passed over
+pub one-more : (p : ℕ → Bool) (n : ℕ) → p n ≡ true → filter p (range_with_len 0 (n + 1)) ≡ filter p (range_with_len 0 n) ++ n ∷ []
+one-more p n e = one-past p n ∙ ap (λ b. filter p (range_with_len 0 n) ++ cond b (n ∷ []) []) e
 
-pub told-as-before : (p : RoutingData) (subject : Option ℕ) (t : Tell) (n : ℕ) → is_told p subject n ≡ false
-    → told_among p subject t (range_with_len 0 (n + 1)) ≡ told_among p subject t (range_with_len 0 n)
-told-as-before p subject t n e =
-    told-parts p subject t n ∙ ap (λ b. told_among p subject t (range_with_len 0 n) ++ map (λ ssn. Told ssn t) (cond b (n ∷ []) [])) e
-    ∙ append-nil (told_among p subject t (range_with_len 0 n))
+pub none-more : (p : ℕ → Bool) (n : ℕ) → p n ≡ false → filter p (range_with_len 0 (n + 1)) ≡ filter p (range_with_len 0 n)
+none-more p n e = one-past p n ∙ ap (λ b. filter p (range_with_len 0 n) ++ cond b (n ∷ []) []) e ∙ append-nil (filter p (range_with_len 0 n))
+
+-- none but users are told
+told-within : (p : RoutingData) (subject : Option ℕ) (xs : List ℕ)
+    → filter (is_told p subject) (filter (λ ssn. is_among ssn p.users) xs) ≡ filter (is_told p subject) xs
+told-within p subject [] = refl
+told-within p subject (x ∷ xs) =
+    by (is_among x p.users) (not (is_among x p.out_of_service)) (not (is_about subject x)) refl (told-within p subject xs)
+  where
+    others : List ℕ
+    others = filter (λ ssn. is_among ssn p.users) xs
+
+    by : (a b c : Bool) → is_told p subject x ≡ ((a && b) && c) → filter (is_told p subject) others ≡ filter (is_told p subject) xs
+        → filter (is_told p subject) (cond a (x ∷ others) others) ≡ cond ((a && b) && c) (x ∷ filter (is_told p subject) xs) (filter (is_told p subject) xs)
+    by true b c is rest = ap (λ t. cond t (x ∷ filter (is_told p subject) others) (filter (is_told p subject) others)) is ∙ ap (λ l. cond ((true && b) && c) (x ∷ l) l) rest
+    by false b c is rest = rest
+
+pub told-in-order : (p : RoutingData) (subject : Option ℕ) (t : Tell) → told_among p subject t (in_order p.users) ≡ told_all p subject t
+told-in-order p subject t = ap (map (λ ssn. Told ssn t)) (told-within p subject subsystems)
 
 -- two routing data with the same users in service but for the subject tell the same
 record ServeAlike (ssn : ℕ) (p q : RoutingData) : Type 0 where
@@ -126,6 +135,10 @@ after-group P p group with_it without =
     (λ (t : is_alters (group_verdict p group) ≡ true). rw t with_it)
     (λ (t : is_alters (group_verdict p group) ≡ false). rw t without)
     (cases_Bool (is_alters (group_verdict p group)))
+
+-- the users stay
+pub users-after : (p : RoutingData) (group : Group) → (plant_after p group).users ≡ p.users
+users-after p group = after-group (λ q. q.users ≡ p.users) p group (users_all p group.changes) refl
 
 known-changed : (head : ControlHead) (p : RoutingData) (change : Change) → made_known head (changed p change) change ≡ made_known head p change
 unfolding changed

@@ -1,4 +1,3 @@
-pub mod IntervalLemmas
 pub mod JournalLemmas
 pub mod KnownLemmas
 pub mod TestLemmas

@@ -7,16 +7,14 @@ use Rattle.plant_core.proofs.entry.ControlEntry.TheSendSync.{the_send as entry_s
 use Rattle.plant_core.proofs.plant.Plant.TheSendSync.{the_send as plant_send}
 use Rattle.plant_core.proofs.statuses.RemoteSubsystem.TheSendSync.{the_send as remote_send}
 use Rattle.timer_wheel.proofs.Sent.{wheel_send}
-use Rattle.timer_wheel.proofs.due.DueList.TheSendSync.{the_send as due_send}
 use Rattle.scmg.proofs.head.ControlHead.TheSendSync.{the_send as head_send}
-use Rattle.scmg.proofs.intervals.Intervals.TheSendSync.{the_send as intervals_send}
 use Rattle.scmg.proofs.timed.Coordination.TheSendSync.{the_send as coordination_send}
 use Rattle.scmg.specs.contracts.status_tests.StatusTests as StatusTests
 use Rattle.scmg.specs.contracts.kept.Kept as Kept
 use Rattle.scmg.specs.contracts.lane.ControlLane as ControlLane
 
 tests_send : IsSend StatusTests.the_row
-tests_send = search (sendable, crosses, wheel_send, intervals_send, due_send) depth 60 fits 20000
+tests_send = search (sendable, crosses, wheel_send) depth 60 fits 20000
 
 kept_send : IsSend Kept.the_row
 kept_send = search (sendable, crosses, plant_send, remote_send, coordination_send, tests_send) depth 60 fits 20000

@@ -26,7 +26,6 @@ use Rattle.plant_core.specs.declared.terms.Ticks.{Ticks}
 use Rattle.plant_core.specs.Plant.{RoutingData, is_same_subsystem, is_in_service}
 use Rattle.plant_core.specs.Changes.{verdict_on, is_alters, alone, group_verdict, plant_after, plant_after_all}
 use Rattle.scmg.specs.declared.head.ControlHead.{ControlHead}
-use Rattle.scmg.specs.declared.timed.StatusTest.{StatusTest}
 use Rattle.scmg.specs.declared.timed.Coordination.{Coordination}
 use Rattle.scmg.specs.declared.effect.Act.{Act}
 use Rattle.scmg.specs.declared.effect.Act.TheVariants.{Nothing, Publish, Remember, Forget, Begin, End, Tick}
@@ -35,6 +34,14 @@ use Rattle.scmg_messages.specs.declared.message.Format.{Format}
 use Rattle.scmg_messages.specs.declared.message.Format.TheVariants.{Allowed, Prohibited, StatusTest as Tested, OutOfServiceRequest, OutOfServiceGrant}
 use Rattle.scmg_messages.specs.declared.message.Notice.{Notice}
 use Rattle.scmg_messages.specs.Messages.{sent, notice_in, data_in}
+
+-- The test of a subsystem of another point that is out of service: the ticks that go by before the one that sends it, and how many it was armed
+-- with (Q.714, 5.3.4).
+pub record StatusTest : Type 0 where
+  pub point : ℕ
+  pub ssn : ℕ
+  pub left : ℕ
+  pub interval : ℕ
 
 -- What the control lane keeps: the routing data; the status tests, by rising point and subsystem; the coordinated changes that were asked for,
 -- by rising subsystem; and the requests to go out of service that a user may still grant.
@@ -224,14 +231,17 @@ is_due_test t = t.left == 0
 abbrev pub is_due_coordination : Coordination → Bool
 is_due_coordination x = nat_le x.left 1
 
-abbrev pub test_sent : StatusTest → Output
-test_sent t = sent t.point Tested t.ssn t.point
+abbrev pub subsystem_of : StatusTest → RemoteSubsystem
+subsystem_of t = record { point = t.point; ssn = t.ssn }
+
+abbrev pub test_sent : RemoteSubsystem → Output
+test_sent s = sent s.point Tested s.ssn s.point
 
 abbrev pub denied : Coordination → Output
 denied x = Told x.ssn (tell.Denied x.point)
 
 abbrev pub tests_sent : List StatusTest → List Output
-tests_sent tests = map test_sent (filter is_due_test tests)
+tests_sent tests = map test_sent (map subsystem_of (filter is_due_test tests))
 
 abbrev pub ticks : Control → Effect
 ticks c = record { outs = tests_sent c.tests ++ map denied (filter is_due_coordination c.coordinations); act = Tick }

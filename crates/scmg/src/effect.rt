@@ -7,7 +7,7 @@ use crate::groups::is_by_operator;
 use crate::head::ControlHead;
 use crate::kept::Kept;
 use crate::known::known_by;
-use crate::timed::{Coordination, StatusTest};
+use crate::timed::Coordination;
 use plant_core::{Change, ControlEvent, Group, RemoteSubsystem, Replicate, Verdict};
 use relay_base::{Event, Lost, Memory, Output, Outs, Pc, Reason, Request, Ssn, Tell};
 use scmg_messages::{Format, Notice, data_in, notice_in, sent};
@@ -114,19 +114,19 @@ fn replicate_of(head: &ControlHead, ssn: Ssn) -> Option<Replicate>
     None
 }
 
-fn test_sent(alloc: Global, test: &StatusTest) -> Result<Output, Memory>
-    ensures { IfOk result (λ output. output ≡ test_sent test.now) }
+fn test_sent(alloc: Global, to: &RemoteSubsystem) -> Result<Output, Memory>
+    ensures { IfOk result (λ output. output ≡ test_sent to.now) }
 {
-    sent(alloc, test.point, Format::StatusTest, test.ssn, test.point)
+    sent(alloc, to.point, Format::StatusTest, to.ssn, to.point)
 }
 
 /// The status tests that are due, by rising point and subsystem (Q.714, 5.3.4).
-fn tests_sent(alloc: Global, due: &[StatusTest]) -> Result<Outs, Memory>
+fn tests_sent(alloc: Global, due: &[RemoteSubsystem]) -> Result<Outs, Memory>
     ensures { IfOk result (λ outs. outs ≡ map test_sent due.now) }
 {
     let mut outs = Vec::with_capacity(alloc, due.len())?;
-    for test in due {
-        outs.push(test_sent(alloc, test)?)?;
+    for to in due {
+        outs.push(test_sent(alloc, to)?)?;
     }
     Ok(Outs::from(outs))
 }
@@ -168,7 +168,7 @@ impl Context<'_> {
             in IfOk result (λ effect. effect ≡ publishes head kept.routing group) }
     {
         Ok(Effect {
-            outs: known_by(self.alloc, self.head, self.kept.plant(), &group)?,
+            outs: known_by(self.alloc, self.head, self.kept, &group)?,
             act: Act::Publish(group),
         })
     }

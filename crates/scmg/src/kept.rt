@@ -1,33 +1,34 @@
 //! What the control lane keeps, and what an act does with it (Q.714, 5.2 and 5.3).
-ghost use Rattle.std.specs.Prelude.{◌≡◌, ◌+◌, ◌^◌, ◌<◌, ◌≤◌, filter, vec_len, Some, IsTrue, IsOk, IfOk, OnOk};
+ghost use Rattle.std.specs.Prelude.{◌≡◌, ◌+◌, ◌^◌, ◌<◌, ◌≤◌, filter, map, vec_len, Some, IsTrue, IsOk, IfOk, OnOk};
 ghost use Rattle.std.specs.Vec.{vec_capacity};
-ghost use Rattle.scmg.specs.Control.{is_due_test, tests_after, without_grant, with_grant};
-ghost use Rattle.scmg.specs.Inner.Kept.{HasPlantRoom, HasRoomToDo};
+ghost use Rattle.scmg.specs.Control.{is_due_test, subsystem_of, tests_after, without_grant, with_grant};
+ghost use Rattle.scmg.specs.Inner.Kept.{in_order, HasPlantRoom, HasRoomToDo};
 
 use crate::effect::Act;
 use crate::groups::only_among;
+use crate::known::in_order;
 use crate::status_tests::StatusTests;
-use crate::timed::{
-    Coordination, StatusTest, drop_coordination, put_coordination, tick_coordinations,
-};
+use crate::timed::{Coordination, drop_coordination, put_coordination, tick_coordinations};
 use plant_core::{Change, Group, Plant, RemoteSubsystem, Replicate, Ticks};
 use relay_base::{Memory, Pc, Ssn};
 use std::alloc::Global;
 use std::marker::Model;
 
-/// The routing data, the status tests, the coordinated changes under way, and the requests that a user may grant.
+/// The routing data with their users in order, the status tests, the coordinated changes under way, and the requests that a user may grant.
 #[derive(Drop)]
 pub struct Kept {
     plant: Plant,
+    /// The users by rising number.
+    users: Vec<Ssn>,
     tests: StatusTests,
     coordinations: Vec<Coordination>,
     grants: Vec<RemoteSubsystem>,
 }
 
 impl Model for Kept {
-    ghost use Rattle.std.specs.Prelude.{◌&&◌, nat_lt, vec_len};
+    ghost use Rattle.std.specs.Prelude.{◌≡◌, ◌&&◌, nat_lt, vec_len};
     ghost use Rattle.std.specs.Vec.{vec_capacity};
-    ghost use Rattle.scmg.specs.Inner.Kept.{KeptState};
+    ghost use Rattle.scmg.specs.Inner.Kept.{KeptState, in_order};
 
     ghost Value = { KeptState };
 
@@ -43,6 +44,8 @@ impl Model for Kept {
           && nat_lt (vec_len k.coordinations) (vec_capacity k.coordinations)
           && nat_lt (vec_len k.grants) (vec_capacity k.grants);
     } };
+
+    ghost invariant = { λ k. k.users.items ≡ in_order k.plant.routing.users };
 }
 
 /// Takes memory for what an act does with the routing data.
@@ -92,17 +95,19 @@ impl Kept {
     ghost use Rattle.scmg.specs.declared.effect.Act.TheVariants.{Publish, Begin};
     ghost use Rattle.plant_core.specs.Changes.{HasRoomFor};
 
-    /// What is kept at the start, with these routing data.
-    pub fn start(alloc: Global, plant: Plant) -> Kept
-        ensures control { result.control ≡ start_of_control plant.routing }
-        ensures edition { result.plant.edition ≡ plant.edition }
+    /// What is kept at the start, with these routing data and their users.
+    pub fn start(alloc: Global, users: &[Ssn], plant: Plant) -> Result<Kept, Memory>
+        requires users { plant.routing.users ≡ users.now }
+        ensures control { IfOk result (λ kept. kept.control ≡ start_of_control plant.routing) }
+        ensures edition { IfOk result (λ kept. kept.plant.edition ≡ plant.edition) }
     {
-        Kept {
+        Ok(Kept {
             plant,
+            users: in_order(alloc, users)?,
             tests: StatusTests::new(alloc),
             coordinations: Vec::new(alloc),
             grants: Vec::new(alloc),
-        }
+        })
     }
 
     /// The routing data.
@@ -113,9 +118,17 @@ impl Kept {
         &self.plant
     }
 
-    /// The status tests that the next tick sends, by rising point and subsystem.
-    pub fn due_tests(&self, alloc: Global) -> Result<Vec<StatusTest>, Memory>
-        ensures { IfOk result (λ due. due.items ≡ filter is_due_test self.now.control.tests) }
+    /// The users, each once, by rising number.
+    pub fn users(&self) -> &[Ssn]
+        ensures { result.now ≡ in_order self.now.control.routing.users }
+    {
+        self.users.as_slice()
+    }
+
+    /// The subsystems to which the next tick sends tests, by rising point and subsystem.
+    pub fn due_tests(&self, alloc: Global) -> Result<Vec<RemoteSubsystem>, Memory>
+        ensures { let due = filter is_due_test self.now.control.tests
+            in IfOk result (λ subsystems. subsystems.items ≡ map subsystem_of due) }
     {
         self.tests.due(alloc)
     }

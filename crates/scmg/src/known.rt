@@ -1,9 +1,11 @@
 //! What a change of the routing data makes known (Q.714, 5.2 and 5.3).
 ghost use Rattle.std.specs.Prelude.{◌≡◌, ◌++◌, IfOk};
-ghost use Rattle.scmg.specs.Control.{is_told, told_all, service_format, to_concerned, service_known, made_known, only_among, known_by};
+ghost use Rattle.scmg.specs.Control.{is_told, told_among, told_all, service_format, to_concerned, service_known, made_known, only_among, known_by};
+ghost use Rattle.scmg.specs.Inner.Kept.{in_order};
 
 use crate::groups::only_among;
 use crate::head::ControlHead;
+use crate::kept::Kept;
 use plant_core::{Change, Group, Plant};
 use relay_base::limits::SUBSYSTEM_NUMBERS;
 use relay_base::{Memory, Output, Outs, Ssn, Tell};
@@ -23,21 +25,49 @@ fn is_told(plant: &Plant, subject: Option<Ssn>, ssn: Ssn) -> bool
     plant.is_in_service(ssn) && subject != Some(ssn)
 }
 
-/// Tells the users in service, by rising number, but not the one that it is about.
-fn told_all(alloc: Global, plant: &Plant, subject: Option<Ssn>, tell: &Tell) -> Result<Outs, Memory>
-    ensures { IfOk result (λ outs. outs ≡ told_all plant.now.routing subject tell.now) }
+/// The users, each once, by rising number.
+pub fn in_order(alloc: Global, users: &[Ssn]) -> Result<Vec<Ssn>, Memory>
+    ensures { IfOk result (λ list. list.items ≡ in_order users.now) }
 {
-    let mut outs = Outs::new(alloc);
+    let mut list = Vec::new(alloc);
     for number in 0..SUBSYSTEM_NUMBERS {
         let ssn = Ssn::from(number as u8);
-        if is_told(plant, subject, ssn) {
+        if users.contains(&ssn) {
+            list.push(ssn)?;
+        }
+    }
+    Ok(list)
+}
+
+/// Tells those of some users that are in service, but not the one that it is about.
+fn told_among(
+    alloc: Global,
+    plant: &Plant,
+    users: &[Ssn],
+    subject: Option<Ssn>,
+    tell: &Tell,
+) -> Result<Outs, Memory>
+    ensures { let told = told_among plant.now.routing subject tell.now users.now
+        in IfOk result (λ outs. outs ≡ told) }
+{
+    let mut outs = Outs::new(alloc);
+    for ssn in users {
+        if is_told(plant, subject, *ssn) {
             outs.push(Output::Told {
-                ssn,
+                ssn: *ssn,
                 tell: copy_of(tell)?,
             })?;
         }
     }
     Ok(outs)
+}
+
+/// Tells the users in service, by rising number, but not the one that it is about.
+fn told_all(alloc: Global, kept: &Kept, subject: Option<Ssn>, tell: &Tell) -> Result<Outs, Memory>
+    ensures { let routing = kept.now.control.routing
+        in IfOk result (λ outs. outs ≡ told_all routing subject tell.now) }
+{
+    told_among(alloc, kept.plant(), kept.users(), subject, tell)
 }
 
 /// SSA or SSP.
@@ -72,18 +102,19 @@ fn tell_concerned(
 fn service_known(
     alloc: Global,
     head: &ControlHead,
-    plant: &Plant,
+    kept: &Kept,
     up: bool,
     ssn: Ssn,
 ) -> Result<Outs, Memory>
-    ensures { IfOk result (λ outs. outs ≡ service_known head.now plant.now.routing up ssn) }
+    ensures { IfOk result (λ outs. outs ≡ service_known head.now kept.now.control.routing up ssn) }
 {
+    let plant = kept.plant();
     let tell = Tell::State {
         ssn,
         point: plant.own(),
         up,
     };
-    let outs = told_all(alloc, plant, Some(ssn), &tell)?;
+    let outs = told_all(alloc, kept, Some(ssn), &tell)?;
     tell_concerned(alloc, head, plant, up, ssn, outs)
 }
 
@@ -91,10 +122,10 @@ fn service_known(
 fn made_known(
     alloc: Global,
     head: &ControlHead,
-    plant: &Plant,
+    kept: &Kept,
     change: Change,
 ) -> Result<Outs, Memory>
-    ensures { IfOk result (λ outs. outs ≡ made_known head.now plant.now.routing change) }
+    ensures { IfOk result (λ outs. outs ≡ made_known head.now kept.now.control.routing change) }
 {
     let tell = match change {
         Change::AddRow(_) | Change::DelRow(_, _) => return Ok(Outs::new(alloc)),
@@ -110,24 +141,24 @@ fn made_known(
             point,
             up: true,
         },
-        Change::LocalUp(ssn) => return service_known(alloc, head, plant, true, ssn),
-        Change::LocalDown(ssn) => return service_known(alloc, head, plant, false, ssn),
+        Change::LocalUp(ssn) => return service_known(alloc, head, kept, true, ssn),
+        Change::LocalDown(ssn) => return service_known(alloc, head, kept, false, ssn),
     };
-    told_all(alloc, plant, None, &tell)
+    told_all(alloc, kept, None, &tell)
 }
 
 /// What a group of changes makes known: that of its only change.
 pub fn known_by(
     alloc: Global,
     head: &ControlHead,
-    plant: &Plant,
+    kept: &Kept,
     group: &Group,
 ) -> Result<Outs, Memory>
     ensures { let change = only_among group.now.changes
-        in IfOk result (λ outs. outs ≡ known_by head.now plant.now.routing change) }
+        in IfOk result (λ outs. outs ≡ known_by head.now kept.now.control.routing change) }
 {
     match only_among(group) {
-        Some(change) => made_known(alloc, head, plant, change),
+        Some(change) => made_known(alloc, head, kept, change),
         None => Ok(Outs::new(alloc)),
     }
 }

@@ -178,11 +178,12 @@ impl ControlLane {
     {
         let head = copy_of(head)?;
         let start = Mark::after(&plant);
+        let kept = Kept::start(alloc, head.users.as_slice(), plant)?;
         Ok(ControlLane {
             alloc,
             head,
             journal: ControlList::new(alloc),
-            kept: Kept::start(alloc, plant),
+            kept,
             start,
         })
     }

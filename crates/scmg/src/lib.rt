@@ -4,7 +4,6 @@
 mod effect;
 mod groups;
 mod head;
-mod intervals;
 mod kept;
 mod known;
 mod lane;

@@ -5,16 +5,6 @@ ghost use Rattle.scmg.specs.Control.{is_due_coordination, is_coordination_before
 
 use relay_base::{Memory, Pc, Ssn};
 
-/// The test of a subsystem of another point that is out of service: the ticks that go by before the one that sends it, and how many it was
-/// armed with.
-#[derive(Clone, Copy)]
-pub struct StatusTest {
-    pub point: Pc,
-    pub ssn: Ssn,
-    pub left: u32,
-    pub interval: u32,
-}
-
 /// A coordinated change that a user asked for: the point of its replicate, and the ticks until it is denied.
 #[derive(Clone, Copy)]
 pub struct Coordination {

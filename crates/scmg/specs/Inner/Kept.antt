@@ -1,17 +1,21 @@
 -- What a control lane keeps beside its journal.
-use Rattle.std.specs.Prelude.{◌≡◌, Bool, List, [], ◌∷◌, length, IsTrue}
+use Rattle.std.specs.Prelude.{◌≡◌, ℕ, Bool, List, [], ◌∷◌, filter, length, IsTrue}
 use Rattle.plant_core.specs.declared.entry.ControlEntry.{ControlEntry}
-use Rattle.plant_core.specs.Plant.{RoutingData, PlantState}
+use Rattle.plant_core.specs.Plant.{RoutingData, PlantState, is_among}
 use Rattle.plant_core.specs.Changes.{HasRoomFor}
 use Rattle.scmg.specs.declared.effect.Act.{Act}
 use Rattle.scmg.specs.declared.effect.Act.TheVariants.{Publish}
 use Rattle.scmg.specs.declared.head.ControlHead.{ControlHead}
-use Rattle.scmg.specs.Control.{Control, start_of_control, after_entry, IsControlJournal, changes_in}
+use Rattle.scmg.specs.Control.{Control, subsystems, start_of_control, after_entry, IsControlJournal, changes_in}
 
 -- what the entries leave, one after another
 abbrev pub after_entries : ControlHead → Control → List ControlEntry → Control
 after_entries head c [] = c
 after_entries head c (entry ∷ more) = after_entries head (after_entry head c entry) more
+
+-- the users, each once, by rising number
+abbrev pub in_order : List ℕ → List ℕ
+in_order users = filter (λ ssn. is_among ssn users) subsystems
 
 -- what a lane keeps beside its journal: the state, the plant of its routing data, and whether the next act needs memory but in the plant
 pub record KeptState : Type 0 where

@@ -2,7 +2,6 @@ use Rattle.std.proofs.Common.{List, ◌∙◌, ap, sym}
 use Rattle.relay_base.specs.declared.words.Output.{Output}
 use Rattle.scmg.specs.declared.effect.Effect.{Effect}
 use Rattle.scmg.specs.declared.effect.Act.TheVariants.{Publish}
-use Rattle.scmg.specs.Control.{known_by, only_among}
 use Rattle.scmg.proofs.KnownLemmas.{known-after}
 use Rattle.scmg.proofs.effect.Context.publishes.Goals as goal
 
@@ -11,5 +10,4 @@ returns c =
     let effect : List Output → Effect = λ outs. record { outs = outs; act = Publish c.args.group } in
     let head = c.args.self.now.head.now in
     let routing = c.args.self.now.kept.now.control.routing in
-    let change = only_among c.args.group.changes in
-    ap effect (c.in_ok-known_by.ensures ∙ ap (λ p. known_by head p change) c.plant.ensures.routing ∙ sym (known-after head routing c.args.group))
+    ap effect (c.in_ok-known_by.ensures ∙ sym (known-after head routing c.args.group))
