@@ -44,7 +44,7 @@ kept_length p (x ∷ xs) = by_test (p x) refl (kept_length p xs)
 timer_is : (due : Due) (a : Armed) → is_timer due a ≡ true → a.due ≡ due
 timer_is due a is = grind (arith, is)
 
-own_timer : (due : Due) (ticks : ℕ) → is_timer due (record { due = due; ticks = ticks }) ≡ true
+own_timer : (due : Due) (ticks : ℕ) → is_timer due (record { due = due; ticks = ticks; interval = ticks }) ≡ true
 own_timer due ticks = grind arith
 
 other_timer : (due other : Due) (a : Armed) → (other ≡ due → ⊥) → is_timer other a ≡ true → is_timer due a ≡ false
@@ -66,7 +66,7 @@ stopped_other due other armed apart =
 
 started : (due : Due) (ticks : ℕ) (armed : List Armed) → ticks_of due (with_timer due ticks armed) ≡ ticks ∷ []
 started due ticks armed =
-    let new : Armed = record { due = due; ticks = ticks } in
+    let new : Armed = record { due = due; ticks = ticks; interval = ticks } in
     let own = own_timer due ticks in
     ap (map (λ (a : Armed). a.ticks))
     (filter-append (is_timer due) (before due armed) (new ∷ behind due armed)
@@ -80,7 +80,7 @@ started_other due other ticks armed apart =
     ap (map (λ (a : Armed). a.ticks)) (filter-append p (before due armed) (new ∷ behind due armed) ∙ (ap (λ xs. filter p (before due armed) ++ xs) passes ∙ by_order (is_before other due) refl))
   where
     new : Armed
-    new = record { due = due; ticks = ticks }
+    new = record { due = due; ticks = ticks; interval = ticks }
 
     p : Armed → Bool
     p = is_timer other
@@ -126,7 +126,7 @@ others_length due armed = kept_length (λ a. not (is_timer due a)) armed
 set_length : (due : Due) (left : Option ℕ) (armed : List Armed) → length (with_ticks due left armed) ≤ length armed + 1
 set_length due None armed = omega (arith, others_length due armed)
 set_length due (Some ticks) armed =
-    omega (arith, length-append (before due armed) (record { due = due; ticks = ticks } ∷ behind due armed), parted_length due armed)
+    omega (arith, length-append (before due armed) (record { due = due; ticks = ticks; interval = ticks } ∷ behind due armed), parted_length due armed)
 
 pub tick_length : (armed : List Armed) → length (after_tick armed) ≤ length armed
 tick_length armed =

@@ -10,7 +10,7 @@ use crate::kept::Kept;
 use relay_base::Memory;
 use section_coupling::TIMERS;
 use std::alloc::Global;
-use timer_wheel::{Due, DueList, Wheel};
+use timer_wheel::{Due, Wheel};
 
 /// The connections of timers that stand in order, each once.
 fn connections_of(alloc: Global, timers: &[Due]) -> Result<Vec<usize>, Memory>
@@ -33,10 +33,8 @@ fn connections_of(alloc: Global, timers: &[Due]) -> Result<Vec<usize>, Memory>
 pub fn due(alloc: Global, wheel: &Wheel) -> Result<Vec<usize>, Memory>
     ensures { IfOk result (λ numbers. AreConnections (due_now wheel.now.armed) numbers.items) }
 {
-    let mut list = DueList::new(alloc);
-    list.reserve(wheel.due_count())?;
-    wheel.due(&mut list);
-    connections_of(alloc, list.as_slice())
+    let timers = wheel.due(alloc)?;
+    connections_of(alloc, timers.as_slice())
 }
 
 /// The ticks that the wheel has for a timer which fires at this tick of its lane, where the lane took so many: one at least, and none beyond

@@ -1,4 +1,4 @@
-use Rattle.std.proofs.Common.{sym, subst, ap, ◌∙◌, arith}
+use Rattle.std.proofs.Common.{sym, subst, ◌∙◌, arith}
 use Rattle.conn_lane.specs.Inner.Wheels.{AreOrdered}
 use Rattle.conn_lane.proofs.Wheels.{due_ordered}
 use Rattle.conn_lane.proofs.waking.due.Goals as goal
@@ -6,6 +6,6 @@ use Rattle.conn_lane.proofs.waking.due.Goals as goal
 pub connections_of-requires : goal.connections_of-requires
 connections_of-requires c =
     record {
-      ordered = subst (AreOrdered 0) (sym (c.as_slice.ensures ∙ ap (λ v. v.timers) c.due.ensures.value))
-          (due_ordered 0 c.args.wheel.now.armed c.due.ensures.rising (λ k d below. omega arith));
+      ordered = subst (AreOrdered 0) (sym (c.as_slice.ensures.value ∙ c.in_ok-timers.ensures.value))
+          (due_ordered 0 c.args.wheel.now.armed c.in_ok-timers.ensures.rising (λ k d below. omega arith));
     }
