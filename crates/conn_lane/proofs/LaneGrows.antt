@@ -26,6 +26,8 @@ use Rattle.conn_lane.specs.Laws.{unheard}
 use Rattle.conn_lane.specs.Inner.Seated.{AreOrderly, reference_in}
 use Rattle.section_model.specs.Journals.{lane_of}
 use Rattle.conn_lane.specs.Lanes.{conn_asked_of}
+use Rattle.conn_lane.specs.Outcomes.{taken_by, IsOutcome}
+use Rattle.conn_lane.specs.declared.outcome.Outcome.{Outcome}
 use Rattle.conn_lane.specs.Inner.Views.{OpeningsState}
 use Rattle.conn_lane.specs.Inner.Turns.{opened_in, other_outs_in, outs_in, new_remnant, keeps_in, IsConnLane}
 use Rattle.conn_lane.specs.Inner.Grown.{StandsIn, Comes, Grows}
@@ -43,7 +45,7 @@ use Rattle.section_coupling.specs.Sound.{IsCredit}
 use Rattle.hearing_law.proofs.Opened.{EndsAre, AreAmong}
 use Rattle.conn_lane.specs.declared.change.Change.{Change}
 use Rattle.conn_lane.specs.declared.change.Change.TheVariants.{Nothing, Heard, Opened, Ticked}
-use Rattle.conn_lane.specs.Inner.Changes.{changed, Fits, Makes, Opens}
+use Rattle.conn_lane.specs.Inner.Changes.{changed, Fits, Makes, Opens, Takes, TakesNone, this_taken, that_taken}
 use Rattle.conn_lane.specs.Inner.Lowest.{lowest_of}
 use Rattle.conn_lane.specs.Inner.Stands.{IsPlaced, Stands, IsStanding}
 use Rattle.conn_lane.proofs.Opened.{TakesFirst, takes_first, Before, lowest_before, makes_opened}
@@ -286,6 +288,10 @@ opened_of : (head : LaneHead) (number : ℕ) (keeps : List Remnant) (o : Opening
 opened_of head number keeps o wish answer at =
     ap (opened head.terms wish answer) (lowest_are (lane_of head number) keeps o.slots o.owners (slots_needed wish answer) at.lane at.stands.uses at.stands.turns)
 
+side_reference : (m n : ℕ) (s : Side) → reference_of (end_at m s) ≡ reference_of (end_at n s)
+side_reference m n (side.Wire w) = refl
+side_reference m n (side.User u) = refl
+
 -- what a new connection changes
 opened_makes : (head : LaneHead) (number : ℕ) (event : Event) (keeps : List Remnant) (o : OpeningsState) (answer : Option Answer) (duo : Option DuoState) (outputs : List Output) (change : Change)
     → number < MOST_LANES → StandsIn head number keeps o → is_wish (wish_of head.terms event) ≡ true
@@ -314,10 +320,6 @@ opened_makes head number event keeps o answer (Some d) outputs (Opened new) with
     (subst (λ refs. Before refs (free_references o.slots)) same (lowest_before o.slots count)) first are ticks (sym at.freeze) so.0
     (so.1 ∙ side_reference 0 o.taken d.pair.this) (so.2 ∙ side_reference 0 o.taken d.pair.that)
     (subst AreOrderly all (orderly_keeps lane keeps event w answer within at.stands.orderly)))
-  where
-    side_reference : (m n : ℕ) (s : Side) → reference_of (end_at m s) ≡ reference_of (end_at n s)
-    side_reference m n (side.Wire w) = refl
-    side_reference m n (side.User u) = refl
 
 -- an event that opens a connection
 pub open_comes : (plant : PlantState) (head : LaneHead) (number : ℕ) (event : Event) (o : OpeningsState) (routing : Option Asked) (duo : Option DuoState) (outputs : List Output) (change : Change)
@@ -371,7 +373,7 @@ hear_comes plant head number event o part outputs change keeps no_tick wish part
       },
     )
 
-no_wish_of_tick : (terms : Terms) → is_wish (wish_of terms Tick) ≡ false
+pub no_wish_of_tick : (terms : Terms) → is_wish (wish_of terms Tick) ≡ false
 unfolding wish_of
 no_wish_of_tick terms = refl
 
@@ -391,3 +393,45 @@ tick_comes plant head number o outputs change keeps outs makes =
         stands = subst (λ ks. Stands ks (changed change o)) (other_keeps lane keeps Tick (wish_of head.terms Tick) None wish) makes.stands;
       },
     )
+
+-- The references that a new connection takes, and what comes of an event as the lane's next.
+
+takes_opened : (now : ℕ) (duo : Option DuoState) (change : Change) → Opens duo change → Takes (option_map (duo_at now) duo) change
+takes_opened now None change so = subst (Takes None) (sym so) (record { this = refl; that = refl })
+takes_opened now (Some d) Nothing so = absurd so
+takes_opened now (Some d) (Heard next) so = absurd so
+takes_opened now (Some d) (Ticked nexts) so = absurd so
+takes_opened now (Some d) (Opened new) so = record { this = so.1 ∙ side_reference 0 now d.pair.this; that = so.2 ∙ side_reference 0 now d.pair.that }
+
+pub open_takes : (head : LaneHead) (number : ℕ) (keeps : List Remnant) (o : OpeningsState) (wish : Wish) (answer : Option Answer) (duo : Option DuoState) (outputs : List Output) (change : Change)
+    → StandsIn head number keeps o → opened head.terms wish answer (lowest_of o.slots (slots_needed wish answer)) ≡ record { connection = option_map (duo_at o.taken) duo; outs = outputs } → Opens duo change
+    → Takes (opened_in (lane_of head number) keeps wish answer).connection change
+open_takes head number keeps o wish answer duo outputs change at opens so =
+    subst (λ c. Takes c change) (sym (ap (λ x. x.connection) (sym (opened_of head number keeps o wish answer at) ∙ opens))) (takes_opened o.taken duo change so)
+
+pub other_takes : (lane : Lane) (keeps : List Remnant) (wish : Wish) (answer : Option Answer) (change : Change) → is_wish wish ≡ false → TakesNone change → Takes (opened_in lane keeps wish answer).connection change
+unfolding opened
+other_takes lane keeps (by_cr w) answer change e none = absurd (cc)
+other_takes lane keeps (by_user ssn tag w) answer change e none = absurd (cc)
+other_takes lane keeps no_wish answer change e none = record { this = none.0; that = none.1 }
+
+pub outcome_is : (plant : PlantState) (head : LaneHead) (number : ℕ) (journal : List Entry) (o after : OpeningsState) (event : Event) (routing : Option Asked) (outputs : List Output) (change : Change) (outcome : Outcome)
+    → Comes plant head number event (kept_of (lane_of head number) (openings_from (lane_of head number) [] journal)) o after routing outputs
+    → Takes (opened_in (lane_of head number) (kept_of (lane_of head number) (openings_from (lane_of head number) [] journal)) (wish_of head.terms event) (answer_in routing)).connection change
+    → outcome.outs ≡ outputs → outcome.this ≡ this_taken change → outcome.that ≡ that_taken change
+    → IsOutcome plant event (record { head = head; number = number; journal = journal }) outcome
+outcome_is plant head number journal o after event routing outputs change outcome comes takes outs this that =
+    let lane : Lane = lane_of head number in
+    let openings : List Opening = openings_from lane [] journal in
+    let wish : Wish = wish_of head.terms event in
+    let answer : Option Answer = answer_in (conn_asked_of head plant event) in
+    let same : opening_of lane openings wish answer ≡ opened_in lane (kept_of lane openings) wish (answer_in routing) =
+    opens-alike lane openings wish answer ∙ ap (λ a. opened_in lane (kept_of lane openings) wish (answer_in a)) (sym comes.asked) in
+    record {
+      outs =
+          outs
+          ∙ (comes.outs
+          ∙ (ap (λ a. outs_in lane (kept_of lane openings) event wish (answer_in a)) comes.asked ∙ sym (outs-alike lane openings event answer)));
+      this = this ∙ (takes.this ∙ ap (λ x. taken_by (λ c. c.this) x.connection) (sym same));
+      that = that ∙ (takes.that ∙ ap (λ x. taken_by (λ c. c.that) x.connection) (sym same));
+    }

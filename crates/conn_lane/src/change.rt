@@ -1,6 +1,7 @@
 //! What an event changes in what a lane keeps.
 ghost use Rattle.std.specs.Prelude.{◌≡◌};
 ghost use Rattle.conn_lane.specs.Inner.Waking.{count_of};
+ghost use Rattle.conn_lane.specs.Inner.Changes.{this_taken, that_taken};
 
 use crate::kept::Kept;
 use relay_base::Ref24;
@@ -44,6 +45,17 @@ impl Change {
             Change::Nothing => 0,
             Change::Heard(_) | Change::Opened(_) => 1,
             Change::Ticked(nexts) => nexts.len(),
+        }
+    }
+
+    /// The local references that the ends take of a connection which it opens.
+    pub fn taken(&self) -> (Option<Ref24>, Option<Ref24>)
+        ensures this { result.0 ≡ this_taken self.now }
+        ensures that { result.1 ≡ that_taken self.now }
+    {
+        match self {
+            Change::Opened(new) => (new.this, new.that),
+            _ => (None, None),
         }
     }
 }

@@ -13,7 +13,7 @@ ghost use Rattle.section_coupling.specs.Sound.{IsCredit};
 ghost use Rattle.conn_lane.specs.Laws.{unheard};
 ghost use Rattle.plant_core.specs.Plant.{PlantState};
 ghost use Rattle.conn_lane.specs.Inner.Remnants.{Remnant};
-ghost use Rattle.conn_lane.specs.Inner.Changes.{Fits, changed};
+ghost use Rattle.conn_lane.specs.Inner.Changes.{Fits, changed, this_taken, that_taken};
 ghost use Rattle.conn_lane.specs.Inner.Stands.{IsStanding};
 ghost use Rattle.conn_lane.specs.Inner.Wheels.{is_due};
 ghost use Rattle.conn_lane.specs.Inner.Waking.{AreQuiet, IsTimed, WakesDue};
@@ -25,6 +25,7 @@ ghost use Rattle.conn_lane.specs.Inner.Grown.{StandsIn, TurnsInto, Grows};
 
 use crate::change::Change;
 use crate::openings::Openings;
+use crate::outcome::Outcome;
 use crate::waking::due;
 use plant_core::{Answer, Asked, Entry, EntryList, LaneHead, Plant, fitted};
 use relay_base::{Event, Memory, Outs, Stamp};
@@ -87,6 +88,21 @@ struct Turn {
     change: Change,
     asked: Option<Asked>,
     outs: Outs,
+}
+
+/// The outputs, and the references that a new connection takes.
+fn outcome_of(turn: Turn) -> Outcome
+    ensures outs { result.outs ≡ turn.outs }
+    ensures this { result.this ≡ this_taken turn.change }
+    ensures that { result.that ≡ that_taken turn.change }
+{
+    let Turn {
+        change,
+        asked: _,
+        outs,
+    } = turn;
+    let (this, that) = change.taken();
+    Outcome { outs, this, that }
 }
 
 /// A lane's head and number.
@@ -306,6 +322,7 @@ impl Context<'_> {
 impl ConnLane {
     ghost use Rattle.section_model.specs.Journals.{IsConnJournal};
     ghost use Rattle.conn_lane.specs.Lanes.{ConnLaneTakes};
+    ghost use Rattle.conn_lane.specs.Outcomes.{IsOutcome};
 
     /// The connection lane of this number, 0 to 15, before its first event. The greatest credit of its head is 127 at most.
     pub fn new(alloc: Global, head: &LaneHead, number: u8) -> Result<ConnLane, Memory>
@@ -324,6 +341,20 @@ impl ConnLane {
             openings,
             wheel: Wheel::new(alloc),
         })
+    }
+
+    /// What would come of an event that it takes next, with these routing data. It takes none.
+    pub fn outcome(&self, plant: &Plant, event: &Event) -> Result<Outcome, Memory>
+        requires few { length self.now.journal < 2 ^ 32 }
+        ensures { IfOk result (IsOutcome plant.now event.now self.now) }
+    {
+        let context = Context {
+            alloc: self.alloc,
+            head: &self.head,
+            number: self.number,
+        };
+        let turn = context.turn(plant, event, &self.openings, &self.wheel)?;
+        Ok(outcome_of(turn))
     }
 
     /// Takes an event, with these routing data. After want of memory the lane is as before, and takes a later event like any other.

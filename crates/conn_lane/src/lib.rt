@@ -8,7 +8,9 @@ mod kept;
 mod lane;
 mod laws;
 mod openings;
+mod outcome;
 mod waking;
 
 pub use lane::ConnLane;
 pub use laws::keeps_all;
+pub use outcome::Outcome;

@@ -16,7 +16,7 @@ ghost use Rattle.timer_wheel.specs.Timers.{due_now};
 ghost use Rattle.section_coupling.specs.declared.duo.TheConstants.{TIMERS};
 ghost use Rattle.conn_lane.specs.Inner.Wheels.{is_in, is_due};
 ghost use Rattle.conn_lane.specs.Inner.Waking.{timers_of, AreLeft, SetsTimers, IsTimed, WakesAll, AllWoken, WakesDue};
-ghost use Rattle.conn_lane.specs.Inner.Changes.{giving_up, taking, put, put_all, ticked, changed, listed, CanGiveUp, CanBePut, CanAllBePut, CanTake, Fits, Makes, Opens};
+ghost use Rattle.conn_lane.specs.Inner.Changes.{giving_up, taking, put, put_all, ticked, changed, listed, CanGiveUp, CanBePut, CanAllBePut, CanTake, Fits, Makes, Opens, TakesNone};
 ghost use Rattle.conn_lane.specs.Inner.Lowest.{lowest_of};
 
 use crate::change::{Change, NewConnection, Next};
@@ -223,6 +223,7 @@ impl Openings {
             IfOk result (λ r. Makes r.0 self.now self.now.taken later) }
         ensures woken { (wakes : ℕ → Bool) →
             IfOk result (λ r. WakesDue wakes self.now.kept r.0) }
+        ensures takes { IfOk result (λ r. TakesNone r.0) }
     {
         let Some(number) = self.number_of(event) else {
             return Ok((Change::Nothing, None));
@@ -255,6 +256,7 @@ impl Openings {
             IfOk result (λ r. Makes r.0 self.now (self.now.taken + 1) later) }
         ensures woken { IfOk result (λ r.
             WakesDue (λ n. is_in n numbers.now) self.now.kept r.0) }
+        ensures takes { IfOk result (λ r. TakesNone r.0) }
     {
         let (nexts, outs) = ticked(self.alloc, self.taken as u32, &self.kept, numbers)?;
         Ok((Change::Ticked(nexts), outs))

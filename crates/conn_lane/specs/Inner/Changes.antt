@@ -2,6 +2,7 @@
 use Rattle.std.specs.Prelude.{◌≡◌, ℕ, ◌+◌, ◌<◌, true, List, [], ◌∷◌, ◌++◌, length, get_or, slice_set, Option, Some, None, is_some, IfSome}
 use Rattle.local_refs.specs.Slots.{LaneSlots, free_references, with_state, with_taken, frozen_for, after_tick, IsHeld}
 use Rattle.section_model.specs.References.{slot_of}
+use Rattle.section_model.specs.Ends.{Connection}
 use Rattle.section_model.specs.Lane.{reference_of}
 use Rattle.section_coupling.specs.Duos.{DuoState, duo_at}
 use Rattle.conn_lane.specs.declared.change.Next.{Next}
@@ -11,6 +12,7 @@ use Rattle.conn_lane.specs.declared.change.Change.TheVariants.{Nothing, Heard, O
 use Rattle.conn_lane.specs.Inner.Remnants.{Remnant}
 use Rattle.conn_lane.specs.Inner.Stands.{Stands}
 use Rattle.conn_lane.specs.Inner.Views.{OpeningsState}
+use Rattle.conn_lane.specs.Outcomes.{taken_by}
 
 -- An end gives its reference up, or takes one.
 
@@ -118,3 +120,20 @@ opens_by d _ = ⊥
 abbrev pub Opens : Option DuoState → Change → Type 0
 Opens None change = change ≡ Nothing
 Opens (Some d) change = opens_by d change
+
+-- the references that the ends of a new connection take by a change
+
+abbrev pub this_taken : Change → Option ℕ
+this_taken (Opened new) = new.this
+this_taken _ = None
+
+abbrev pub that_taken : Change → Option ℕ
+that_taken (Opened new) = new.that
+that_taken _ = None
+
+pub record Takes (c : Option Connection) (change : Change) : Type 0 where
+  pub this : this_taken change ≡ taken_by (λ c. c.this) c
+  pub that : that_taken change ≡ taken_by (λ c. c.that) c
+
+abbrev pub TakesNone : Change → Type 0
+TakesNone change = (this_taken change ≡ None) × (that_taken change ≡ None)

@@ -15,9 +15,9 @@ use Rattle.conn_lane.specs.Inner.Remnants.{Remnant}
 use Rattle.conn_lane.specs.Inner.Stands.{Stands}
 use Rattle.section_model.specs.Journals.{lane_of}
 use Rattle.conn_lane.specs.Lanes.{conn_asked_of}
-use Rattle.conn_lane.specs.Inner.Changes.{Fits, changed}
+use Rattle.conn_lane.specs.Inner.Changes.{Fits, Takes, changed}
 use Rattle.conn_lane.specs.Inner.Views.{OpeningsState}
-use Rattle.conn_lane.specs.Inner.Turns.{outs_in, keeps_in}
+use Rattle.conn_lane.specs.Inner.Turns.{opened_in, outs_in, keeps_in}
 
 -- what comes of an event: the routing that it asks, the outputs, and what is kept then, where it stood for these openings before
 pub record Comes (plant : PlantState) (head : LaneHead) (number : ℕ) (event : Event) (keeps : List Remnant) (before after : OpeningsState) (routing : Option Asked) (outputs : List Output) : Type 0 where
@@ -40,8 +40,10 @@ Grows plant head number before after entry =
     (keeps : List Remnant) → StandsIn head number keeps before
     → Comes plant head number entry.event keeps before after entry.asked entry.outs
 
--- what comes of an event in a lane, as the code has it: a change that can be made
+-- what comes of an event in a lane, as the code has it: a change that can be made, by which a new connection takes its references
 pub record TurnsInto (plant : PlantState) (lane : Context) (event : Event) (before : OpeningsState) (turn : Turn) : Type 0 where
   pub comes : (keeps : List Remnant) → StandsIn lane.head.now lane.number keeps before
       → Fits turn.change before
       × Comes plant lane.head.now lane.number event keeps before (changed turn.change before) turn.asked turn.outs
+  pub takes : (keeps : List Remnant) → StandsIn lane.head.now lane.number keeps before
+      → Takes (opened_in (lane_of lane.head.now lane.number) keeps (wish_of lane.head.now.terms event) (answer_in turn.asked)).connection turn.change

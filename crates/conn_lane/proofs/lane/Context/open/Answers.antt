@@ -2,7 +2,7 @@ use Rattle.std.proofs.Common.{ap}
 use Rattle.plant_core.specs.Asking.{answer_in}
 use Rattle.section_model.specs.Opening.{wish_of, slots_needed}
 use Rattle.conn_lane.specs.Inner.Lowest.{lowest_of}
-use Rattle.conn_lane.proofs.LaneGrows.{open_comes}
+use Rattle.conn_lane.proofs.LaneGrows.{open_comes, open_takes}
 use Rattle.conn_lane.proofs.Opened.{opened_alive}
 use Rattle.conn_lane.proofs.lane.Context.open.Goals as goal
 
@@ -19,4 +19,7 @@ returns-clause-turns c =
       comes = λ keeps at.
           open_comes c.args.plant.now c.args.self.now.head.now c.args.self.now.number c.args.event.now c.args.openings.now c.asked_by-asked.result c.in_ok-begun.begun.duo c.in_ok-begun.begun.outs c.in_ok-change.change
           c.requires.number c.requires.wish (c.asked_by-asked.ensures c.args.self.now.head.now) c.in_ok-begun.ensures.opened c.in_ok-begun.ensures.ticks c.in_ok-change.ensures.opens keeps at;
+      takes = λ keeps at.
+          open_takes c.args.self.now.head.now c.args.self.now.number keeps c.args.openings.now (wish_of c.args.self.now.head.now.terms c.args.event.now) (answer_in c.asked_by-asked.result)
+          c.in_ok-begun.begun.duo c.in_ok-begun.begun.outs c.in_ok-change.change at c.in_ok-begun.ensures.opened c.in_ok-change.ensures.opens;
     }

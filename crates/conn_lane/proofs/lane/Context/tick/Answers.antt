@@ -1,8 +1,11 @@
-use Rattle.std.proofs.Common.{sym, subst, ap, ◌∙◌}
+use Rattle.relay_base.specs.declared.words.Event.TheVariants.{Tick}
+use Rattle.section_model.specs.Journals.{lane_of}
+use Rattle.section_model.specs.Opening.{wish_of}
+use Rattle.std.proofs.Common.{None, sym, subst, ap, ◌∙◌}
 use Rattle.timer_wheel.specs.Timers.{due_now}
 use Rattle.conn_lane.specs.Inner.Waking.{WakesAll}
 use Rattle.conn_lane.specs.Inner.Wheels.{is_due, is_in}
-use Rattle.conn_lane.proofs.LaneGrows.{tick_comes}
+use Rattle.conn_lane.proofs.LaneGrows.{tick_comes, no_wish_of_tick, other_takes}
 use Rattle.conn_lane.proofs.Wakings.{wakes_all, wakes_same}
 use Rattle.conn_lane.proofs.lane.Context.tick.Goals as goal
 
@@ -13,6 +16,9 @@ returns-clause-turns c =
       comes = λ keeps at.
           tick_comes plant c.args.self.now.head.now c.args.self.now.number c.args.openings.now c.in_ok-change.outs c.in_ok-change.change keeps
           (c.in_ok-change.ensures.outs keeps at.stands) (c.in_ok-change.ensures.makes keeps at.stands);
+      takes = λ keeps at.
+          other_takes (lane_of c.args.self.now.head.now c.args.self.now.number) keeps (wish_of c.args.self.now.head.now.terms Tick) None c.in_ok-change.change
+          (no_wish_of_tick c.args.self.now.head.now.terms) c.in_ok-change.ensures.takes;
     }
 
 pub tick-requires-clause-wakes : goal.tick-requires-clause-wakes
