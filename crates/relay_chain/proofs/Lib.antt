@@ -1,0 +1,4 @@
+mod Waiting
+mod Fresh
+mod NodeLemmas
+mod RunLemmas

@@ -1,0 +1,6 @@
+pub mod Chains
+pub mod Kept
+pub mod Mails
+pub mod Nodes
+pub mod Queues
+pub mod Taking

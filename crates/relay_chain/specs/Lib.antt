@@ -1,0 +1,5 @@
+pub mod Run
+pub mod Steps
+pub mod Fresh
+pub mod Chains
+pub mod Inner
