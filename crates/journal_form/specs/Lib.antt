@@ -1,0 +1,5 @@
+pub mod Form
+pub mod Headings
+pub mod Inner
+pub mod Outputs
+pub mod Words
