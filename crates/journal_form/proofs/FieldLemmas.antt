@@ -1,5 +1,5 @@
 -- Fields and words of unlike numbers.
-use Rattle.std.proofs.Common.{◌≡◌, ◌≢◌, ℕ, ◌+◌, ◌&&◌, true, false, Bool, List, [], ◌∷◌, length, refl, sym, ap, arith, rules}
+use Rattle.std.proofs.Common.{◌≡◌, ◌≢◌, ℕ, ◌&&◌, true, false, Bool, List, [], ◌∷◌, length, refl, arith}
 use Rattle.journal_form.specs.Outputs.{Field, is_in, fit}
 
 and_false : (t : Bool) → (t && false) ≡ false

@@ -1,2 +1,5 @@
 pub mod FieldLemmas
+pub mod FormLemmas
 pub mod HeadingLemmas
+pub mod LaneLemmas
+pub mod PartLemmas

@@ -1,5 +1,5 @@
 -- The line of an entry: its stamp, the routing that it asked for, and the number of the edition that it published, each of these two where it has one.
-use Rattle.std.specs.Prelude.{ℕ, ◌==◌, ◌||◌, ◌&&◌, codes, Bool, List, [], ◌∷◌, Option, Some, None, option_and_then, option_map, is_some, if◌then◌else◌}
+use Rattle.std.specs.Prelude.{ℕ, ◌==◌, ◌||◌, ◌&&◌, codes, Bool, List, [], ◌∷◌, Option, Some, None, option_and_then, is_some, if◌then◌else◌}
 use Rattle.journal_form.specs.Words.{same, parted, words, is_number}
 
 infixl 10 ◌>>=◌

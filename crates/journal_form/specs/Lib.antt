@@ -2,4 +2,5 @@ pub mod Form
 pub mod Headings
 pub mod Inner
 pub mod Outputs
+pub mod Parts
 pub mod Words

@@ -1,5 +1,5 @@
 -- The lines of outputs.
-use Rattle.std.specs.Prelude.{ℕ, ◌==◌, ◌||◌, ◌&&◌, codes, Bool, false, true, List, [], ◌∷◌}
+use Rattle.std.specs.Prelude.{ℕ, ◌||◌, ◌&&◌, codes, Bool, false, true, List, [], ◌∷◌}
 use Rattle.std.specs.List.{list_any}
 use Rattle.journal_form.specs.Words.{same, words, is_number, is_octets}
 

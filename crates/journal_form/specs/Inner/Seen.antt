@@ -5,8 +5,11 @@ use Rattle.journal_form.specs.declared.field.Field.{Field}
 use Rattle.journal_form.specs.declared.field.Field.TheVariants.{Is, Number, Octets, Way, Reason}
 use Rattle.journal_form.specs.declared.heading.Routing.{Routing}
 use Rattle.journal_form.specs.declared.heading.EntryLine.{EntryLine}
+use Rattle.journal_form.specs.declared.parts.EntryForm.{EntryForm}
+use Rattle.journal_form.specs.declared.parts.LaneForm.{LaneForm}
 use Rattle.journal_form.specs.Outputs as grammar
 use Rattle.journal_form.specs.Headings.{RoutingWords, EntryWords}
+use Rattle.journal_form.specs.Parts.{EntryPart, LanePart}
 
 abbrev pub texts : List (Bor (List ℕ)) → List (List ℕ)
 texts words = map (λ w. w.now) words
@@ -32,3 +35,15 @@ seen_entry e = record {
   asked = option_map seen_routing e.asked;
   published = option_map (λ w. w.now) e.published;
 }
+
+abbrev pub seen_part : EntryForm → EntryPart
+seen_part e = record { number = e.number; text = e.text.now; words = seen_entry e.words; outs = texts e.outs.items }
+
+abbrev pub seen_parts : List EntryForm → List EntryPart
+seen_parts es = map seen_part es
+
+abbrev pub seen_lane : LaneForm → LanePart
+seen_lane lane = record { number = lane.number; text = lane.text.now; entries = seen_parts lane.entries.items }
+
+abbrev pub seen_lanes : List LaneForm → List LanePart
+seen_lanes lanes = map seen_lane lanes

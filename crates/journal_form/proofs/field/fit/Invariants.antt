@@ -1,4 +1,4 @@
-use Rattle.std.proofs.Common.{◌≡◌, drop, length}
+use Rattle.std.proofs.Common.{◌≡◌, drop}
 use Rattle.journal_form.specs.Outputs.{fit}
 use Rattle.journal_form.specs.Inner.Seen.{texts, seen_shape}
 use Rattle.journal_form.proofs.field.fit.Given as goal
