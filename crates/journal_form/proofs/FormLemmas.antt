@@ -8,10 +8,11 @@ use Rattle.journal_form.specs.declared.parts.FormRefused.{FormRefused}
 use Rattle.journal_form.specs.declared.parts.FormRefused.TheVariants.{Fault, Memory}
 use Rattle.journal_form.specs.Words.{parted}
 use Rattle.journal_form.specs.Form.{AtTop, lane_line, kind_lines, first_fault, fault_at_end, ended_lines, last_piece, fault_in}
-use Rattle.journal_form.specs.Parts.{LanePart, entry_front, AreLanes, IsForm, TellsFault}
+use Rattle.journal_form.specs.Parts.{LanePart, entry_front, AreLanes, IsForm, TellsFault, lanes_size}
 use Rattle.journal_form.specs.Inner.Seen.{texts}
 use Rattle.journal_form.specs.Inner.Reading.{place_of, HasLanes, BreaksForm}
 use Rattle.journal_form.proofs.LaneLemmas.{texts_length, stands_not}
+use Rattle.journal_form.proofs.LineLemmas.{together}
 
 -- ---- pieces
 
@@ -90,9 +91,11 @@ pub is_form : (names pieces : List (List ℕ)) (lanes : List LanePart) (at : ℕ
     → length (last_piece pieces) ≡ 0 → IsForm names pieces lanes
 is_form names pieces lanes at h past rest =
     let end : last_piece pieces ≡ [] = nothing (last_piece pieces) rest in
+    let stand : AreLanes 0 (ended_lines pieces) names lanes = all_lanes names (ended_lines pieces) lanes h.stand in
+    let size : lanes_size lanes ≡ length (ended_lines pieces) = omega (arith, h.place, h.within, past) in
     record {
-      stand = all_lanes names (ended_lines pieces) lanes h.stand;
-      whole = omega (arith, h.place, h.within, past);
+      stand = stand;
+      whole = together (ended_lines pieces) names lanes stand size;
       end = end;
       right = none_left names pieces lanes at h past ∙ ap (fault_at_end [] (at + 1)) end;
     }

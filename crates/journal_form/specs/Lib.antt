@@ -3,4 +3,5 @@ pub mod Headings
 pub mod Inner
 pub mod Outputs
 pub mod Parts
+pub mod Stamps
 pub mod Words

@@ -75,10 +75,10 @@ abbrev pub lanes_size : List LanePart → ℕ
 lanes_size [] = 0
 lanes_size (lane ∷ more) = lane_size lane + lanes_size more
 
--- the pieces of a text are the lines of these lanes, and nothing stands behind the last line feed
+-- the lines of a text, of which these are the pieces, are those of these lanes, and nothing stands behind the last line feed
 pub record IsForm (names : List (List ℕ)) (pieces : List (List ℕ)) (lanes : List LanePart) : Type 0 where
   pub stand : AreLanes 0 (ended_lines pieces) names lanes
-  pub whole : lanes_size lanes ≡ length (ended_lines pieces)
+  pub whole : flat_map lines_of lanes ≡ ended_lines pieces
   pub end : last_piece pieces ≡ []
   pub right : fault_in names pieces ≡ None
 

@@ -1,9 +1,11 @@
 //! The lines of entries.
 ghost use Rattle.std.specs.Prelude.{◌≡◌, IfOk, option_map};
 ghost use Rattle.journal_form.specs.Headings.{is_cause, is_answer, edition_of, routing_of, published_of, stamped_of, publishing, asking, entry_with, entry_in, heading_of};
+ghost use Rattle.journal_form.specs.Stamps.{number_below, stamp_of};
 ghost use Rattle.journal_form.specs.Inner.Seen.{texts, seen_routing, seen_entry};
 
 use crate::words::{is_number, parted};
+use relay_base::{Stamp, number_of};
 use std::alloc::{AllocError, Global};
 
 /// The words of a routing.
@@ -30,6 +32,38 @@ pub struct EntryLine<'a> {
     pub asked: Option<Routing<'a>>,
     /// The digits of the edition that it published.
     pub published: Option<&'a [u8]>,
+}
+
+/// A phase or a line.
+fn long_number(word: &[u8]) -> Option<u32>
+    ensures { result ≡ number_below 4294967296 word.now }
+{
+    match u32::try_from(number_of(word)?) {
+        Ok(number) => Some(number),
+        Err(_) => None,
+    }
+}
+
+/// A link.
+fn short_number(word: &[u8]) -> Option<u8>
+    ensures { result ≡ number_below 256 word.now }
+{
+    match u8::try_from(number_of(word)?) {
+        Ok(number) => Some(number),
+        Err(_) => None,
+    }
+}
+
+impl EntryLine<'_> {
+    /// The stamp of its numbers. None where one of them is too large for the stamp of a capture.
+    pub fn stamp(&self) -> Option<Stamp>
+        ensures { result ≡ stamp_of (seen_entry self.now) }
+    {
+        let phase = long_number(self.phase)?;
+        let link = short_number(self.link)?;
+        let line = long_number(self.line)?;
+        Some(Stamp { phase, link, line })
+    }
 }
 
 fn is_cause(word: &[u8]) -> bool
