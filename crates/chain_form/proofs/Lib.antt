@@ -1,0 +1,3 @@
+pub mod LineForms
+pub mod StepLemmas
+pub mod TitleLemmas

@@ -1,0 +1,11 @@
+use Rattle.std.proofs.Common.{codes, sym, ap, rules}
+use Rattle.std.proofs.lemmas.Slice.Eq.{text_from_reads}
+use Rattle.capture_form.specs.Requests.{form_of}
+use Rattle.chain_form.specs.Line.{on_connection}
+use Rattle.chain_form.proofs.asks.AskForm.of.Goals as goal
+
+pub returns-in-accept : goal.returns-in-accept
+returns-in-accept c = ap (λ w. on_connection (form_of w)) (sym (text_from_reads c.args.word.now (codes "accept") (search rules) (search rules)))
+
+pub returns-in-refuse : goal.returns-in-refuse
+returns-in-refuse c = ap (λ w. on_connection (form_of w)) (sym (text_from_reads c.args.word.now (codes "refuse") (search rules) (search rules)))

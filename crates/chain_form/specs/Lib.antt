@@ -1,0 +1,4 @@
+pub mod Chain
+pub mod Inner
+pub mod Line
+pub mod Steps

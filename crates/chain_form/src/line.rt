@@ -1,0 +1,123 @@
+//! The step that a line states.
+ghost use Rattle.std.specs.Prelude.{◌≡◌, ◌==◌, ◌||◌, IfOk, IsTrue};
+ghost use Rattle.chain_form.specs.Inner.Words.{texts, States};
+ghost use Rattle.chain_form.specs.Line.{node_of, end_of, ask_form, pass_from, pass_form, tick_form, step_of};
+ghost use Rattle.chain_form.specs.Steps.{is_node, has_neighbour, is_step};
+
+use crate::asks::AskForm;
+use crate::refused::StepRefused;
+use crate::step::Step;
+use capture_form::LineKind;
+use relay_base::number_of;
+use std::alloc::Global;
+
+/// A node, from 1.
+fn node_of(nodes: u8, word: &[u8]) -> Result<u8, LineKind>
+    ensures value { result ≡ node_of nodes word.now }
+    ensures node { IfOk result (λ node. IsTrue (is_node nodes node)) }
+{
+    match number_of(word) {
+        Some(n) if 1 <= n && n <= u64::from(nodes) => Ok(n as u8),
+        _ => Err(LineKind::Number),
+    }
+}
+
+/// The first node or the last, which have the users.
+fn end_of(nodes: u8, word: &[u8]) -> Result<u8, LineKind>
+    ensures value { result ≡ end_of nodes word.now }
+    ensures end { IfOk result (λ node. IsTrue (node == 1 || node == nodes)) }
+{
+    let node = node_of(nodes, word)?;
+    if node == 1 || node == nodes {
+        Ok(node)
+    } else {
+        Err(LineKind::Number)
+    }
+}
+
+/// `u <node> <request>`, of which the words after `u`.
+#[tactic(auto, using(crate::proofs::LineForms::ask_short))]
+fn ask_form(alloc: Global, nodes: u8, words: &[&[u8]]) -> Result<Step, StepRefused>
+    ensures value { States result (ask_form nodes (texts words.now)) }
+    ensures step { IfOk result (λ step. IsTrue (is_step nodes step)) }
+{
+    if words.len() < 2 {
+        return Err(StepRefused::Kind(LineKind::Words));
+    }
+    let more = &words[2..];
+    let form = match AskForm::of(words[1]) {
+        Some(form) if form.has(more) => form,
+        _ => return Err(StepRefused::Kind(LineKind::Words)),
+    };
+    let node = end_of(nodes, words[0])?;
+    let request = form.request(alloc, more)?;
+    Ok(Step::Ask { node, request })
+}
+
+/// Whether a node has a neighbour, the next one or the one before.
+fn has_neighbour(nodes: u8, forward: bool, node: u8) -> bool
+    ensures { result ≡ has_neighbour nodes forward node }
+{
+    if forward { node < nodes } else { node > 1 }
+}
+
+/// What passes from a node that has a neighbour there.
+fn pass_from(nodes: u8, word: &[u8], forward: bool) -> Result<Step, LineKind>
+    ensures value { result ≡ pass_from nodes word.now forward }
+    ensures step { IfOk result (λ step. IsTrue (is_step nodes step)) }
+{
+    let node = node_of(nodes, word)?;
+    if has_neighbour(nodes, forward, node) {
+        Ok(Step::Pass { node, forward })
+    } else {
+        Err(LineKind::Number)
+    }
+}
+
+/// `d <node> f` or `d <node> b`, of which the words after `d`.
+fn pass_form(nodes: u8, words: &[&[u8]]) -> Result<Step, LineKind>
+    ensures value { result ≡ pass_form nodes (texts words.now) }
+    ensures step { IfOk result (λ step. IsTrue (is_step nodes step)) }
+{
+    if words.len() != 2 {
+        return Err(LineKind::Words);
+    }
+    if words[1] == b"f".as_slice() {
+        pass_from(nodes, words[0], true)
+    } else if words[1] == b"b".as_slice() {
+        pass_from(nodes, words[0], false)
+    } else {
+        Err(LineKind::Words)
+    }
+}
+
+/// `t <node>`, of which the words after `t`.
+fn tick_form(nodes: u8, words: &[&[u8]]) -> Result<Step, LineKind>
+    ensures value { result ≡ tick_form nodes (texts words.now) }
+    ensures step { IfOk result (λ step. IsTrue (is_step nodes step)) }
+{
+    if words.len() != 1 {
+        return Err(LineKind::Words);
+    }
+    let node = node_of(nodes, words[0])?;
+    Ok(Step::Tick { node })
+}
+
+/// The step that the words of a line state.
+pub fn step_of(alloc: Global, nodes: u8, words: &[&[u8]]) -> Result<Step, StepRefused>
+    ensures value { States result (step_of nodes (texts words.now)) }
+    ensures step { IfOk result (λ step. IsTrue (is_step nodes step)) }
+{
+    if words.is_empty() {
+        return Err(StepRefused::Kind(LineKind::Words));
+    }
+    if words[0] == b"u".as_slice() {
+        ask_form(alloc, nodes, &words[1..])
+    } else if words[0] == b"d".as_slice() {
+        Ok(pass_form(nodes, &words[1..])?)
+    } else if words[0] == b"t".as_slice() {
+        Ok(tick_form(nodes, &words[1..])?)
+    } else {
+        Err(StepRefused::Kind(LineKind::Words))
+    }
+}
