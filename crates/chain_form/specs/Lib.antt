@@ -1,4 +1,5 @@
 pub mod Chain
 pub mod Inner
 pub mod Line
+pub mod Print
 pub mod Steps
