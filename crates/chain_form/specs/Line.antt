@@ -75,11 +75,14 @@ tick_form nodes (word ∷ []) = do
   Ok (Tick node)
 tick_form nodes _ = Err Words
 
+-- d or t: what passes from a node, or its tick
+abbrev pub unasked_form : ℕ → List ℕ → List (List ℕ) → Result Step LineKind
+unasked_form nodes first more =
+    if same first (codes "d") then pass_form nodes more
+    else if same first (codes "t") then tick_form nodes more
+    else Err Words
+
 -- the step of a line
 abbrev pub step_of : ℕ → List (List ℕ) → Result Step LineKind
 step_of nodes [] = Err Words
-step_of nodes (first ∷ more) =
-    if same first (codes "u") then ask_form nodes more
-    else if same first (codes "d") then pass_form nodes more
-    else if same first (codes "t") then tick_form nodes more
-    else Err Words
+step_of nodes (first ∷ more) = if same first (codes "u") then ask_form nodes more else unasked_form nodes first more

@@ -1,7 +1,7 @@
 //! The step that a line states.
 ghost use Rattle.std.specs.Prelude.{◌≡◌, ◌==◌, ◌||◌, IfOk, IsTrue};
 ghost use Rattle.chain_form.specs.Inner.Words.{texts, States};
-ghost use Rattle.chain_form.specs.Line.{node_of, end_of, ask_form, pass_from, pass_form, tick_form, step_of};
+ghost use Rattle.chain_form.specs.Line.{node_of, end_of, ask_form, pass_from, pass_form, tick_form, unasked_form, step_of};
 ghost use Rattle.chain_form.specs.Steps.{is_node, has_neighbour, is_step};
 
 use crate::asks::AskForm;
@@ -103,6 +103,20 @@ fn tick_form(nodes: u8, words: &[&[u8]]) -> Result<Step, LineKind>
     Ok(Step::Tick { node })
 }
 
+/// A line that begins with `d` or `t`, by its first word and those after it.
+fn unasked_form(nodes: u8, first: &[u8], words: &[&[u8]]) -> Result<Step, LineKind>
+    ensures value { result ≡ unasked_form nodes first.now (texts words.now) }
+    ensures step { IfOk result (λ step. IsTrue (is_step nodes step)) }
+{
+    if first == b"d".as_slice() {
+        pass_form(nodes, words)
+    } else if first == b"t".as_slice() {
+        tick_form(nodes, words)
+    } else {
+        Err(LineKind::Words)
+    }
+}
+
 /// The step that the words of a line state.
 pub fn step_of(alloc: Global, nodes: u8, words: &[&[u8]]) -> Result<Step, StepRefused>
     ensures value { States result (step_of nodes (texts words.now)) }
@@ -112,12 +126,7 @@ pub fn step_of(alloc: Global, nodes: u8, words: &[&[u8]]) -> Result<Step, StepRe
         return Err(StepRefused::Kind(LineKind::Words));
     }
     if words[0] == b"u".as_slice() {
-        ask_form(alloc, nodes, &words[1..])
-    } else if words[0] == b"d".as_slice() {
-        Ok(pass_form(nodes, &words[1..])?)
-    } else if words[0] == b"t".as_slice() {
-        Ok(tick_form(nodes, &words[1..])?)
-    } else {
-        Err(StepRefused::Kind(LineKind::Words))
+        return ask_form(alloc, nodes, &words[1..]);
     }
+    Ok(unasked_form(nodes, words[0], &words[1..])?)
 }

@@ -8,7 +8,7 @@ ghost use Rattle.node_head.specs.Lines.{lines};
 ghost use Rattle.chain_form.specs.Inner.Words.{texts, Takes};
 ghost use Rattle.chain_form.specs.Line.{step_of};
 ghost use Rattle.chain_form.specs.Steps.{is_step};
-ghost use Rattle.chain_form.specs.Chain.{AreSteps, Reads, at_line, count_in, nodes_of, with_line, with_lines, chain_in, chain_of};
+ghost use Rattle.chain_form.specs.Chain.{AreSteps, Reads, at_line, count_in, nodes_of, counted_step, with_line, with_lines, chain_in, chain_of};
 
 use crate::fault::ChainFault;
 use crate::line::step_of;
@@ -99,8 +99,30 @@ fn step_at(alloc: Global, nodes: u8, number: u32, line: &[u8]) -> Result<Step, C
     }
 }
 
-/// Puts the step of a line behind those above it.
+/// Puts the step of a line that has one behind those above it.
 #[tactic(auto, using(crate::proofs::StepLemmas::steps_pushed))]
+fn take_step(
+    alloc: Global,
+    nodes: u8,
+    number: u32,
+    line: &[u8],
+    steps: &mut StepList,
+) -> Result<(), ChainFault>
+    requires steps { AreSteps nodes steps.old }
+    requires few { length steps.old ≤ MOST_LINES }
+    ensures value { Takes steps.new result (counted_step nodes number steps.old (words line.now)) }
+    ensures steps { OnOk result (AreSteps nodes steps.new) }
+    ensures few { OnOk result (length steps.new ≤ MOST_LINES) }
+{
+    if steps.len() >= MOST_LINES as usize {
+        return Err(ChainFault::TooLong(Limit::Lines));
+    }
+    let step = step_at(alloc, nodes, number, line)?;
+    steps.push(StepLine { line: number, step })?;
+    Ok(())
+}
+
+/// Takes a line, which may be empty or a comment.
 fn take_line(
     alloc: Global,
     nodes: u8,
@@ -115,14 +137,10 @@ fn take_line(
     ensures few { OnOk result (length steps.new ≤ MOST_LINES) }
 {
     if is_skipped(line) {
-        return Ok(());
+        Ok(())
+    } else {
+        take_step(alloc, nodes, number, line, steps)
     }
-    if steps.len() >= MOST_LINES as usize {
-        return Err(ChainFault::TooLong(Limit::Lines));
-    }
-    let step = step_at(alloc, nodes, number, line)?;
-    steps.push(StepLine { line: number, step })?;
-    Ok(())
 }
 
 /// The steps of the lines after the first.

@@ -9,3 +9,18 @@ returns-in-accept c = ap (λ w. on_connection (form_of w)) (sym (text_from_reads
 
 pub returns-in-refuse : goal.returns-in-refuse
 returns-in-refuse c = ap (λ w. on_connection (form_of w)) (sym (text_from_reads c.args.word.now (codes "refuse") (search rules) (search rules)))
+
+pub returns-in-conn : goal.returns-in-conn
+returns-in-conn c = ap (λ w. on_connection (form_of w)) (sym (text_from_reads c.args.word.now (codes "conn") (search rules) (search rules)))
+
+pub returns-in-send : goal.returns-in-send
+returns-in-send c = ap (λ w. on_connection (form_of w)) (sym (text_from_reads c.args.word.now (codes "send") (search rules) (search rules)))
+
+pub returns-in-ed : goal.returns-in-ed
+returns-in-ed c = ap (λ w. on_connection (form_of w)) (sym (text_from_reads c.args.word.now (codes "ed") (search rules) (search rules)))
+
+pub returns-in-reset : goal.returns-in-reset
+returns-in-reset c = ap (λ w. on_connection (form_of w)) (sym (text_from_reads c.args.word.now (codes "reset") (search rules) (search rules)))
+
+pub returns-in-disc : goal.returns-in-disc
+returns-in-disc c = ap (λ w. on_connection (form_of w)) (sym (text_from_reads c.args.word.now (codes "disc") (search rules) (search rules)))
