@@ -1,6 +1,6 @@
 -- Steps with one more.
 use Rattle.std.proofs.Common.{ℕ, List, [], ◌∷◌, ◌++◌, IsTrue}
-use Rattle.chain_form.specs.Steps.{is_step}
+use Rattle.chain_step.specs.Steps.{is_step}
 use Rattle.chain_form.specs.Chain.{AreSteps}
 use Rattle.chain_form.specs.declared.reading.StepLine.{StepLine}
 

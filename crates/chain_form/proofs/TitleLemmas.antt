@@ -8,7 +8,7 @@ use Rattle.relay_base.specs.declared.words.Request.TheVariants as request
 use Rattle.capture_form.specs.Text.{hex_of}
 use Rattle.capture_form.specs.Words.{called_of}
 use Rattle.chain_form.specs.Line.{title_word}
-use Rattle.chain_form.specs.Steps.{title_address, is_askable}
+use Rattle.chain_step.specs.Steps.{title_address, is_askable}
 
 -- the word reads as the address
 pub conn_reads : called_of title_word ≡ Ok title_address

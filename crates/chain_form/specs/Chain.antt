@@ -13,7 +13,7 @@ use Rattle.capture_form.specs.declared.fault.LineKind.{LineKind}
 use Rattle.capture_form.specs.declared.fault.LineKind.TheVariants.{Words, Number}
 use Rattle.capture_form.specs.declared.fault.Limit.TheVariants.{Bytes, Lines}
 use Rattle.chain_form.specs.Line.{step_of}
-use Rattle.chain_form.specs.Steps.{is_step}
+use Rattle.chain_step.specs.Steps.{is_step}
 use Rattle.chain_form.specs.declared.reading.ChainInput.{ChainInput}
 use Rattle.chain_form.specs.declared.reading.StepLine.{StepLine}
 use Rattle.chain_form.specs.declared.reading.TheConstants.{LEAST_NODES, MOST_NODES}

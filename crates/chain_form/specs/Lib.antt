@@ -2,4 +2,3 @@ pub mod Chain
 pub mod Inner
 pub mod Line
 pub mod Print
-pub mod Steps

@@ -9,9 +9,9 @@ use Rattle.capture_form.specs.declared.requests.RequestForm.{RequestForm}
 use Rattle.capture_form.specs.declared.requests.RequestForm.TheVariants as form
 use Rattle.capture_form.specs.declared.fault.LineKind.{LineKind}
 use Rattle.capture_form.specs.declared.fault.LineKind.TheVariants.{Words, Number}
-use Rattle.chain_form.specs.Steps.{has_neighbour}
-use Rattle.chain_form.specs.declared.step.Step.{Step}
-use Rattle.chain_form.specs.declared.step.Step.TheVariants.{Ask, Pass, Tick}
+use Rattle.chain_step.specs.Steps.{has_neighbour}
+use Rattle.chain_step.specs.declared.step.Step.{Step}
+use Rattle.chain_step.specs.declared.step.Step.TheVariants.{Ask, Pass, Tick}
 
 -- the node of a number from 1 on, as links have them
 abbrev pub node_of : ℕ → List ℕ → Result ℕ LineKind

@@ -5,8 +5,8 @@ use Rattle.std.specs.List.{flat_map}
 use Rattle.std.specs.Fmt.{decimal}
 use Rattle.relay_base.specs.declared.words.Tell.{Tell}
 use Rattle.journal_text.specs.Print.{spaced, tell_text}
-use Rattle.chain_form.specs.declared.step.Step.{Step}
-use Rattle.chain_form.specs.declared.step.Step.TheVariants.{Ask, Pass, Tick}
+use Rattle.chain_step.specs.declared.step.Step.{Step}
+use Rattle.chain_step.specs.declared.step.Step.TheVariants.{Ask, Pass, Tick}
 
 -- A step that was taken: the number of its line, whether nothing waited to pass, and what users were told, each with its node.
 pub record TakenStep : Type 0 where

@@ -5,7 +5,7 @@ ghost use Rattle.capture_form.specs.Words.{called_of};
 ghost use Rattle.capture_form.specs.declared.requests.RequestForm.TheVariants as form;
 ghost use Rattle.chain_form.specs.Inner.Words.{texts, States, seen};
 ghost use Rattle.chain_form.specs.Line.{on_connection, title_word, whole};
-ghost use Rattle.chain_form.specs.Steps.{title_address, is_askable};
+ghost use Rattle.chain_step.specs.Steps.{title_address, is_askable};
 
 use crate::refused::StepRefused;
 use crate::words::{below, body, class, text};

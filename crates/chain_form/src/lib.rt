@@ -6,9 +6,7 @@ mod fault;
 mod line;
 mod reading;
 mod refused;
-mod step;
 mod words;
 
 pub use fault::ChainFault;
 pub use reading::{ChainInput, LEAST_NODES, MOST_NODES, StepLine, StepList, read_chain};
-pub use step::Step;

@@ -2,12 +2,12 @@
 ghost use Rattle.std.specs.Prelude.{◌≡◌, ◌==◌, ◌||◌, IfOk, IsTrue};
 ghost use Rattle.chain_form.specs.Inner.Words.{texts, States};
 ghost use Rattle.chain_form.specs.Line.{node_of, end_of, ask_form, pass_from, pass_form, tick_form, unasked_form, step_of};
-ghost use Rattle.chain_form.specs.Steps.{is_node, has_neighbour, is_step};
+ghost use Rattle.chain_step.specs.Steps.{is_node, has_neighbour, is_step};
 
 use crate::asks::AskForm;
 use crate::refused::StepRefused;
-use crate::step::Step;
 use capture_form::LineKind;
+use chain_step::Step;
 use relay_base::number_of;
 use std::alloc::Global;
 

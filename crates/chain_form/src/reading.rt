@@ -7,16 +7,16 @@ ghost use Rattle.capture_form.specs.declared.steps.TheConstants.{MOST_LINES};
 ghost use Rattle.node_head.specs.Lines.{lines};
 ghost use Rattle.chain_form.specs.Inner.Words.{texts, Takes};
 ghost use Rattle.chain_form.specs.Line.{step_of};
-ghost use Rattle.chain_form.specs.Steps.{is_step};
+ghost use Rattle.chain_step.specs.Steps.{is_step};
 ghost use Rattle.chain_form.specs.Chain.{AreSteps, Reads, at_line, count_in, nodes_of, counted_step, with_line, with_lines, chain_in, chain_of};
 
 use crate::fault::ChainFault;
 use crate::line::step_of;
 use crate::refused::StepRefused;
-use crate::step::Step;
 use crate::words::split_words;
 use bstr::{ByteSlice, Lines};
 use capture_form::{Limit, LineFault, LineKind, MOST_LINES};
+use chain_step::Step;
 use relay_base::limits::MOST_BYTES;
 use relay_base::{PlainList, number_of};
 use std::alloc::Global;

@@ -6,13 +6,13 @@ use Rattle.std.proofs.lemmas.List.{get_or-set_other, length-set}
 use Rattle.std.proofs.lemmas.List.FromFn.{length-map-range_with_len, map-range_with_len_more}
 use Rattle.relay_base.specs.declared.words.Event.{Event}
 use Rattle.relay_base.specs.declared.words.Request.{Request}
-use Rattle.relay_chain.specs.declared.step.Step.{Step}
-use Rattle.relay_chain.specs.declared.step.Step.TheVariants.{Ask, Pass, Tick}
+use Rattle.chain_step.specs.declared.step.Step.{Step}
+use Rattle.chain_step.specs.declared.step.Step.TheVariants.{Ask, Pass, Tick}
 use Rattle.relay_chain.specs.Run.{NodeState, RunState, first_node, node_at, with_node, neighbour, waiting, after_event, after_giving, start, taking, passing, after_step, after_steps}
-use Rattle.relay_chain.specs.Steps.{is_step, is_askable, is_node}
+use Rattle.chain_step.specs.Steps.{is_step, is_askable, is_node}
 use Rattle.relay_chain.specs.Inner.Kept.{AreShort}
 use Rattle.relay_chain.specs.Inner.Chains.{IsChain}
-use Rattle.relay_chain.specs.declared.step.TheConstants.{USER}
+use Rattle.relay_chain.specs.declared.terms.TheConstants.{USER}
 use Rattle.relay_base.specs.declared.words.Event.TheVariants.{Asked as Requested, Tick as Ticked}
 
 -- before the first step no journal has an entry
@@ -102,20 +102,16 @@ next_within n i true t = grind (arith, t)
 next_within n i false t = grind (arith, t)
 
 pub asker_exists : (n i : ℕ) (r : Request) (step : Step) → step ≡ Ask i r → 2 ≤ n → IsTrue (is_step n step) → (1 ≤ i) × (i ≤ n)
-unfolding is_step
 asker_exists n i r step is e t = asks_in n i (is_askable r) e (subst (λ s. IsTrue (is_step n s)) is t)
 
 pub passer_exists : (n i : ℕ) (forward : Bool) (step : Step) → step ≡ Pass i forward → IsTrue (is_step n step) → (1 ≤ i) × (i ≤ n)
-unfolding is_step
 passer_exists n i forward step is t = within n i (if forward then nat_lt i n else nat_lt 1 i) (subst (λ s. IsTrue (is_step n s)) is t)
 
 pub neighbour_exists : (n i : ℕ) (forward : Bool) (step : Step) → step ≡ Pass i forward → IsTrue (is_step n step) → (1 ≤ neighbour forward i) × (neighbour forward i ≤ n)
-unfolding is_step
 neighbour_exists n i forward step is t = next_within n i forward (subst (λ s. IsTrue (is_step n s)) is t)
 
 ticks_in : (n i : ℕ) → IsTrue (is_node n i) → (1 ≤ i) × (i ≤ n)
 ticks_in n i t = grind (arith, t)
 
 pub ticker_exists : (n i : ℕ) (step : Step) → step ≡ Tick i → IsTrue (is_step n step) → (1 ≤ i) × (i ≤ n)
-unfolding is_step
 ticker_exists n i step is t = ticks_in n i (subst (λ s. IsTrue (is_step n s)) is t)

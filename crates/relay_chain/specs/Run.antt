@@ -17,9 +17,9 @@ use Rattle.section_model.specs.Opening.{wish_of, question_of}
 use Rattle.section_model.specs.Journals.{lane_of}
 use Rattle.section_model.specs.Lane.{Opening, legal_outputs}
 use Rattle.section_model.specs.Laws.{openings_from}
-use Rattle.relay_chain.specs.declared.step.TheConstants.{CREDIT, USER}
-use Rattle.relay_chain.specs.declared.step.Step.{Step}
-use Rattle.relay_chain.specs.declared.step.Step.TheVariants.{Ask, Pass, Tick}
+use Rattle.relay_chain.specs.declared.terms.TheConstants.{CREDIT, USER}
+use Rattle.chain_step.specs.declared.step.Step.{Step}
+use Rattle.chain_step.specs.declared.step.Step.TheVariants.{Ask, Pass, Tick}
 
 -- A node: what its lane is told, its routing data, its journal, and how many messages were given of its queue to the next node, and of its queue to the
 -- one before.

@@ -1,13 +1,13 @@
 //! A chain of nodes.
 ghost use Rattle.std.specs.Prelude.{◌≡◌, ◌≤◌, ◌<◌, ◌++◌, ◌∷◌, [], not, length, IsTrue, IfOk, OnOk, OnErr};
 ghost use Rattle.relay_chain.specs.Run.{node_at, tells_by, is_idle};
-ghost use Rattle.relay_chain.specs.Steps.{is_step};
+ghost use Rattle.chain_step.specs.Steps.{is_step};
 ghost use Rattle.relay_chain.specs.Fresh.{all_fresh};
 ghost use Rattle.relay_chain.specs.Chains.{run_in};
 
 use crate::nodes::Nodes;
-use crate::step::Step;
 use crate::tells::TellList;
+use chain_step::Step;
 use mark::Mark;
 use plant_core::EntryList;
 use relay_base::{Memory, PlainList};

@@ -8,9 +8,8 @@ mod nodes;
 mod queue;
 mod references;
 mod start;
-mod step;
 mod tells;
+mod terms;
 
 pub use chain::Chain;
-pub use step::Step;
 pub use tells::TellList;

@@ -2,13 +2,14 @@
 ghost use Rattle.std.specs.Prelude.{◌≡◌, ◌≤◌, ◌<◌, ◌++◌, true, not, is_some, None, length, IsTrue, IfOk, OnOk, OnErr};
 ghost use Rattle.relay_chain.specs.Run.{start, neighbour, waiting, node_at, with_node, after_giving, taking, passing, after_step, tells_at, tells_by_pass, tells_by, has_none, is_idle};
 ghost use Rattle.relay_base.specs.declared.words.Event.TheVariants.{Asked};
-ghost use Rattle.relay_chain.specs.declared.step.TheConstants.{USER};
-ghost use Rattle.relay_chain.specs.Steps.{is_step};
+ghost use Rattle.relay_chain.specs.declared.terms.TheConstants.{USER};
+ghost use Rattle.chain_step.specs.Steps.{is_step};
 ghost use Rattle.relay_chain.specs.Fresh.{all_fresh};
 
 use crate::node::Node;
-use crate::step::{Step, USER};
 use crate::tells::TellList;
+use crate::terms::USER;
+use chain_step::Step;
 use plant_core::EntryList;
 use relay_base::{Event, Memory, Request, Ssn};
 use std::alloc::Global;

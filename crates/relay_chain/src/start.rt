@@ -3,7 +3,7 @@ ghost use Rattle.std.specs.Prelude.{◌≡◌, ◌≤◌, ◌<◌, ◌+◌, ◌-
 ghost use Rattle.relay_chain.specs.Run.{head_of, users_of, row_to, routing_of};
 
 use crate::mail::Place;
-use crate::step::{CREDIT, USER};
+use crate::terms::{CREDIT, USER};
 use gtt_table::{AddFault, Entity, Row};
 use plant_core::{LaneHead, Plant, Terms, USUAL_TICKS};
 use relay_base::{Digits, Memory, Pc, PcList, Ssn, SsnList};

@@ -1,6 +1,6 @@
 -- What a chain keeps.
 use Rattle.std.specs.Prelude.{◌≡◌, ℕ, ◌≤◌, List, length}
-use Rattle.relay_chain.specs.declared.step.Step.{Step}
+use Rattle.chain_step.specs.declared.step.Step.{Step}
 use Rattle.relay_chain.specs.Run.{RunState, run_of}
 
 -- from two to eight nodes, after these steps

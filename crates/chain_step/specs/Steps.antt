@@ -5,8 +5,8 @@ use Rattle.relay_base.specs.declared.words.Request.{Request}
 use Rattle.relay_base.specs.declared.words.Request.TheVariants as request
 use Rattle.section_model.specs.Opening.{may_be_wanted}
 use Rattle.section_model.specs.Step.{is_in_range}
-use Rattle.chain_form.specs.declared.step.Step.{Step}
-use Rattle.chain_form.specs.declared.step.Step.TheVariants.{Ask, Pass, Tick}
+use Rattle.chain_step.specs.declared.step.Step.{Step}
+use Rattle.chain_step.specs.declared.step.Step.TheVariants.{Ask, Pass, Tick}
 
 -- the called address of each connection: subsystem 8, and the title 491712 with indicator 4
 abbrev pub title_address : List ℕ
