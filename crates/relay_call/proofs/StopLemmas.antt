@@ -1,5 +1,5 @@
 -- Lemmas on why a run stopped, by its status.
-use Rattle.std.proofs.Common.{◌≡◌, ◌∙◌, ℕ, List, Some, Err, IfSome, sym, subst, refl, inl, inr}
+use Rattle.std.proofs.Common.{◌≡◌, ◌≢◌, ◌⊎◌, ◌∙◌, ℕ, List, Some, None, Err, IfSome, sym, subst, refl, inl, inr}
 use Rattle.std.specs.Prelude.{Option}
 use Rattle.std.proofs.lemmas.Option.{same_Some}
 use Rattle.journal_text.specs.declared.book.Book.{Book}
@@ -15,7 +15,7 @@ use Rattle.capture_input.specs.Input.{Bytes, ReadAs, PassesLimit, IsHeadFault, I
 use Rattle.capture_input.specs.Stops.{NotedAs, note_of, status_of}
 use Rattle.capture_input.proofs.StatusLemmas.{more-due, memory-due, fault-due, no-line, no-port}
 use Rattle.command_words.specs.declared.command.Command.{Command}
-use Rattle.relay_call.specs.Outcome.{form_read, ReadBy, Says}
+use Rattle.relay_call.specs.Outcome.{form_read, ReadBy, Says, Untouched, IsDonePartly, plain_note}
 use Rattle.relay_call.specs.Inner.Stops.{Stopped}
 
 -- ---- a fault of a line, which a capture alone has
@@ -106,3 +106,104 @@ stop-due form stated read written book stop.Bytes ((other, is, more), untouched)
 stop-due form stated read written book stop.ReadFault s reads r w = absurd (r refl)
 stop-due form stated read written book stop.WriteFault s reads r w = absurd (w refl)
 stop-due form stated read written book stop.Memory s reads r w = memory-due form read.before
+
+-- ---- the other statuses
+
+-- no run stops with status 0
+pub is-stopped : (why : Stop) → status_of why ≡ 0 → ⊥
+is-stopped stop.Usage e = absurd (cc)
+is-stopped (stop.Refused (stream.Capture (refused.Head f)) note) e = absurd (cc)
+is-stopped (stop.Refused (stream.Capture (refused.Line f)) note) e = absurd (cc)
+is-stopped (stop.Refused (stream.Capture (refused.TooLong l)) note) e = absurd (cc)
+is-stopped (stop.Refused (stream.Capture refused.Memory) note) e = absurd (cc)
+is-stopped (stop.Refused (stream.Port f) note) e = absurd (cc)
+is-stopped stop.Bytes e = absurd (cc)
+is-stopped stop.ReadFault e = absurd (cc)
+is-stopped stop.WriteFault e = absurd (cc)
+is-stopped stop.Memory e = absurd (cc)
+
+pub read-fault-of : (why : Stop) → status_of why ≡ 5 → why ≡ stop.ReadFault
+read-fault-of stop.Usage e = absurd (cc)
+read-fault-of (stop.Refused (stream.Capture (refused.Head f)) note) e = absurd (cc)
+read-fault-of (stop.Refused (stream.Capture (refused.Line f)) note) e = absurd (cc)
+read-fault-of (stop.Refused (stream.Capture (refused.TooLong l)) note) e = absurd (cc)
+read-fault-of (stop.Refused (stream.Capture refused.Memory) note) e = absurd (cc)
+read-fault-of (stop.Refused (stream.Port f) note) e = absurd (cc)
+read-fault-of stop.Bytes e = absurd (cc)
+read-fault-of stop.ReadFault e = refl
+read-fault-of stop.WriteFault e = absurd (cc)
+read-fault-of stop.Memory e = absurd (cc)
+
+pub write-fault-of : (why : Stop) → status_of why ≡ 6 → why ≡ stop.WriteFault
+write-fault-of stop.Usage e = absurd (cc)
+write-fault-of (stop.Refused (stream.Capture (refused.Head f)) note) e = absurd (cc)
+write-fault-of (stop.Refused (stream.Capture (refused.Line f)) note) e = absurd (cc)
+write-fault-of (stop.Refused (stream.Capture (refused.TooLong l)) note) e = absurd (cc)
+write-fault-of (stop.Refused (stream.Capture refused.Memory) note) e = absurd (cc)
+write-fault-of (stop.Refused (stream.Port f) note) e = absurd (cc)
+write-fault-of stop.Bytes e = absurd (cc)
+write-fault-of stop.ReadFault e = absurd (cc)
+write-fault-of stop.WriteFault e = refl
+write-fault-of stop.Memory e = absurd (cc)
+
+pub usage-of : (stated : Option Command) (read written : Bytes) (book : Book) (why : Stop) → Stopped stated read written book why → status_of why ≡ 1 → stated ≡ None
+usage-of stated read written book stop.Usage s e = s.0
+usage-of stated read written book (stop.Refused (stream.Capture (refused.Head f)) note) s e = absurd (cc)
+usage-of stated read written book (stop.Refused (stream.Capture (refused.Line f)) note) s e = absurd (cc)
+usage-of stated read written book (stop.Refused (stream.Capture (refused.TooLong l)) note) s e = absurd (cc)
+usage-of stated read written book (stop.Refused (stream.Capture refused.Memory) note) s e = absurd (cc)
+usage-of stated read written book (stop.Refused (stream.Port f) note) s e = absurd (cc)
+usage-of stated read written book stop.Bytes s e = absurd (cc)
+usage-of stated read written book stop.ReadFault s e = absurd (cc)
+usage-of stated read written book stop.WriteFault s e = absurd (cc)
+usage-of stated read written book stop.Memory s e = absurd (cc)
+
+pub untouched-of : (stated : Option Command) (read written : Bytes) (book : Book) (why : Stop) → Stopped stated read written book why → status_of why ≢ 6 → status_of why ≢ 7
+    → Untouched written book
+untouched-of stated read written book stop.Usage s six seven = s.1
+untouched-of stated read written book (stop.Refused fault note) s six seven = s.1
+untouched-of stated read written book stop.Bytes s six seven = s.1
+untouched-of stated read written book stop.ReadFault s six seven = s.1
+untouched-of stated read written book stop.WriteFault s six seven = absurd (six refl)
+untouched-of stated read written book stop.Memory s six seven = absurd (seven refl)
+
+pub partly-of : (stated : Option Command) (read written : Bytes) (book : Book) (why : Stop) → Stopped stated read written book why → status_of why ≡ 6
+    → IsDonePartly stated read written book
+partly-of stated read written book stop.Usage s e = absurd (cc)
+partly-of stated read written book (stop.Refused (stream.Capture (refused.Head f)) note) s e = absurd (cc)
+partly-of stated read written book (stop.Refused (stream.Capture (refused.Line f)) note) s e = absurd (cc)
+partly-of stated read written book (stop.Refused (stream.Capture (refused.TooLong l)) note) s e = absurd (cc)
+partly-of stated read written book (stop.Refused (stream.Capture refused.Memory) note) s e = absurd (cc)
+partly-of stated read written book (stop.Refused (stream.Port f) note) s e = absurd (cc)
+partly-of stated read written book stop.Bytes s e = absurd (cc)
+partly-of stated read written book stop.ReadFault s e = absurd (cc)
+partly-of stated read written book stop.WriteFault s e = s
+partly-of stated read written book stop.Memory s e = absurd (cc)
+
+pub memory-of : (stated : Option Command) (read written : Bytes) (book : Book) (why : Stop) → Stopped stated read written book why → status_of why ≡ 7
+    → Untouched written book ⊎ IsDonePartly stated read written book
+memory-of stated read written book stop.Usage s e = absurd (cc)
+memory-of stated read written book (stop.Refused (stream.Capture (refused.Head f)) note) s e = absurd (cc)
+memory-of stated read written book (stop.Refused (stream.Capture (refused.Line f)) note) s e = absurd (cc)
+memory-of stated read written book (stop.Refused (stream.Capture (refused.TooLong l)) note) s e = absurd (cc)
+memory-of stated read written book (stop.Refused (stream.Capture refused.Memory) note) s e = inl s.1
+memory-of stated read written book (stop.Refused (stream.Port f) note) s e = absurd (cc)
+memory-of stated read written book stop.Bytes s e = absurd (cc)
+memory-of stated read written book stop.ReadFault s e = absurd (cc)
+memory-of stated read written book stop.WriteFault s e = absurd (cc)
+memory-of stated read written book stop.Memory s e = s
+
+-- ---- what `notes` is told
+
+pub plain-of : (stated : Option Command) (read written : Bytes) (book : Book) (says : List ℕ → Type 0) (why : Stop) → Stopped stated read written book why → says (note_of why)
+    → IfSome (plain_note (status_of why)) says
+plain-of stated read written book says stop.Usage s told = told
+plain-of stated read written book says (stop.Refused (stream.Capture (refused.Head f)) note) s told = tt
+plain-of stated read written book says (stop.Refused (stream.Capture (refused.Line f)) note) s told = tt
+plain-of stated read written book says (stop.Refused (stream.Capture (refused.TooLong l)) note) s told = tt
+plain-of stated read written book says (stop.Refused (stream.Capture refused.Memory) note) ((form, is, (reads, same)), untouched) told = subst says same told
+plain-of stated read written book says (stop.Refused (stream.Port f) note) s told = tt
+plain-of stated read written book says stop.Bytes s told = tt
+plain-of stated read written book says stop.ReadFault s told = told
+plain-of stated read written book says stop.WriteFault s told = told
+plain-of stated read written book says stop.Memory s told = told
