@@ -49,9 +49,9 @@ told word fields = Is (codes "<") ∷ Number ∷ Is word ∷ fields
 abbrev pub lost : List ℕ → List Field → List Field
 lost word fields = Is (codes ".") ∷ Is word ∷ fields
 
--- an output, behind the space that begins its line
-unfoldable pub output_shapes : List (List Field)
-output_shapes =
+-- what is sent, and what users are told
+unfoldable pub told_shapes : List (List Field)
+told_shapes =
     sent_shape
     ∷ told (codes "unit") (Number ∷ Octets ∷ Octets ∷ Octets ∷ [])
     ∷ told (codes "notice") (Number ∷ Octets ∷ Octets ∷ Octets ∷ [])
@@ -70,7 +70,12 @@ output_shapes =
     ∷ told (codes "granted") (Number ∷ [])
     ∷ told (codes "denied") (Number ∷ [])
     ∷ told (codes "no") (Reason ∷ [])
-    ∷ lost (codes "read") (Is (codes "1") ∷ [])
+    ∷ []
+
+-- what is lost
+unfoldable pub lost_shapes : List (List Field)
+lost_shapes =
+    lost (codes "read") (Is (codes "1") ∷ [])
     ∷ lost (codes "read") (Is (codes "2") ∷ Number ∷ [])
     ∷ lost (codes "read") (Is (codes "3") ∷ [])
     ∷ lost (codes "read") (Is (codes "4") ∷ Number ∷ [])
@@ -81,10 +86,14 @@ output_shapes =
     ∷ lost (codes "same") [] ∷ lost (codes "duplicate") [] ∷ lost (codes "rows-full") [] ∷ lost (codes "no-row") []
     ∷ []
 
+-- an output, behind the space that begins its line
+unfoldable pub is_output : List (List ℕ) → Bool
+is_output line = fit_any told_shapes line || fit_any lost_shapes line
+
 -- the words of a line that begins with a space
 abbrev pub are_of_output : List (List ℕ) → Bool
 are_of_output [] = false
-are_of_output (front ∷ more) = same front [] && fit_any output_shapes more
+are_of_output (front ∷ more) = same front [] && is_output more
 
 -- the line of an output
 unfoldable pub is_output_line : List ℕ → Bool

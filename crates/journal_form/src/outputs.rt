@@ -1,6 +1,6 @@
 //! The lines of outputs.
 ghost use Rattle.std.specs.Prelude.{◌≡◌, IfOk, map};
-ghost use Rattle.journal_form.specs.Outputs.{output_shapes, fit_any, is_output_line};
+ghost use Rattle.journal_form.specs.Outputs.{told_shapes, lost_shapes, fit_any, is_output, is_output_line};
 ghost use Rattle.journal_form.specs.Inner.Seen.{texts, seen_shape};
 
 use crate::field::Field::{self, Is, Number, Octets, Reason, Way};
@@ -8,8 +8,8 @@ use crate::field::fit;
 use crate::words::parted;
 use std::alloc::{AllocError, Global};
 
-/// The words of an output: a message that is sent, what a user is told, and what was lost.
-const OUTPUT_SHAPES: [&[Field]; 36] = [
+/// The words of a message that is sent, and of what a user is told.
+const TOLD_SHAPES: [&[Field]; 18] = [
     &[Is(b">"), Number, Number, Octets],
     &[
         Is(b"<"),
@@ -63,6 +63,10 @@ const OUTPUT_SHAPES: [&[Field]; 36] = [
     &[Is(b"<"), Number, Is(b"granted"), Number],
     &[Is(b"<"), Number, Is(b"denied"), Number],
     &[Is(b"<"), Number, Is(b"no"), Reason],
+];
+
+/// The words of what was lost.
+const LOST_SHAPES: [&[Field]; 18] = [
     &[Is(b"."), Is(b"read"), Is(b"1")],
     &[Is(b"."), Is(b"read"), Is(b"2"), Number],
     &[Is(b"."), Is(b"read"), Is(b"3")],
@@ -95,11 +99,25 @@ fn fit_any(shapes: &[&[Field]], words: &[&[u8]]) -> bool
     false
 }
 
-#[tactic(auto, unfolding(crate::specs::Outputs::output_shapes))]
-fn is_output(words: &[&[u8]]) -> bool
-    ensures { result ≡ fit_any output_shapes (texts words.now) }
+#[tactic(auto, unfolding(crate::specs::Outputs::told_shapes))]
+fn is_told(words: &[&[u8]]) -> bool
+    ensures { result ≡ fit_any told_shapes (texts words.now) }
 {
-    fit_any(&OUTPUT_SHAPES, words)
+    fit_any(&TOLD_SHAPES, words)
+}
+
+#[tactic(auto, unfolding(crate::specs::Outputs::lost_shapes))]
+fn is_lost(words: &[&[u8]]) -> bool
+    ensures { result ≡ fit_any lost_shapes (texts words.now) }
+{
+    fit_any(&LOST_SHAPES, words)
+}
+
+#[tactic(auto, unfolding(crate::specs::Outputs::is_output))]
+fn is_output(words: &[&[u8]]) -> bool
+    ensures { result ≡ is_output (texts words.now) }
+{
+    is_told(words) || is_lost(words)
 }
 
 /// Whether a line is that of an output.
