@@ -25,7 +25,7 @@ use Rattle.scmg_messages.specs.declared.message.Notice.{Notice}
 use Rattle.scmg_messages.specs.Messages.{management, data_of, octets_of, data_in, notice_in}
 use Rattle.scmg.specs.declared.effect.Effect.{Effect}
 use Rattle.scmg.specs.declared.head.ControlHead.{ControlHead}
-use Rattle.scmg.specs.Control.{Control, start_of_control, told_all, subsystems, is_told, service_format, to_concerned, service_known, made_known, only_among, known_by, publishes, refusal, is_by_operator, changes, announced, tested, is_replicate, asked_out, is_asked_of, granted, dropped, hears_notice, hears_data, hears, replicate_of, is_under_way, coordinates_with, may_grant, grants, asks, test_sent, denied, is_due_test, is_due_coordination, tests_sent, ticks, effect_of, managed, count_after, after_entry, LegalFrom}
+use Rattle.scmg.specs.Control.{Control, start_of_control, told_all, subsystems, is_told, service_format, to_concerned, service_known, made_known, only_among, known_by, publishes, refusal, is_by_operator, changes, announced, tested, is_replicate, asked_out, is_asked_of, granted, dropped, hears_notice, hears_data, hears, replicate_of, is_under_way, coordinates_with, may_grant, grants, asks, subsystem_of, test_sent, denied, is_due_test, is_due_coordination, tests_sent, ticks, effect_of, managed, count_after, after_entry, LegalFrom}
 use Rattle.length_law.specs.LengthLaw.{FitsOne, IsCarried, AreCarried, ControlIsCarried}
 use Rattle.length_law.proofs.Outputs.{either, all-append, all-map}
 use Rattle.length_law.proofs.Spelling.{spelled}
@@ -135,7 +135,7 @@ asks-carried head c ssn _ = tt
 ticks-carried : (c : Control) → EffectCarried (ticks c)
 ticks-carried c =
     all-append IsCarried (tests_sent c.tests) (map denied (filter is_due_coordination c.coordinations))
-    (all-map IsCarried test_sent (λ t. management-fits Tested t.ssn t.point) (filter is_due_test c.tests))
+    (all-map IsCarried test_sent (λ s. management-fits Tested s.ssn s.point) (map subsystem_of (filter is_due_test c.tests)))
     (all-map IsCarried denied (λ x. tt) (filter is_due_coordination c.coordinations))
 
 effect-carried : (head : ControlHead) (c : Control) (event : ControlEvent) → EffectCarried (effect_of head c event)
