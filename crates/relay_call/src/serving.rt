@@ -120,24 +120,24 @@ fn serve_capture<R: Threads + Wait + Sync, K: Sink, P: Pace>(
     rt: &R,
     alloc: Global,
     command: Command,
-    capture: &Capture,
+    capture: Capture,
     out: &mut K,
     pace: &P,
     book: &mut Book,
 ) -> Result<(), Stop>
-    requires head { IsHead capture.now.head }
-    requires stamped { IsStamped capture.now.head capture.now.phases }
-    requires few { length (all_events capture.now.phases) < 2 ^ 32 }
+    requires head { IsHead capture.head }
+    requires stamped { IsStamped capture.head capture.phases }
+    requires few { length (all_events capture.phases) < 2 ^ 32 }
     requires empty { IsEmpty book.old }
     ensures ok { let written = bytes (K.held out.old) (K.held out.new) in
-        OnOk result (Filled (Wrote written) command capture.now book.new) }
+        OnOk result (Filled (Wrote written) command capture book.new) }
     ensures stopped { let written = bytes (K.held out.old) (K.held out.new) in
-        IfErr result (StoppedLate command written capture.now book.new) }
+        IfErr result (StoppedLate command written capture book.new) }
     ensures fault { result ≡ Err Stop.WriteFault → Rose (K.faults out.old) (K.faults out.new) }
     ensures kept { result ≢ Err Stop.WriteFault → K.faults out.new ≡ K.faults out.old }
 {
     let report = report_of(command, &capture.head);
-    fill(rt, alloc, capture, pace, book)?;
+    fill(rt, alloc, &capture, pace, book)?;
     write(alloc, report, book, out)
 }
 
@@ -171,7 +171,7 @@ fn perform<R: Threads + Wait + Sync, S: Source, K: Sink, P: Pace>(
     ensures out_kept { result ≢ Err Stop.WriteFault → K.faults out.new ≡ K.faults out.old }
 {
     let capture = take_capture(alloc, command, source)?;
-    serve_capture(rt, alloc, command, &capture, out, pace, book)
+    serve_capture(rt, alloc, command, capture, out, pace, book)
 }
 
 /// Does what the words ask.
