@@ -43,9 +43,9 @@ use Rattle.passing_law.proofs.Leaving.{brought_within, other_data, nothing_on, u
 use Rattle.passing_law.proofs.Placing.{end_then, event_place, step_place, along_place, after_place}
 use Rattle.passing_law.proofs.Early.{KeptEarly, step_early, opening_empty}
 use Rattle.passing_law.proofs.Classes.{classes_stay}
+use Rattle.passing_law.proofs.Heads.{after_heads, apart_before}
 use Rattle.passing_law.proofs.Clearing.{Goes, event_goes}
 use Rattle.passing_law.proofs.Taking.{SameHead}
-use Rattle.hop_law.proofs.Heads.{after_heads, apart_before}
 use Rattle.hop_law.specs.LeftAlong.{outs_along, StaysApart, LeftAlong}
 
 -- Units on a section, which its place alone decides.
@@ -324,7 +324,7 @@ record IsKnown (ticks : Ticks) (x : Section) (end other : Connection → End) (c
   left_other : IsLeft (other (acted ticks c event)) (other (stepped ticks c event))
 
 pub known : (x : Section) (e : End) (y : Section) → e ≡ wire y → StaysPut e (wire x) → is_reached y.head.state ≡ true → SamePlace y.head x.head
-known x e y is put = subst (λ e. StaysPut e (wire x)) is put
+known x e y is put = (subst (λ e. StaysPut e (wire x)) is put).1
 
 step_in_two : (ticks : Ticks) (c : Connection) (event : Event) (end other : Connection → End) (x : Section) (left : List DataUnit) → IsHop ticks x end other c event → Kept x.head end other c left
     → IsKnown ticks x end other c event → class_at (end c) ≡ 2 → StepLeaves ticks x other c event left
@@ -343,7 +343,7 @@ step_in_two ticks c event end other x left hop kept open_end two =
     (subst (λ n. n < REFERENCES) place.other hop.fits) (apart_place x.head y.head (other c) (sym place.point) hop.apart.before) in
     left_at_once left (units_on x.head outs) (passed_at (other c)) (passed_at (other d)) (got_at (other c)) (got_at (other d)) kept.first
     (in_c.5 two_here).0 (in_d.5 (sym (ap class_at later.is) ∙ two_after)).0 begins
-    (subst (λ units. ComeIn units (other c) (other d)) (on_place x.head y.head outs (sym place.point) (sym place.sls) (sym place.other)) come)
+    (subst (λ units. ComeIn units (other c) (other d)) (on_place x.head y.head outs (sym place.point) (sym (subst (λ e. StaysPut e (wire x)) open_end.is_before hop.placed.before).0) (sym place.other)) come)
 
 step_in_three : (ticks : Ticks) (c : Connection) (event : Event) (end other : Connection → End) (x : Section) (left : List DataUnit) → IsHop ticks x end other c event → Kept x.head end other c left
     → IsKnown ticks x end other c event → class_at (end c) ≡ 3 → StepLeaves ticks x other c event left
@@ -355,7 +355,7 @@ step_in_three ticks c event end other x left hop kept open_end three =
     let between = section_at (end a) x hop.placed.acted in
     let z = between.section in
     let moved : SamePlace y.head z.head = known z (end c) y open_end.is_before (subst (λ e. StaysPut (end c) e) between.is hop.placed.goes) open_end.reached in
-    let place = between.keeps moved.reached in
+    let place = between.keeps.1 moved.reached in
     let three_here : y.head.class ≡ 3 = sym (ap class_at open_end.is_before) ∙ three in
     let three_acted : z.head.class ≡ 3 = sym (ap class_at between.is) ∙ (open_end.goes_end.2 ∙ three) in
     let three_after : class_at (end d) ≡ 3 = open_end.left_end.stays.class ∙ (open_end.goes_end.2 ∙ three) in
@@ -373,7 +373,7 @@ step_in_three ticks c event end other x left hop kept open_end three =
     (got_at (other c)) (got_at (other d)) kept.first flows.0 flows.1 (ap sent_at later.is ∙ flows_after.0)
     (sym (ap sent_at between.is) ∙ (open_end.goes_end.1 ∙ ap sent_at open_end.is_before))
     (open_end.left_end.stays.sent ∙ ap (λ e. sent_at e + open_end.left_end.count) between.is) begins
-    (sym (on_place x.head z.head outs (sym place.point) (sym place.sls) (sym place.other)) ∙ next)
+    (sym (on_place x.head z.head outs (sym place.point) (sym between.keeps.0) (sym place.other)) ∙ next)
 
 open_step : (ticks : Ticks) (c : Connection) (event : Event) (end other : Connection → End) (x : Section) (left : List DataUnit) → IsHop ticks x end other c event → Kept x.head end other c left
     → (y : Section) → end c ≡ wire y → is_reached y.head.state ≡ true → (IsBefore (stage_at (end c)) → ⊥) → StepLeaves ticks x other c event left

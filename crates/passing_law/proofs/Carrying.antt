@@ -61,7 +61,7 @@ unfolding NoneBy message_as
 of_kind None octet b none reference = refl
 of_kind (Some kind) octet b none reference = of_values kind none reference (values_of kind.format b)
 
-no_units : (reference : ℕ) (bytes : List ℕ) → begins_with 6 bytes ≡ false → begins_with 7 bytes ≡ false → units_for reference bytes ≡ []
+pub no_units : (reference : ℕ) (bytes : List ℕ) → begins_with 6 bytes ≡ false → begins_with 7 bytes ≡ false → units_for reference bytes ≡ []
 unfolding units_for arrival_in reading_of
 no_units reference [] a b = refl
 no_units reference (octet ∷ rest) a b = of_kind (kind_at octet) octet (octet ∷ rest) (none_by octet a b) reference

@@ -1,4 +1,4 @@
--- What the tables say of the cells that set a section up, take data, or clear what came in.
+-- What the tables say of the cells that set a section up, take data, end a reset, or clear what came in.
 use Rattle.std.proofs.Common.{◌≡◌, true, refl}
 use Rattle.relay_base.specs.declared.words.Request.{Request}
 use Rattle.relay_base.specs.declared.words.Request.TheVariants as request
@@ -7,7 +7,7 @@ use Rattle.section_model.specs.declared.cell.Cell.TheVariants as cell
 use Rattle.section_model.specs.declared.cell.Occasion.{Occasion}
 use Rattle.section_model.specs.declared.cell.Occasion.TheVariants as on
 use Rattle.section_model.specs.declared.cell.SectionState.{SectionState}
-use Rattle.section_model.specs.declared.cell.SectionState.TheVariants.{Asked, Asking, Waning, Up}
+use Rattle.section_model.specs.declared.cell.SectionState.TheVariants.{Asked, Asking, Waning, Up, Resetting}
 use Rattle.section_model.specs.declared.cell.UserOccasion.{UserOccasion}
 use Rattle.section_model.specs.declared.cell.UserOccasion.TheVariants as by
 use Rattle.section_model.specs.declared.cell.UserState.{UserState}
@@ -33,6 +33,7 @@ IsCellOf cell.Confirm o s = s ≡ Asking
 IsCellOf cell.ConfirmLate o s = s ≡ Waning
 IsCellOf cell.KeepEnd o s = s ≡ Asking
 IsCellOf cell.PassAccept o s = s ≡ Asked
+IsCellOf cell.ResetComplete o s = s ≡ Resetting
 IsCellOf cell.PassReset o s = IsResetComes o
 IsCellOf cell.ClearCounts o s = IsResetComes o
 IsCellOf _ o s = Unit {0}
@@ -58,9 +59,9 @@ cell_of on.Ed Asked = tt
 cell_of on.Ed _ = tt
 cell_of on.Ea Asked = tt
 cell_of on.Ea _ = tt
-cell_of on.Rsr Asked = tt
+cell_of on.Rsr Resetting = refl
 cell_of on.Rsr _ = tt
-cell_of on.Rsc Asked = tt
+cell_of on.Rsc Resetting = refl
 cell_of on.Rsc _ = tt
 cell_of on.Err Asked = tt
 cell_of on.Err _ = tt

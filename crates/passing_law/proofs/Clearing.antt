@@ -19,7 +19,7 @@ use Rattle.section_model.specs.declared.cell.Cell.TheVariants as cell
 use Rattle.section_model.specs.declared.cell.Occasion.{Occasion}
 use Rattle.section_model.specs.declared.cell.Occasion.TheVariants as on
 use Rattle.section_model.specs.declared.cell.SectionState.{SectionState}
-use Rattle.section_model.specs.declared.cell.SectionState.TheVariants.{Up}
+use Rattle.section_model.specs.declared.cell.SectionState.TheVariants.{Waning, Up, Ending, Gone}
 use Rattle.section_model.specs.declared.cell.Timer.{Timer}
 use Rattle.section_model.specs.declared.cell.UserOccasion.{UserOccasion}
 use Rattle.section_model.specs.declared.cell.UserState.{UserState}
@@ -46,6 +46,7 @@ use Rattle.connection_law.proofs.Reference.Ends.{Both}
 use Rattle.text_law.specs.TextLaw.{Begins}
 use Rattle.passing_law.specs.EarlyLaw.{IsBefore, IsEmptyEarly}
 use Rattle.passing_law.specs.ClearingLaw.{is_reset, SendsReset, NoClearing}
+use Rattle.passing_law.specs.ClosingLaw.{may_take, is_resetting, IsNoOpening, StaysClosed}
 use Rattle.passing_law.proofs.Cells.{IsResetComes, IsCellOf, cell_of, as_occasion, taking_cell, IsResets, IsUserCellOf, as_asked, asking_cell_of, as_told, telling_cell}
 use Rattle.passing_law.proofs.Quiet.{parted}
 use Rattle.passing_law.proofs.Exchanging.{both}
@@ -60,6 +61,31 @@ all_of units = record { more = []; is = sym (append-nil units) }
 pub begins_then : (a b c : List DataUnit) → Begins a b → Begins b c → Begins a c
 begins_then a b c one other = record { more = one.more ++ other.more; is = other.is ∙ rw one.is (append_assoc a one.more other.more) }
 
+-- a state that stays, one in which no units are taken, and one that a section comes to where it takes units, or after a reset
+as_was : (s : SectionState) → IsNoOpening s s
+as_was s = λ none. (none, λ may. may)
+
+shuts : (s t : SectionState) → is_resetting t ≡ false → may_take t ≡ false → IsNoOpening s t
+shuts s t none shut = λ _. (none, λ may. absurd (false≢true (sym shut ∙ may)))
+
+opens : (s t : SectionState) → may_take s ≡ true → is_resetting t ≡ false → IsNoOpening s t
+opens s t could none = λ _. (none, λ _. could)
+
+renews : (s t : SectionState) → is_resetting s ≡ true → IsNoOpening s t
+renews s t resetting = λ none. absurd (false≢true (sym none ∙ resetting))
+
+pub closed_same : (e : End) → StaysClosed e e
+closed_same (wire x) = as_was x.head.state
+closed_same (owner u) = tt
+
+pub closed_then : (e f g : End) → StaysClosed e f → StaysClosed f g → StaysClosed e g
+closed_then (wire x) (wire y) (wire z) a b = λ none. let one = a none in let other = b one.0 in (other.0, λ may. one.1 (other.1 may))
+closed_then (owner u) (owner v) (owner w) a b = tt
+closed_then (wire x) (wire y) (owner w) a b = absurd b
+closed_then (owner u) (owner v) (wire z) a b = absurd b
+closed_then (wire x) (owner v) g a b = absurd a
+closed_then (owner u) (wire y) g a b = absurd a
+
 -- From a stage, what came in, how many were sent and the class to those later on: but where the connection isn't set up, they go on.
 abbrev pub GoesFrom : Stage → List DataUnit → ℕ → ℕ → List DataUnit → ℕ → ℕ → Type 0
 GoesFrom s got sent class got' sent' class' = IsBefore s ⊎ (Begins got got' × (sent' ≡ sent) × (class' ≡ class))
@@ -68,13 +94,17 @@ abbrev GoesTo : End → End → Type 0
 GoesTo e f = GoesFrom (stage_at e) (got_at e) (sent_at e) (class_at e) (got_at f) (sent_at f) (class_at f)
 
 abbrev pub Goes : End → End → Type 0
-Goes e f = KeptEarly e f × GoesTo e f
+Goes e f = KeptEarly e f × GoesTo e f × StaysClosed e f
 
 goes_same : (e : End) → Goes e e
-goes_same e = (end_same e, inr (all_of (got_at e), refl, refl))
+goes_same e = (end_same e, inr (all_of (got_at e), refl, refl), closed_same e)
 
 goes_then : (e f g : End) → Goes e f → Goes f g → Goes e g
-goes_then e f g one other = (early_then (stage_at e) (stage_at f) (stage_at g) (got_at e) (got_at f) (got_at g) one.0 other.0, in_turn one.0 one.1 other.1)
+goes_then e f g one other = (
+  early_then (stage_at e) (stage_at f) (stage_at g) (got_at e) (got_at f) (got_at g) one.0 other.0,
+  in_turn one.0 one.1 other.1,
+  closed_then e f g one.2 other.2,
+)
   where
     in_turn : KeptEarly e f → GoesTo e f → GoesTo f g → GoesTo e g
     in_turn k (inl early) other = inl early
@@ -97,7 +127,7 @@ AreNoReset hands = AllByRecursion IsNoReset hands
 
 -- an act that goes on, and hands no reset over
 abbrev TakeGoes : End → End × Acted → Type 0
-TakeGoes e done = GoesTo e done.0 × AreNoReset (hands_of done.1)
+TakeGoes e done = GoesTo e done.0 × StaysClosed e done.0 × AreNoReset (hands_of done.1)
 
 -- or one of class 3 that sends RSR or RSC
 abbrev ActGoes : End → End × Acted → Type 0
@@ -108,53 +138,53 @@ ActGoes e done = ((class_at e ≡ 3) × SendsReset done.1.outs) ⊎ TakeGoes e d
 LineGoes : Line → Line × Acted → Type 0
 LineGoes x done =
     (IsBefore (section_stage x.head.state) ⊎ (((is_up done.0.head.state && not (is_connected x.head.state)) ≡ false) × Begins x.got done.0.got × (done.0.head.class ≡ x.head.class)))
-    × AreNoReset (hands_of done.1)
+    × IsNoOpening x.head.state done.0.head.state × AreNoReset (hands_of done.1)
 
 line_hears_goes : (c : Cell) (o : Occasion) (point : ℕ) (m : Parameters) (x : Line) → IsCellOf c o x.head.state → LineGoes x (line_hears c point m x)
 unfolding line_hears LineGoes
 line_hears_goes cell.Confirm o point m x is =
     either (LineGoes x) ((m.class == 2 || m.class == 3) && nat_le m.class x.head.class) _ _
-    (λ _. (inl (rw is tt), (tt, tt))) (λ _. (inr (refl, all_of x.got, refl), (tt, tt)))
-line_hears_goes cell.ConfirmLate o point m x is = (inr (refl, all_of x.got, refl), tt)
-line_hears_goes cell.Refused o point m x is = (inr (refl, all_of x.got, refl), (tt, tt))
-line_hears_goes cell.Free o point m x is = (inr (refl, all_of x.got, refl), tt)
-line_hears_goes cell.Released o point m x is = (inr (refl, all_of x.got, refl), (tt, tt))
-line_hears_goes cell.ReleaseCollision o point m x is = (inr (refl, all_of x.got, refl), tt)
-line_hears_goes cell.TakeData o point m x is = (inr (not_set_up x.head.state, record { more = _; is = refl }, refl), (tt, tt))
+    (λ _. (inl (rw is tt), opens x.head.state Up (rw is refl) refl, (tt, tt))) (λ _. (inr (refl, all_of x.got, refl), shuts x.head.state Ending refl refl, (tt, tt)))
+line_hears_goes cell.ConfirmLate o point m x is = (inr (refl, all_of x.got, refl), shuts x.head.state Ending refl refl, tt)
+line_hears_goes cell.Refused o point m x is = (inr (refl, all_of x.got, refl), shuts x.head.state Gone refl refl, (tt, tt))
+line_hears_goes cell.Free o point m x is = (inr (refl, all_of x.got, refl), shuts x.head.state Gone refl refl, tt)
+line_hears_goes cell.Released o point m x is = (inr (refl, all_of x.got, refl), shuts x.head.state Gone refl refl, (tt, tt))
+line_hears_goes cell.ReleaseCollision o point m x is = (inr (refl, all_of x.got, refl), shuts x.head.state Gone refl refl, tt)
+line_hears_goes cell.TakeData o point m x is = (inr (not_set_up x.head.state, record { more = _; is = refl }, refl), as_was x.head.state, (tt, tt))
 line_hears_goes cell.ErrorReceived o point m x is =
-    either (LineGoes x) (m.cause == ERROR_CLASS_MISMATCH) _ _ (λ _. (inr (refl, all_of x.got, refl), (tt, tt))) (λ _. (inr (refl, all_of x.got, refl), (tt, tt)))
+    either (LineGoes x) (m.cause == ERROR_CLASS_MISMATCH) _ _ (λ _. (inr (refl, all_of x.got, refl), shuts x.head.state Ending refl refl, (tt, tt))) (λ _. (inr (refl, all_of x.got, refl), shuts x.head.state Gone refl refl, (tt, tt)))
 line_hears_goes cell.TestReceived o point m x is =
-    either (LineGoes x) (m.slr == x.head.other && m.class == x.head.class) _ _ (λ _. (inr (not_set_up x.head.state, all_of x.got, refl), tt)) (λ _. (inr (refl, all_of x.got, refl), (tt, tt)))
-line_hears_goes _ o point m x is = (inr (not_set_up x.head.state, all_of x.got, refl), tt)
+    either (LineGoes x) (m.slr == x.head.other && m.class == x.head.class) _ _ (λ _. (inr (not_set_up x.head.state, all_of x.got, refl), as_was x.head.state, tt)) (λ _. (inr (refl, all_of x.got, refl), shuts x.head.state Ending refl refl, (tt, tt)))
+line_hears_goes _ o point m x is = (inr (not_set_up x.head.state, all_of x.got, refl), as_was x.head.state, tt)
 
 line_fires_goes : (c : Cell) (x : Line) → LineGoes x (line_fires c x)
 unfolding line_fires LineGoes
-line_fires_goes cell.NotAnswered x = (inr (refl, all_of x.got, refl), (tt, tt))
-line_fires_goes cell.ResetExpired x = (inr (refl, all_of x.got, refl), (tt, tt))
-line_fires_goes cell.PeerSilent x = (inr (refl, all_of x.got, refl), (tt, tt))
-line_fires_goes cell.Free x = (inr (refl, all_of x.got, refl), tt)
-line_fires_goes _ x = (inr (not_set_up x.head.state, all_of x.got, refl), tt)
+line_fires_goes cell.NotAnswered x = (inr (refl, all_of x.got, refl), shuts x.head.state Gone refl refl, (tt, tt))
+line_fires_goes cell.ResetExpired x = (inr (refl, all_of x.got, refl), shuts x.head.state Ending refl refl, (tt, tt))
+line_fires_goes cell.PeerSilent x = (inr (refl, all_of x.got, refl), shuts x.head.state Ending refl refl, (tt, tt))
+line_fires_goes cell.Free x = (inr (refl, all_of x.got, refl), shuts x.head.state Gone refl refl, tt)
+line_fires_goes _ x = (inr (not_set_up x.head.state, all_of x.got, refl), as_was x.head.state, tt)
 
 line_takes_goes : (c : Cell) (o : Occasion) (h : Hand) (x : Line) → IsCellOf c o x.head.state → LineGoes x (line_takes c h x)
 unfolding line_takes LineGoes
-line_takes_goes cell.PassAccept o (hand.Accept class credit called body importance) x is = (inl (rw is tt), tt)
-line_takes_goes cell.PassAccept o _ x is = (inr (not_set_up x.head.state, all_of x.got, refl), tt)
-line_takes_goes cell.PassRefuse o (hand.Refuse cause called body importance) x is = (inr (refl, all_of x.got, refl), tt)
-line_takes_goes cell.PassRefuse o _ x is = (inr (not_set_up x.head.state, all_of x.got, refl), tt)
-line_takes_goes cell.PassEnd o (hand.End cause body importance) x is = (inr (refl, all_of x.got, refl), tt)
-line_takes_goes cell.PassEnd o _ x is = (inr (not_set_up x.head.state, all_of x.got, refl), tt)
-line_takes_goes cell.KeepEnd o (hand.End cause body importance) x is = (inr (refl, all_of x.got, refl), tt)
-line_takes_goes cell.KeepEnd o _ x is = (inr (not_set_up x.head.state, all_of x.got, refl), tt)
-line_takes_goes cell.PassUnit o (hand.Unit more body) x is = (inr (not_set_up x.head.state, all_of x.got, refl), (tt, tt))
-line_takes_goes cell.PassUnit o _ x is = (inr (not_set_up x.head.state, all_of x.got, refl), tt)
-line_takes_goes cell.Left o (hand.Left units expedited) x is = (inr (not_set_up x.head.state, all_of x.got, refl), tt)
-line_takes_goes cell.Left o _ x is = (inr (not_set_up x.head.state, all_of x.got, refl), tt)
-line_takes_goes _ o h x is = (inr (not_set_up x.head.state, all_of x.got, refl), tt)
+line_takes_goes cell.PassAccept o (hand.Accept class credit called body importance) x is = (inl (rw is tt), opens x.head.state Up (rw is refl) refl, tt)
+line_takes_goes cell.PassAccept o _ x is = (inr (not_set_up x.head.state, all_of x.got, refl), as_was x.head.state, tt)
+line_takes_goes cell.PassRefuse o (hand.Refuse cause called body importance) x is = (inr (refl, all_of x.got, refl), shuts x.head.state Gone refl refl, tt)
+line_takes_goes cell.PassRefuse o _ x is = (inr (not_set_up x.head.state, all_of x.got, refl), as_was x.head.state, tt)
+line_takes_goes cell.PassEnd o (hand.End cause body importance) x is = (inr (refl, all_of x.got, refl), shuts x.head.state Ending refl refl, tt)
+line_takes_goes cell.PassEnd o _ x is = (inr (not_set_up x.head.state, all_of x.got, refl), as_was x.head.state, tt)
+line_takes_goes cell.KeepEnd o (hand.End cause body importance) x is = (inr (refl, all_of x.got, refl), shuts x.head.state Waning refl refl, tt)
+line_takes_goes cell.KeepEnd o _ x is = (inr (not_set_up x.head.state, all_of x.got, refl), as_was x.head.state, tt)
+line_takes_goes cell.PassUnit o (hand.Unit more body) x is = (inr (not_set_up x.head.state, all_of x.got, refl), as_was x.head.state, (tt, tt))
+line_takes_goes cell.PassUnit o _ x is = (inr (not_set_up x.head.state, all_of x.got, refl), as_was x.head.state, tt)
+line_takes_goes cell.Left o (hand.Left units expedited) x is = (inr (not_set_up x.head.state, all_of x.got, refl), as_was x.head.state, tt)
+line_takes_goes cell.Left o _ x is = (inr (not_set_up x.head.state, all_of x.got, refl), as_was x.head.state, tt)
+line_takes_goes _ o h x is = (inr (not_set_up x.head.state, all_of x.got, refl), as_was x.head.state, tt)
 
 -- The windows.
 
 WindowsTake : Windowed → Windowed × Acted → Type 0
-WindowsTake x done = Begins x.windows.got done.0.windows.got × (done.0.windows.sent ≡ x.windows.sent) × (done.0.head.class ≡ x.head.class) × AreNoReset (hands_of done.1)
+WindowsTake x done = Begins x.windows.got done.0.windows.got × (done.0.windows.sent ≡ x.windows.sent) × (done.0.head.class ≡ x.head.class) × IsNoOpening x.head.state done.0.head.state × AreNoReset (hands_of done.1)
 
 WindowsGo : Windowed → Windowed × Acted → Type 0
 WindowsGo x done = SendsReset done.1.outs ⊎ WindowsTake x done
@@ -165,52 +195,52 @@ resets_go cause x = inl refl
 
 expedites_go : (body : Option (List ℕ)) (x : Windowed) → WindowsTake x (sends_expedited body x)
 unfolding WindowsTake
-expedites_go None x = (all_of x.windows.got, refl, refl, tt)
-expedites_go (Some body) x = (all_of x.windows.got, refl, refl, (tt, tt))
+expedites_go None x = (all_of x.windows.got, refl, refl, as_was x.head.state, tt)
+expedites_go (Some body) x = (all_of x.windows.got, refl, refl, as_was x.head.state, (tt, tt))
 
-windowed_hears_goes : (c : Cell) (m : Parameters) (x : Windowed) → WindowsGo x (windowed_hears c m x)
+windowed_hears_goes : (c : Cell) (o : Occasion) (m : Parameters) (x : Windowed) → IsCellOf c o x.head.state → WindowsGo x (windowed_hears c m x)
 unfolding windowed_hears WindowsGo WindowsTake spelling_of octets_of
-windowed_hears_goes cell.TakeNumberedData m x =
+windowed_hears_goes cell.TakeNumberedData o m x is =
     either (WindowsGo x) (not (is_next m x)) _ _ (λ _. resets_go (wrong_number x.windows) x)
     (λ _. either (WindowsGo x) (is_used_up x) _ _ (λ _. resets_go RESET_OUT_OF_WINDOW x)
     (λ _. either (WindowsGo x) (not (is_valid m.pr x.windows)) _ _ (λ _. resets_go RESET_INCORRECT_RECEIVE_NUMBER x)
-    (λ _. inr (record { more = _; is = refl }, refl, refl, (tt, tt)))))
-windowed_hears_goes cell.TakeAcknowledgement m x =
-    either (WindowsGo x) (is_valid m.pr x.windows) _ _ (λ _. inr (all_of x.windows.got, refl, refl, tt)) (λ _. resets_go RESET_INCORRECT_RECEIVE_NUMBER x)
-windowed_hears_goes cell.TakeExpedited m x =
-    either (WindowsGo x) x.windows.owed _ _ (λ _. resets_go RESET_REMOTE_PROCEDURE_ERROR x) (λ _. inr (all_of x.windows.got, refl, refl, (tt, tt)))
-windowed_hears_goes cell.TakeExpeditedAcknowledgement m x =
+    (λ _. inr (record { more = _; is = refl }, refl, refl, as_was x.head.state, (tt, tt)))))
+windowed_hears_goes cell.TakeAcknowledgement o m x is =
+    either (WindowsGo x) (is_valid m.pr x.windows) _ _ (λ _. inr (all_of x.windows.got, refl, refl, as_was x.head.state, tt)) (λ _. resets_go RESET_INCORRECT_RECEIVE_NUMBER x)
+windowed_hears_goes cell.TakeExpedited o m x is =
+    either (WindowsGo x) x.windows.owed _ _ (λ _. resets_go RESET_REMOTE_PROCEDURE_ERROR x) (λ _. inr (all_of x.windows.got, refl, refl, as_was x.head.state, (tt, tt)))
+windowed_hears_goes cell.TakeExpeditedAcknowledgement o m x is =
     either (WindowsGo x) x.windows.unanswered _ _
-    (λ _. inr (expedites_go x.windows.waiting (record x { windows = record x.windows { unanswered = false } }))) (λ _. inr (all_of x.windows.got, refl, refl, tt))
-windowed_hears_goes cell.ResetByPeer m x = inl refl
-windowed_hears_goes cell.ResetComplete m x = inr (all_of x.windows.got, refl, refl, (tt, tt))
-windowed_hears_goes _ m x = inr (all_of x.windows.got, refl, refl, tt)
+    (λ _. inr (expedites_go x.windows.waiting (record x { windows = record x.windows { unanswered = false } }))) (λ _. inr (all_of x.windows.got, refl, refl, as_was x.head.state, tt))
+windowed_hears_goes cell.ResetByPeer o m x is = inl refl
+windowed_hears_goes cell.ResetComplete o m x is = inr (all_of x.windows.got, refl, refl, renews x.head.state Up (rw is refl), (tt, tt))
+windowed_hears_goes _ o m x is = inr (all_of x.windows.got, refl, refl, as_was x.head.state, tt)
 
 windowed_takes_goes : (c : Cell) (o : Occasion) (h : Hand) (x : Windowed) → (IsResetComes o → ⊥) → IsCellOf c o x.head.state → WindowsTake x (windowed_takes c h x)
 unfolding windowed_takes WindowsTake
-windowed_takes_goes cell.PassUnit o (hand.Unit more body) x plain is = (all_of x.windows.got, refl, refl, tt)
-windowed_takes_goes cell.PassUnit o _ x plain is = (all_of x.windows.got, refl, refl, tt)
+windowed_takes_goes cell.PassUnit o (hand.Unit more body) x plain is = (all_of x.windows.got, refl, refl, as_was x.head.state, tt)
+windowed_takes_goes cell.PassUnit o _ x plain is = (all_of x.windows.got, refl, refl, as_was x.head.state, tt)
 windowed_takes_goes cell.PassExpedited o (hand.Expedited body) x plain is =
-    either (WindowsTake x) (is_up x.head.state && not x.windows.unanswered) _ _ (λ _. expedites_go (Some body) x) (λ _. (all_of x.windows.got, refl, refl, tt))
-windowed_takes_goes cell.PassExpedited o _ x plain is = (all_of x.windows.got, refl, refl, tt)
+    either (WindowsTake x) (is_up x.head.state && not x.windows.unanswered) _ _ (λ _. expedites_go (Some body) x) (λ _. (all_of x.windows.got, refl, refl, as_was x.head.state, tt))
+windowed_takes_goes cell.PassExpedited o _ x plain is = (all_of x.windows.got, refl, refl, as_was x.head.state, tt)
 windowed_takes_goes cell.PassReset o h x plain is = absurd (plain is)
 windowed_takes_goes cell.ClearCounts o h x plain is = absurd (plain is)
-windowed_takes_goes cell.Left o (hand.Left units true) x plain is = (all_of x.windows.got, refl, refl, tt)
-windowed_takes_goes cell.Left o (hand.Left units false) x plain is = (all_of x.windows.got, refl, refl, tt)
-windowed_takes_goes cell.Left o _ x plain is = (all_of x.windows.got, refl, refl, tt)
-windowed_takes_goes _ o h x plain is = (all_of x.windows.got, refl, refl, tt)
+windowed_takes_goes cell.Left o (hand.Left units true) x plain is = (all_of x.windows.got, refl, refl, as_was x.head.state, tt)
+windowed_takes_goes cell.Left o (hand.Left units false) x plain is = (all_of x.windows.got, refl, refl, as_was x.head.state, tt)
+windowed_takes_goes cell.Left o _ x plain is = (all_of x.windows.got, refl, refl, as_was x.head.state, tt)
+windowed_takes_goes _ o h x plain is = (all_of x.windows.got, refl, refl, as_was x.head.state, tt)
 
 -- A section.
 
 SectionTakes : Section → Section × Acted → Type 0
-SectionTakes x done = GoesTo (wire x) (wire done.0) × AreNoReset (hands_of done.1)
+SectionTakes x done = GoesTo (wire x) (wire done.0) × IsNoOpening x.head.state done.0.head.state × AreNoReset (hands_of done.1)
 
 SectionGoes : Section → Section × Acted → Type 0
 SectionGoes x done = ((x.head.class ≡ 3) × SendsReset done.1.outs) ⊎ SectionTakes x done
 
 by_line_goes : (x : Section) (act : Line → Line × Acted) → LineGoes (line_in x) (act (line_in x)) → SectionTakes x (by_line act x)
 unfolding LineGoes SectionTakes
-by_line_goes x act g = (goes g.0, g.1)
+by_line_goes x act g = (goes g.0, g.1, g.2)
   where
     goes : IsBefore (section_stage x.head.state) ⊎ (((is_up (act (line_in x)).0.head.state && not (is_connected x.head.state)) ≡ false) × Begins x.windows.got (act (line_in x)).0.got × ((act (line_in x)).0.head.class ≡ x.head.class))
         → GoesTo (wire x) (wire (by_line act x).0)
@@ -224,53 +254,53 @@ section_hears_goes : (ticks : Ticks) (c : Cell) (o : Occasion) (point : ℕ) (m 
 unfolding section_hears SectionGoes SectionTakes WindowsGo WindowsTake
 section_hears_goes ticks c o point m x is =
     either (SectionGoes x) (in_windows c x) _ _
-    (λ class. by_windows_go (windowed_hears c m (record { head = x.head; windows = x.windows })) (is_windowed c x class) (windowed_hears_goes c m (record { head = x.head; windows = x.windows })))
+    (λ class. by_windows_go (windowed_hears c m (record { head = x.head; windows = x.windows })) (is_windowed c x class) (windowed_hears_goes c o m (record { head = x.head; windows = x.windows }) is))
     (λ _. inr (by_line_goes x (line_hears c point m) (line_hears_goes c o point m (line_in x) is)))
   where
     by_windows_go : (done : Windowed × Acted) → x.head.class ≡ 3 → WindowsGo (record { head = x.head; windows = x.windows }) done
         → SectionGoes x (record x { head = done.0.head; windows = done.0.windows }, done.1)
     by_windows_go done three (inl reset) = inl (three, reset)
-    by_windows_go done three (inr g) = inr (inr (g.0, g.1, g.2), g.3)
+    by_windows_go done three (inr g) = inr (inr (g.0, g.1, g.2), g.3, g.4)
 
 section_fires_goes : (ticks : Ticks) (c : Cell) (x : Section) → TakeGoes (wire x) (section_fires ticks c x)
 unfolding section_fires windowed_fires SectionTakes
 section_fires_goes ticks c x =
-    either (SectionTakes x) (in_windows c x) _ _ (λ _. (inr (all_of x.windows.got, refl, refl), tt)) (λ _. by_line_goes x (line_fires c) (line_fires_goes c (line_in x)))
+    either (SectionTakes x) (in_windows c x) _ _ (λ _. (inr (all_of x.windows.got, refl, refl), as_was x.head.state, tt)) (λ _. by_line_goes x (line_fires c) (line_fires_goes c (line_in x)))
 
 section_takes_goes : (ticks : Ticks) (c : Cell) (o : Occasion) (h : Hand) (x : Section) → (IsResetComes o → ⊥) → IsCellOf c o x.head.state → TakeGoes (wire x) (section_takes ticks c h x)
 unfolding section_takes SectionTakes WindowsTake
 section_takes_goes ticks c o h x plain is =
     either (SectionTakes x) (in_windows c x) _ _
-    (λ _. let g = windowed_takes_goes c o h (record { head = x.head; windows = x.windows }) plain is in (inr (g.0, g.1, g.2), g.3))
+    (λ _. let g = windowed_takes_goes c o h (record { head = x.head; windows = x.windows }) plain is in (inr (g.0, g.1, g.2), g.3, g.4))
     (λ _. by_line_goes x (line_takes c h) (line_takes_goes c o h (line_in x) is))
 
 -- A user's end.
 
 UserGoes : User → User × Acted → Type 0
-UserGoes u done = GoesTo (owner u) (owner done.0) × AreNoReset (hands_of done.1)
+UserGoes u done = GoesTo (owner u) (owner done.0) × Unit {0} × AreNoReset (hands_of done.1)
 
 as_is : (u : User) → GoesTo (owner u) (owner u)
 as_is u = inr (all_of u.got, refl, refl)
 
 user_takes_goes : (c : Cell) (o : UserOccasion) (h : Hand) (u : User) → IsNoReset h → IsUserCellOf c o u.state → UserGoes u (user_takes c h u)
 unfolding user_takes UserGoes
-user_takes_goes cell.TellConfirm o (hand.Accept class credit called body importance) u plain is = (inl is, tt)
-user_takes_goes cell.TellConfirm o _ u plain is = (as_is u, tt)
-user_takes_goes cell.TellDisconnect o (hand.Refuse cause called body importance) u plain is = (as_is u, tt)
-user_takes_goes cell.TellDisconnect o (hand.End cause body importance) u plain is = (as_is u, tt)
-user_takes_goes cell.TellDisconnect o _ u plain is = (as_is u, tt)
+user_takes_goes cell.TellConfirm o (hand.Accept class credit called body importance) u plain is = (inl is, tt, tt)
+user_takes_goes cell.TellConfirm o _ u plain is = (as_is u, tt, tt)
+user_takes_goes cell.TellDisconnect o (hand.Refuse cause called body importance) u plain is = (as_is u, tt, tt)
+user_takes_goes cell.TellDisconnect o (hand.End cause body importance) u plain is = (as_is u, tt, tt)
+user_takes_goes cell.TellDisconnect o _ u plain is = (as_is u, tt, tt)
 user_takes_goes cell.TellUnit o (hand.Unit more body) u plain is =
-    either (UserGoes u) (nat_lt LONGEST_TEXT (length (u.text ++ body))) _ _ (λ _. (as_is u, (tt, tt)))
-    (λ _. either (UserGoes u) more _ _ (λ _. (as_is u, (tt, tt))) (λ _. (as_is u, (tt, tt))))
-user_takes_goes cell.TellUnit o _ u plain is = (as_is u, tt)
-user_takes_goes cell.TellExpedited o (hand.Expedited body) u plain is = (as_is u, (tt, tt))
-user_takes_goes cell.TellExpedited o _ u plain is = (as_is u, tt)
+    either (UserGoes u) (nat_lt LONGEST_TEXT (length (u.text ++ body))) _ _ (λ _. (as_is u, tt, (tt, tt)))
+    (λ _. either (UserGoes u) more _ _ (λ _. (as_is u, tt, (tt, tt))) (λ _. (as_is u, tt, (tt, tt))))
+user_takes_goes cell.TellUnit o _ u plain is = (as_is u, tt, tt)
+user_takes_goes cell.TellExpedited o (hand.Expedited body) u plain is = (as_is u, tt, (tt, tt))
+user_takes_goes cell.TellExpedited o _ u plain is = (as_is u, tt, tt)
 user_takes_goes cell.TellReset o (hand.Reset cause) u plain is = absurd plain
-user_takes_goes cell.TellReset o _ u plain is = (as_is u, tt)
-user_takes_goes cell.TellResetDone o h u plain is = (as_is u, tt)
-user_takes_goes cell.Left o (hand.Left units expedited) u plain is = (as_is u, tt)
-user_takes_goes cell.Left o _ u plain is = (as_is u, tt)
-user_takes_goes _ o h u plain is = (as_is u, tt)
+user_takes_goes cell.TellReset o _ u plain is = (as_is u, tt, tt)
+user_takes_goes cell.TellResetDone o h u plain is = (as_is u, tt, tt)
+user_takes_goes cell.Left o (hand.Left units expedited) u plain is = (as_is u, tt, tt)
+user_takes_goes cell.Left o _ u plain is = (as_is u, tt, tt)
+user_takes_goes _ o h u plain is = (as_is u, tt, tt)
 
 units_no_reset : (units : List DataUnit) → AreNoReset (map handed units)
 units_no_reset [] = tt
@@ -278,18 +308,18 @@ units_no_reset (u ∷ units) = (tt, units_no_reset units)
 
 user_asks_goes : (c : Cell) (o : UserOccasion) (r : Request) (u : User) → (IsResets o → ⊥) → IsUserCellOf c o u.state → UserGoes u (user_asks c r u)
 unfolding user_asks UserGoes
-user_asks_goes cell.UserSends o (request.Send mine body) u plain is = (inr (record { more = units_of body; is = refl }, refl, refl), units_no_reset (units_of body))
-user_asks_goes cell.UserSends o _ u plain is = (as_is u, tt)
-user_asks_goes cell.UserAccepts o (request.Accept mine class credit body) u plain is = (inl is, (tt, tt))
-user_asks_goes cell.UserAccepts o _ u plain is = (as_is u, tt)
-user_asks_goes cell.UserRefuses o (request.Refuse mine cause body) u plain is = (as_is u, (tt, tt))
-user_asks_goes cell.UserRefuses o _ u plain is = (as_is u, tt)
-user_asks_goes cell.UserExpedites o (request.Expedite mine body) u plain is = (as_is u, (tt, tt))
-user_asks_goes cell.UserExpedites o _ u plain is = (as_is u, tt)
+user_asks_goes cell.UserSends o (request.Send mine body) u plain is = (inr (record { more = units_of body; is = refl }, refl, refl), tt, units_no_reset (units_of body))
+user_asks_goes cell.UserSends o _ u plain is = (as_is u, tt, tt)
+user_asks_goes cell.UserAccepts o (request.Accept mine class credit body) u plain is = (inl is, tt, (tt, tt))
+user_asks_goes cell.UserAccepts o _ u plain is = (as_is u, tt, tt)
+user_asks_goes cell.UserRefuses o (request.Refuse mine cause body) u plain is = (as_is u, tt, (tt, tt))
+user_asks_goes cell.UserRefuses o _ u plain is = (as_is u, tt, tt)
+user_asks_goes cell.UserExpedites o (request.Expedite mine body) u plain is = (as_is u, tt, (tt, tt))
+user_asks_goes cell.UserExpedites o _ u plain is = (as_is u, tt, tt)
 user_asks_goes cell.UserResets o r u plain is = absurd (plain is)
-user_asks_goes cell.UserDisconnects o (request.Disc mine cause body) u plain is = (as_is u, (tt, tt))
-user_asks_goes cell.UserDisconnects o _ u plain is = (as_is u, tt)
-user_asks_goes _ o r u plain is = (as_is u, tt)
+user_asks_goes cell.UserDisconnects o (request.Disc mine cause body) u plain is = (as_is u, tt, (tt, tt))
+user_asks_goes cell.UserDisconnects o _ u plain is = (as_is u, tt, tt)
+user_asks_goes _ o r u plain is = (as_is u, tt, tt)
 
 -- What the ends hand to each other.
 
@@ -310,8 +340,8 @@ unfolding Exchanges
 offered_goes n ticks goes r h plain =
     let taken = end_takes ticks h r.0.that in
     let t = takes_goes ticks h r.0.that plain in
-    let after = goes taken r.0.this t.1 in
-    (after.1, goes_then r.0.that taken.0 (exchange n ticks taken r.0.this).0.this (takes_early ticks h r.0.that, t.0) after.0)
+    let after = goes taken r.0.this t.2 in
+    (after.1, goes_then r.0.that taken.0 (exchange n ticks taken r.0.this).0.this (takes_early ticks h r.0.that, t.0, t.1) after.0)
 
 hands_go : (n : ℕ) (ticks : Ticks) → Exchanges n ticks → (hands : List Hand) (r : Connection × List Output) → AreNoReset hands
     → Both Goes r.0 (fold (other_takes (exchange n ticks) ticks) r hands).0
@@ -334,7 +364,7 @@ exchange_goes (suc n) ticks acting that plain =
 settled_goes : (ticks : Ticks) (this that : End) (acting : End × Acted) → KeptEarly this acting.0 → TakeGoes this acting → Both Goes (both this that) (settles ticks acting that).0
 unfolding Exchanges
 settled_goes ticks this that acting k t =
-    both_go_then (both this that) (both acting.0 that) (settles ticks acting that).0 ((k, t.0), goes_same that) (exchange_goes 2 ticks acting that t.1)
+    both_go_then (both this that) (both acting.0 that) (settles ticks acting that).0 ((k, t.0, t.1), goes_same that) (exchange_goes 2 ticks acting that t.2)
 
 -- the outputs of an act are among those of the exchange
 folded : (p : Output → Bool) (n : ℕ) (ticks : Ticks) (hands : List Hand) (r : Connection × List Output) → list_any p r.1 ≡ true
@@ -370,7 +400,7 @@ seen_back c r k (inr goes) = inr (goes.1, goes.0)
 -- A message.
 
 checked_goes : (ticks : Ticks) (o : Occasion) (point : ℕ) (m : Parameters) (x : Section) (c : Option Output) → ActGoes (wire x) (hears_checked ticks o point m (in_touch ticks x) c)
-checked_goes ticks o point m x (Some out) = inr (inr (all_of x.windows.got, refl, refl), tt)
+checked_goes ticks o point m x (Some out) = inr (inr (all_of x.windows.got, refl, refl), as_was x.head.state, tt)
 checked_goes ticks o point m x None = section_hears_goes ticks (section_cell x.head.state o) o point m (in_touch ticks x) (cell_of o x.head.state)
 
 hears_goes : (ticks : Ticks) (o : Occasion) (point : ℕ) (m : Parameters) (x : Section) (that : End) → StepGoes (both (wire x) that) (hears_message ticks o point m x that)

@@ -7,6 +7,8 @@ pub mod Accepting
 pub mod Carrying
 pub mod Leaving
 pub mod Placing
+pub mod Heads
 pub mod Early
 pub mod Clearing
+pub mod Closing
 pub mod Classes

@@ -1,5 +1,5 @@
 -- A section keeps its point, its link selection and the other reference.
-use Rattle.std.proofs.Common.{◌≡◌, ℕ, ◌==◌, ◌&&◌, not, true, false, List, [], ◌∷◌, fold, Option, Some, None, refl, sym, ◌∙◌}
+use Rattle.std.proofs.Common.{◌≡◌, ℕ, ◌==◌, ◌&&◌, ◌||◌, not, nat_le, true, false, List, [], ◌∷◌, fold, Option, Some, None, refl, sym, ◌∙◌}
 use Rattle.std.proofs.lemmas.Bool.{false≢true}
 use Rattle.relay_base.specs.declared.causes.TheConstants.{ERROR_CLASS_MISMATCH, RESET_INCORRECT_RECEIVE_NUMBER, RESET_OUT_OF_WINDOW, RESET_REMOTE_PROCEDURE_ERROR}
 use Rattle.relay_base.specs.declared.words.Event.{Event}
@@ -34,19 +34,17 @@ use Rattle.passing_law.proofs.Cells.{IsCellOf, cell_of, as_occasion, taking_cell
 
 -- a state in its place, as it was
 same : (x : SectionHead) → KeepsPlace x x
-same x = λ r. record { reached = r; point = refl; sls = refl; other = refl }
+same x = (refl, λ r. record { reached = r; point = refl; other = refl })
 
 -- and a state in which the other end is known
 moved : (x : SectionHead) (s : SectionState) → is_reached s ≡ true → KeepsPlace x (record x { state = s })
-moved x s known = λ r. record { reached = known; point = refl; sls = refl; other = refl }
+moved x s known = (refl, λ r. record { reached = known; point = refl; other = refl })
 
 place_then : (x y z : SectionHead) → KeepsPlace x y → KeepsPlace y z → KeepsPlace x z
-place_then x y z a b = λ r.
-    let one = a r in
-    let other = b one.reached in record { reached = other.reached; point = other.point ∙ one.point; sls = other.sls ∙ one.sls; other = other.other ∙ one.other }
+place_then x y z a b = (b.0 ∙ a.0, λ r. let one = a.1 r in let other = b.1 one.reached in record { reached = other.reached; point = other.point ∙ one.point; other = other.other ∙ one.other })
 
-unknown : (x y : SectionHead) → is_reached x.state ≡ false → KeepsPlace x y
-unknown x y e = λ r. absurd (false≢true (sym e ∙ r))
+unknown : (x y : SectionHead) → y.sls ≡ x.sls → is_reached x.state ≡ false → KeepsPlace x y
+unknown x y sls e = (sls, λ r. absurd (false≢true (sym e ∙ r)))
 
 -- The line.
 
@@ -55,8 +53,9 @@ LineStays x done = KeepsPlace x.head done.0.head
 
 line_hears_place : (c : Cell) (o : Occasion) (point : ℕ) (m : Parameters) (x : Line) → IsCellOf c o x.head.state → LineStays x (line_hears c point m x)
 unfolding line_hears LineStays
-line_hears_place cell.Confirm o point m x e = unknown x.head (line_hears cell.Confirm point m x).0.head (rw e refl)
-line_hears_place cell.ConfirmLate o point m x e = unknown x.head (line_hears cell.ConfirmLate point m x).0.head (rw e refl)
+line_hears_place cell.Confirm o point m x e =
+    either (LineStays x) ((m.class == 2 || m.class == 3) && nat_le m.class x.head.class) _ _ (λ _. unknown x.head _ refl (rw e refl)) (λ _. unknown x.head _ refl (rw e refl))
+line_hears_place cell.ConfirmLate o point m x e = unknown x.head (line_hears cell.ConfirmLate point m x).0.head refl (rw e refl)
 line_hears_place cell.Refused o point m x e = moved x.head _ refl
 line_hears_place cell.Free o point m x e = moved x.head _ refl
 line_hears_place cell.Released o point m x e = moved x.head _ refl
@@ -75,13 +74,14 @@ line_fires_place _ x = same x.head
 
 line_takes_place : (c : Cell) (o : Occasion) (h : Hand) (x : Line) → IsCellOf c o x.head.state → LineStays x (line_takes c h x)
 unfolding line_takes LineStays
-line_takes_place cell.PassAccept o (hand.Accept class credit called body importance) x e = λ r. record { reached = refl; point = refl; sls = refl; other = refl }
+line_takes_place cell.PassAccept o (hand.Accept class credit called body importance) x e = (refl, λ r. record { reached = refl; point = refl; other = refl })
 line_takes_place cell.PassAccept o _ x e = same x.head
 line_takes_place cell.PassRefuse o (hand.Refuse cause called body importance) x e = moved x.head _ refl
 line_takes_place cell.PassRefuse o _ x e = same x.head
 line_takes_place cell.PassEnd o (hand.End cause body importance) x e = moved x.head _ refl
 line_takes_place cell.PassEnd o _ x e = same x.head
-line_takes_place cell.KeepEnd o h x e = unknown x.head (line_takes cell.KeepEnd h x).0.head (rw e refl)
+line_takes_place cell.KeepEnd o (hand.End cause body importance) x e = unknown x.head _ refl (rw e refl)
+line_takes_place cell.KeepEnd o _ x e = same x.head
 line_takes_place cell.PassUnit o (hand.Unit more body) x e = same x.head
 line_takes_place cell.PassUnit o _ x e = same x.head
 line_takes_place cell.Left o (hand.Left units expedited) x e = same x.head

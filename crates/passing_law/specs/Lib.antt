@@ -5,3 +5,4 @@ pub mod PlaceLaw
 pub mod EarlyLaw
 pub mod ClassLaw
 pub mod ClearingLaw
+pub mod ClosingLaw

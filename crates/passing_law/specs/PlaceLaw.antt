@@ -1,4 +1,4 @@
--- Where a section sends (Q.714, 3.1.4): once its other end is known, its point, its link selection and the other reference stay.
+-- Where a section sends (Q.714, 3.1.4): its link selection stays, and once its other end is known, its point and the other reference stay too.
 use Rattle.std.specs.Prelude.{◌≡◌, true, List}
 use Rattle.relay_base.specs.declared.words.Event.{Event}
 use Rattle.plant_core.specs.declared.terms.Ticks.{Ticks}
@@ -9,11 +9,10 @@ use Rattle.section_model.specs.Lane.{follow}
 pub record SamePlace (before after : SectionHead) : Type 0 where
   pub reached : is_reached after.state ≡ true
   pub point : after.point ≡ before.point
-  pub sls : after.sls ≡ before.sls
   pub other : after.other ≡ before.other
 
 abbrev pub KeepsPlace : SectionHead → SectionHead → Type 0
-KeepsPlace before after = is_reached before.state ≡ true → SamePlace before after
+KeepsPlace before after = (after.sls ≡ before.sls) × (is_reached before.state ≡ true → SamePlace before after)
 
 -- an end stays a section or a user's
 abbrev pub StaysPut : End → End → Type 0

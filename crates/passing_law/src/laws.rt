@@ -1,6 +1,7 @@
 //! Laws of the definitions, each as the contract of a function.
 ghost use Rattle.passing_law.specs.ClassLaw.{ClassesStay};
 ghost use Rattle.passing_law.specs.ClearingLaw.{NoClearing};
+ghost use Rattle.passing_law.specs.ClosingLaw.{NoOpening};
 ghost use Rattle.passing_law.specs.EarlyLaw.{EarlyLaw};
 ghost use Rattle.passing_law.specs.LeavingLaw.{UnitsLeave};
 ghost use Rattle.passing_law.specs.PassingLaw.{UnitsPass};
@@ -24,7 +25,7 @@ pub fn units_leave()
     ensures { UnitsLeave }
 {}
 
-/// A section whose other end is known keeps its point, its link selection and the other end's reference, whatever the connection hears.
+/// A section keeps its link selection, and once its other end is known, its point and the other end's reference, whatever the connection hears.
 pub fn places_stay()
     ensures { PlacesStay }
 {}
@@ -37,6 +38,11 @@ pub fn early_is_empty()
 /// What came in at an end goes on over each step, but in class 3 with RSR or RSC among the outputs.
 pub fn no_clearing()
     ensures { NoClearing }
+{}
+
+/// A section that takes units did so before, and one that is reset was reset before, but where RSR or RSC is among the outputs.
+pub fn no_opening()
+    ensures { NoOpening }
 {}
 
 /// A connection of class 2 or 3 stays one, whatever it hears.
