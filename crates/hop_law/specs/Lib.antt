@@ -1,2 +1,3 @@
 pub mod LeftAlong
 pub mod TakenAlong
+pub mod Waiting

@@ -1,6 +1,7 @@
 //! Laws of the definitions, each as the contract of a function.
 ghost use Rattle.hop_law.specs.LeftAlong.{LeftAlong};
 ghost use Rattle.hop_law.specs.TakenAlong.{TakenAlong};
+ghost use Rattle.hop_law.specs.Waiting.{UnitsWait};
 
 /// The units that left on a section are the first of those that came in at the other end of its connection, as long as no reset was sent.
 pub fn left_along()
@@ -10,4 +11,9 @@ pub fn left_along()
 /// The units that came in at a section are those that messages brought for it while it was up, as long as no reset was sent.
 pub fn taken_along()
     ensures { TakenAlong }
+{}
+
+/// The units for a reference among the messages of a step to a point are those that the section to that point sends.
+pub fn units_wait()
+    ensures { UnitsWait }
 {}

@@ -4,4 +4,4 @@
 
 mod laws;
 
-pub use laws::{left_along, taken_along};
+pub use laws::{left_along, taken_along, units_wait};
