@@ -1,3 +1,4 @@
 pub mod LeftAlong
 pub mod TakenAlong
 pub mod Waiting
+pub mod Confirming

@@ -1,4 +1,5 @@
 //! Laws of the definitions, each as the contract of a function.
+ghost use Rattle.hop_law.specs.Confirming.{BecomesKnown};
 ghost use Rattle.hop_law.specs.LeftAlong.{LeftAlong};
 ghost use Rattle.hop_law.specs.TakenAlong.{TakenAlong};
 ghost use Rattle.hop_law.specs.Waiting.{UnitsWait};
@@ -16,4 +17,9 @@ pub fn taken_along()
 /// The units for a reference among the messages of a step to a point are those that the section to that point sends.
 pub fn units_wait()
     ensures { UnitsWait }
+{}
+
+/// A section whose other end isn't known comes to know it by CC for its reference alone: the point, the reference and the class are those of CC.
+pub fn becomes_known()
+    ensures { BecomesKnown }
 {}

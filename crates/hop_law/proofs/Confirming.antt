@@ -1,0 +1,369 @@
+-- How a section comes to know its other end.
+use Rattle.std.proofs.Common.{◌≡◌, ◌⊎◌, inl, inr, ℕ, ◌==◌, ◌&&◌, ◌||◌, not, nat_le, Bool, true, false, List, [], ◌∷◌, fold, Option, Some, None, refl, sym, ◌∙◌, ap, subst}
+use Rattle.std.specs.List.{AllByRecursion}
+use Rattle.std.proofs.lemmas.Bool.{false≢true, eqb-true}
+use Rattle.relay_base.specs.declared.words.Event.{Event}
+use Rattle.relay_base.specs.declared.words.Event.TheVariants.{Message as Arrived, Asked as Requested, Tick}
+use Rattle.relay_base.specs.declared.words.Output.{Output}
+use Rattle.relay_base.specs.declared.words.Reason.{Reason}
+use Rattle.relay_base.specs.declared.words.Request.{Request}
+use Rattle.plant_core.specs.declared.terms.Ticks.{Ticks}
+use Rattle.section_model.specs.declared.cell.Cell.TheVariants as cell
+use Rattle.section_model.specs.declared.cell.Occasion.{Occasion}
+use Rattle.section_model.specs.declared.cell.Occasion.TheVariants as on
+use Rattle.section_model.specs.declared.cell.SectionState.{SectionState}
+use Rattle.section_model.specs.declared.cell.SectionState.TheVariants.{Asked, Asking, Waning, Up, Resetting, Ending, Gone}
+use Rattle.section_model.specs.declared.cell.UserState.{UserState}
+use Rattle.section_model.specs.declared.cell.UserState.TheVariants as user
+use Rattle.section_model.specs.declared.cell.Timer.{Timer}
+use Rattle.section_model.specs.declared.cell.Timer.TheVariants as timer
+use Rattle.section_model.specs.declared.hand.Hand.{Hand}
+use Rattle.section_model.specs.declared.hand.Hand.TheVariants as hand
+use Rattle.section_model.specs.declared.hand.Acted.{Acted}
+use Rattle.section_model.specs.Table.{section_row, user_row, section_cell}
+use Rattle.section_model.specs.Parameters.{Parameters, Arrival, arrival_in}
+use Rattle.section_model.specs.Timing.{firing_order, firing, rearmed}
+use Rattle.section_model.specs.Ends.{End, wire, owner, Line, SectionHead, Section, User, Connection, turned, gives, gives_then, is_gone, is_reached}
+use Rattle.section_model.specs.Line.{line_hears, line_fires, line_takes}
+use Rattle.section_model.specs.Windowed.{windowed_takes}
+use Rattle.section_model.specs.UserEnd.{user_takes, user_asks}
+use Rattle.section_model.specs.Acting.{timed, by_line, line_in, section_hears, section_fires, section_takes, section_takes_by, user_takes_by, end_takes}
+use Rattle.section_model.specs.Coupling.{exchange, settles}
+use Rattle.section_model.specs.Laws.{hands_of}
+use Rattle.section_model.specs.Step.{checked, hears_checked, in_touch, is_from_elsewhere, hears_message, asking_cell, reason_against, asks_unless, asks, ticked, is_due_at, fires_at, fires, fires_next, fires_due, ticks_by, after_event, is_named, at_this, heard_by, asked_by, destination_of, names, hears, event_step, connection_step}
+use Rattle.connection_law.proofs.Flow.Flowing.{either}
+use Rattle.connection_law.proofs.Message.Hearing.{other_named}
+use Rattle.connection_law.proofs.Reference.Ends.{Both}
+use Rattle.passing_law.specs.LeavingLaw.{AreSides, this_and_that, that_and_this}
+use Rattle.passing_law.proofs.Exchanging.{both}
+use Rattle.passing_law.proofs.Taking.{SameHead}
+use Rattle.passing_law.proofs.Heads.{after_heads}
+use Rattle.passing_law.proofs.Passing.{first_true}
+use Rattle.hop_law.specs.Confirming.{IsConfirmed, ByArrival, ByConfirm, BecomesKnown}
+use Rattle.hop_law.proofs.Along.{of_end}
+use Rattle.hop_law.proofs.Effects.{AreTaken, both_then, settled_by}
+
+-- From a state to a later one, but by a message: where the other end isn't known it is not known still, or the section is over; and what is over stays so.
+IsUnknown : SectionState → SectionState → Type 0
+IsUnknown s t = (is_reached s ≡ false → (is_reached t ≡ false) ⊎ (t ≡ Gone)) × (s ≡ Gone → t ≡ Gone)
+
+same_state : (s : SectionState) → IsUnknown s s
+unfolding IsUnknown
+same_state s = (λ e. inl e, λ e. e)
+
+in_turn : (s t u : SectionState) → IsUnknown s t → IsUnknown t u → IsUnknown s u
+unfolding IsUnknown
+in_turn s t u one other = (λ e. by_first (one.0 e), λ gone. other.1 (one.1 gone))
+  where
+    by_first : (is_reached t ≡ false) ⊎ (t ≡ Gone) → (is_reached u ≡ false) ⊎ (u ≡ Gone)
+    by_first (inl unknown) = other.0 unknown
+    by_first (inr gone) = inr (other.1 gone)
+
+not_gone : (s : SectionState) → is_gone s ≡ false → s ≡ Gone → ⊥
+not_gone s not e = false≢true (sym not ∙ ap is_gone e)
+
+known : (s t : SectionState) → is_reached s ≡ true → is_gone s ≡ false → IsUnknown s t
+unfolding IsUnknown
+known s t reached not = (λ e. absurd (false≢true (sym e ∙ reached)), λ gone. absurd (not_gone s not gone))
+
+ended : (s t : SectionState) → t ≡ Gone → IsUnknown s t
+unfolding IsUnknown
+ended s t gone = (λ _. inr gone, λ _. gone)
+
+waits : (s t : SectionState) → is_gone s ≡ false → is_reached t ≡ false → IsUnknown s t
+unfolding IsUnknown
+waits s t not unknown = (λ _. inl unknown, λ gone. absurd (not_gone s not gone))
+
+StaysUnknown : End → End → Type 0
+StaysUnknown (wire x) (wire y) = IsUnknown x.head.state y.head.state
+StaysUnknown (wire x) (owner v) = ⊥
+StaysUnknown (owner u) f = Unit {0}
+
+end_same : (e : End) → StaysUnknown e e
+unfolding StaysUnknown
+end_same (wire x) = same_state x.head.state
+end_same (owner u) = tt
+
+end_then : (e f g : End) → StaysUnknown e f → StaysUnknown f g → StaysUnknown e g
+unfolding StaysUnknown
+end_then (wire x) (wire y) (wire z) one other = in_turn x.head.state y.head.state z.head.state one other
+end_then (wire x) (wire y) (owner w) one other = absurd other
+end_then (wire x) (owner v) g one other = absurd one
+end_then (owner u) f g one other = tt
+
+-- An effect of the other end.
+
+TakenUnknown : Section → Section × Acted → Type 0
+TakenUnknown x done = IsUnknown x.head.state done.0.head.state
+
+section_unknown : (ticks : Ticks) (h : Hand) (x : Section) (s : SectionState) → x.head.state ≡ s → StaysUnknown (wire x) (section_takes ticks (section_takes_by s h) h x).0
+unfolding StaysUnknown TakenUnknown section_row section_takes line_takes windowed_takes
+section_unknown ticks h x Asked e = known x.head.state _ (rw e refl) (rw e refl)
+section_unknown ticks h x Up e = known x.head.state _ (rw e refl) (rw e refl)
+section_unknown ticks h x Resetting e = known x.head.state _ (rw e refl) (rw e refl)
+section_unknown ticks h x Ending e = known x.head.state _ (rw e refl) (rw e refl)
+section_unknown ticks (hand.End cause body importance) x Asking e = waits x.head.state _ (rw e refl) refl
+section_unknown ticks (hand.Left units true) x s e = either (TakenUnknown x) (x.head.class == 3) _ _ (λ _. same_state x.head.state) (λ _. same_state x.head.state)
+section_unknown ticks (hand.Left units false) x s e = either (TakenUnknown x) (x.head.class == 3) _ _ (λ _. same_state x.head.state) (λ _. same_state x.head.state)
+section_unknown ticks _ x s e = same_state x.head.state
+
+all_fit : (hands : List Hand) → AllByRecursion (λ (h : Hand). Unit {0}) hands
+all_fit [] = tt
+all_fit (h ∷ hands) = (tt, all_fit hands)
+
+takes_unknown : (ticks : Ticks) (h : Hand) (e : End) → StaysUnknown e (end_takes ticks h e).0
+unfolding StaysUnknown
+takes_unknown ticks h (wire x) = section_unknown ticks h x x.head.state refl
+takes_unknown ticks h (owner u) = tt
+
+taken : (ticks : Ticks) → AreTaken ticks (λ h. Unit {0}) StaysUnknown
+taken ticks = record {
+  same = end_same;
+  in_turn = end_then;
+  takes = λ h e fits. (takes_unknown ticks h e, all_fit (hands_of (end_takes ticks h e).1));
+}
+
+-- what the other end becomes by an act of the one
+that_unknown : (ticks : Ticks) (acting : End × Acted) (that : End) → StaysUnknown that (settles ticks acting that).0.that
+that_unknown ticks acting that = (settled_by (taken ticks) acting that (all_fit (hands_of acting.1))).1
+
+this_unknown : (ticks : Ticks) (this that : End) (acting : End × Acted) → StaysUnknown this acting.0 → Both StaysUnknown (both this that) (settles ticks acting that).0
+this_unknown ticks this that acting acts =
+    let s = settled_by (taken ticks) acting that (all_fit (hands_of acting.1)) in (end_then this acting.0 (settles ticks acting that).0.this acts s.0, s.1)
+
+-- A request, and a tick.
+
+abbrev From : Connection → Connection × List Output → Type 0
+From c r = Both StaysUnknown c r.0
+
+both_unknown : (c : Connection) → Both StaysUnknown c c
+both_unknown c = (end_same c.this, end_same c.that)
+
+asks_unknown : (ticks : Ticks) (ssn : ℕ) (r : Request) (this that : End) → From (both this that) (asks ticks ssn r this that)
+unfolding asks StaysUnknown
+asks_unknown ticks ssn r (owner u) (wire x) =
+    either (From (both (owner u) (wire x))) (u.ssn == ssn) _ _ (λ _. unless (reason_against r u x)) (λ _. both_unknown (both (owner u) (wire x)))
+  where
+    unless : (why : Option Reason) → From (both (owner u) (wire x)) (asks_unless why ticks r u x)
+    unless (Some why) = both_unknown (both (owner u) (wire x))
+    unless None = this_unknown ticks (owner u) (wire x) (let done = user_asks (asking_cell u.state r) r u in (owner done.0, done.1)) tt
+asks_unknown ticks ssn r (owner u) (owner v) = both_unknown (both (owner u) (owner v))
+asks_unknown ticks ssn r (wire x) that = both_unknown (both (wire x) that)
+
+asked_unknown : (ticks : Ticks) (ssn : ℕ) (r : Request) (this that : End) → From (both this that) (asked_by ticks ssn r (both this that))
+asked_unknown ticks ssn r (owner u) that = asks_unknown ticks ssn r (owner u) that
+asked_unknown ticks ssn r (wire x) that = let back = asks_unknown ticks ssn r that (wire x) in (back.1, back.0)
+
+FiredUnknown : Section → Section × Acted → Type 0
+FiredUnknown x done = IsUnknown x.head.state done.0.head.state
+
+section_fires_unknown : (ticks : Ticks) (t : Timer) (x : Section) (s : SectionState) → x.head.state ≡ s → StaysUnknown (wire x) (section_fires ticks (section_cell s (firing t)) x).0
+unfolding StaysUnknown section_row section_fires line_fires
+section_fires_unknown ticks t x Asked e = known x.head.state _ (rw e refl) (rw e refl)
+section_fires_unknown ticks t x Up e = known x.head.state _ (rw e refl) (rw e refl)
+section_fires_unknown ticks t x Resetting e = known x.head.state _ (rw e refl) (rw e refl)
+section_fires_unknown ticks t x Ending e = known x.head.state _ (rw e refl) (rw e refl)
+section_fires_unknown ticks timer.Connect x Asking e = ended x.head.state _ refl
+section_fires_unknown ticks timer.Connect x Waning e = ended x.head.state _ refl
+section_fires_unknown ticks _ x s e = same_state x.head.state
+
+fires_unknown : (ticks : Ticks) (t : Timer) (this that : End) → From (both this that) (fires ticks t this that)
+unfolding StaysUnknown
+fires_unknown ticks t this that = either (From (both this that)) (is_due_at t this) _ _ (λ _. fires_here this) (λ _. both_unknown (both this that))
+  where
+    fires_here : (this : End) → From (both this that) (fires_at ticks t this that)
+    fires_here (wire x) =
+        let y : Section = record x { timers = rearmed ticks t x.timers } in
+        this_unknown ticks (wire y) that (section_fires ticks (section_cell x.head.state (firing t)) y) (section_fires_unknown ticks t y x.head.state refl)
+    fires_here (owner u) = both_unknown (both (owner u) that)
+
+fire_in_order : (ticks : Ticks) (timers : List Timer) (r : Connection × List Output) → From r.0 (fold (fires_next ticks) r timers)
+fire_in_order ticks [] r = both_unknown r.0
+fire_in_order ticks (t ∷ timers) r =
+    let one = fires_next ticks r t in
+    both_then (taken ticks) r.0 one.0 (fold (fires_next ticks) one timers).0 (fires_unknown ticks t r.0.this r.0.that) (fire_in_order ticks timers one)
+
+due_unknown : (ticks : Ticks) (c : Connection) → From c (fires_due ticks c)
+unfolding fires_due
+due_unknown ticks c = fire_in_order ticks firing_order (c, [])
+
+ticked_unknown : (e : End) → StaysUnknown e (ticked e)
+unfolding StaysUnknown
+ticked_unknown (wire x) = same_state x.head.state
+ticked_unknown (owner u) = tt
+
+ticks_unknown : (ticks : Ticks) (c : Connection) → From c (ticks_by ticks c)
+ticks_unknown ticks c =
+    let k = taken ticks in
+    let lower = both (ticked c.this) (ticked c.that) in
+    let one = fires_due ticks lower in
+    let other = fires_due ticks (turned one.0) in
+    let back = due_unknown ticks (turned one.0) in
+    both_then k c one.0 (turned other.0) (both_then k c lower one.0 (ticked_unknown c.this, ticked_unknown c.that) (due_unknown ticks lower)) (back.1, back.0)
+
+-- A message for the section itself.
+
+Becomes : (SectionHead → SectionHead → Type 0) → SectionHead → End → Type 0
+Becomes Confirmed x (wire y) = (is_reached y.head.state ≡ false) ⊎ (y.head.state ≡ Gone) ⊎ Confirmed x y.head
+Becomes Confirmed x (owner u) = ⊥
+
+still_becomes : (Confirmed : SectionHead → SectionHead → Type 0) (x : Section) (f : End) → StaysUnknown (wire x) f → is_reached x.head.state ≡ false → Becomes Confirmed x.head f
+unfolding StaysUnknown IsUnknown Becomes
+still_becomes Confirmed x (wire y) stays unknown = by_state (stays.0 unknown)
+  where
+    by_state : (is_reached y.head.state ≡ false) ⊎ (y.head.state ≡ Gone) → (is_reached y.head.state ≡ false) ⊎ (y.head.state ≡ Gone) ⊎ Confirmed x.head y.head
+    by_state (inl unknown) = inl unknown
+    by_state (inr gone) = inr (inl gone)
+still_becomes Confirmed x (owner v) stays unknown = absurd stays
+
+-- what the other end is told of CC or CREF brings nothing back
+abbrev IsSetUp : Hand → Type 0
+IsSetUp (hand.Accept class credit called body importance) = Unit {0}
+IsSetUp (hand.Refuse cause called body importance) = Unit {0}
+IsSetUp _ = ⊥
+
+abbrev NoHands : Acted → Type 0
+NoHands done = (done.first ≡ []) × (done.then ≡ [])
+
+section_tells_none : (ticks : Ticks) (h : Hand) (x : Section) (s : SectionState) → IsSetUp h → NoHands (section_takes ticks (section_takes_by s h) h x).1
+unfolding section_row section_takes line_takes
+section_tells_none ticks (hand.Accept class credit called body importance) x Asked is = (refl, refl)
+section_tells_none ticks (hand.Accept class credit called body importance) x _ is = (refl, refl)
+section_tells_none ticks (hand.Refuse cause called body importance) x Asked is = (refl, refl)
+section_tells_none ticks (hand.Refuse cause called body importance) x _ is = (refl, refl)
+section_tells_none ticks _ x s is = absurd is
+
+user_tells_none : (h : Hand) (u : User) (s : UserState) → IsSetUp h → NoHands (user_takes (user_takes_by s h) h u).1
+unfolding user_row user_takes
+user_tells_none (hand.Accept class credit called body importance) u user.Calling is = (refl, refl)
+user_tells_none (hand.Accept class credit called body importance) u _ is = (refl, refl)
+user_tells_none (hand.Refuse cause called body importance) u user.Calling is = (refl, refl)
+user_tells_none (hand.Refuse cause called body importance) u _ is = (refl, refl)
+user_tells_none _ u s is = absurd is
+
+tells_none : (ticks : Ticks) (h : Hand) (e : End) → IsSetUp h → NoHands (end_takes ticks h e).1
+tells_none ticks h (wire x) is = section_tells_none ticks h x x.head.state is
+tells_none ticks h (owner u) is = user_tells_none h u u.state is
+
+nothing_back : (ticks : Ticks) (taken : End × Acted) (e : End) → NoHands taken.1 → (exchange 1 ticks taken e).0.that ≡ e
+unfolding exchange
+nothing_back ticks taken e none = rw (none.0, none.1) refl
+
+after_one : (P : End → Type 0) (ticks : Ticks) (e that : End) (outs : List Output) (h : Hand) → IsSetUp h → P e → P (settles ticks (e, gives_then outs (h ∷ [])) that).0.this
+unfolding exchange
+after_one P ticks e that outs h is p = subst P (sym (nothing_back ticks (end_takes ticks h that) e (tells_none ticks h that is))) p
+
+after_none : (P : End → Type 0) (ticks : Ticks) (e that : End) (outs : List Output) → P e → P (settles ticks (e, gives outs) that).0.this
+unfolding exchange
+after_none P ticks e that outs p = p
+
+-- CC came from a point, with these parameters
+record IsBy (o : Occasion) (point : ℕ) (m : Parameters) (before after : SectionHead) : Type 0 where
+  confirmed : o ≡ on.Cc
+  point_is : after.point ≡ point
+  other : after.other ≡ m.slr
+  state : ((after.state ≡ Up) × (after.class ≡ m.class)) ⊎ (after.state ≡ Ending)
+
+CcHeard : Ticks → ℕ → Parameters → Section → End → Line × Acted → Type 0
+CcHeard ticks point m x that done = Becomes (IsBy on.Cc point m) x.head (settles ticks (timed ticks x (by_line (λ line. done) x)) that).0.this
+
+cc_heard : (ticks : Ticks) (point : ℕ) (m : Parameters) (x : Section) (that : End) → CcHeard ticks point m x that (line_hears cell.Confirm point m (line_in x))
+unfolding CcHeard line_hears Becomes
+cc_heard ticks point m x that =
+    either (CcHeard ticks point m x that) ((m.class == 2 || m.class == 3) && nat_le m.class x.head.class) _ _
+    (λ _. after_one (Becomes (IsBy on.Cc point m) x.head) ticks _ that [] _ tt (inr (inr (record { confirmed = refl; point_is = refl; other = refl; state = inl (refl, refl) }))))
+    (λ _. after_one (Becomes (IsBy on.Cc point m) x.head) ticks _ that _ _ tt (inr (inr (record { confirmed = refl; point_is = refl; other = refl; state = inr refl }))))
+
+hears_at : (ticks : Ticks) (o : Occasion) (point : ℕ) (m : Parameters) (x : Section) (that : End) (s : SectionState) → x.head.state ≡ s → is_reached s ≡ false
+    → Becomes (IsBy o point m) x.head (settles ticks (section_hears ticks (section_cell s o) point m x) that).0.this
+unfolding section_row section_hears line_hears Becomes CcHeard
+hears_at ticks on.Cc point m x that Asking e unknown = cc_heard ticks point m x that
+hears_at ticks on.Cc point m x that Waning e unknown =
+    after_none (Becomes (IsBy on.Cc point m) x.head) ticks _ that _ (inr (inr (record { confirmed = refl; point_is = refl; other = refl; state = inr refl })))
+hears_at ticks on.Cref point m x that Asking e unknown = after_one (Becomes (IsBy on.Cref point m) x.head) ticks _ that [] _ tt (inr (inl refl))
+hears_at ticks on.Cref point m x that Waning e unknown = after_none (Becomes (IsBy on.Cref point m) x.head) ticks _ that [] (inr (inl refl))
+hears_at ticks on.ConnectFires point m x that Waning e unknown = after_none (Becomes (IsBy on.ConnectFires point m) x.head) ticks _ that [] (inr (inl refl))
+hears_at ticks o point m x that Asking e unknown = after_none (Becomes (IsBy o point m) x.head) ticks _ that _ (inl (rw e refl))
+hears_at ticks o point m x that Waning e unknown = after_none (Becomes (IsBy o point m) x.head) ticks _ that _ (inl (rw e refl))
+hears_at ticks o point m x that _ e unknown = absurd (false≢true (sym unknown))
+
+section_hears_it : (ticks : Ticks) (o : Occasion) (point : ℕ) (m : Parameters) (x : Section) (that : End) → is_reached x.head.state ≡ false
+    → Becomes (IsBy o point m) x.head (hears_message ticks o point m x that).0.this
+unfolding hears_message Becomes
+section_hears_it ticks o point m x that unknown =
+    either (λ (r : Connection × List Output). Becomes (IsBy o point m) x.head r.0.this) (is_from_elsewhere point x.head) _ _ (λ _. inl unknown) (λ _. by_check (checked o m x.head))
+  where
+    by_check : (c : Option Output) → Becomes (IsBy o point m) x.head (settles ticks (hears_checked ticks o point m (in_touch ticks x) c) that).0.this
+    by_check (Some out) = after_none (Becomes (IsBy o point m) x.head) ticks _ that (out ∷ []) (inl unknown)
+    by_check None = hears_at ticks o point m (in_touch ticks x) that x.head.state refl unknown
+
+-- a message that names the section, and one that doesn't
+own_arrival : (ticks : Ticks) (point : ℕ) (a : Arrival) (x : Section) (this that : End) → this ≡ wire x → is_reached x.head.state ≡ false → is_named a.parameters.dlr this ≡ true
+    → Becomes (IsConfirmed point a) x.head (at_this (hears_message ticks a.occasion point a.parameters) (both this that)).0.this
+unfolding Becomes
+own_arrival ticks point a x this that is unknown =
+    subst (λ (e : End). is_named a.parameters.dlr e ≡ true → Becomes (IsConfirmed point a) x.head (at_this (hears_message ticks a.occasion point a.parameters) (both e that)).0.this) (sym is)
+    (λ named. as_arrival (hears_message ticks a.occasion point a.parameters x that).0.this named (section_hears_it ticks a.occasion point a.parameters x that unknown))
+  where
+    as_arrival : (e : End) → is_named a.parameters.dlr (wire x) ≡ true → Becomes (IsBy a.occasion point a.parameters) x.head e → Becomes (IsConfirmed point a) x.head e
+    as_arrival (wire y) named (inl unknown) = inl unknown
+    as_arrival (wire y) named (inr (inl gone)) = inr (inl gone)
+    as_arrival (wire y) named (inr (inr by)) = inr (inr (record {
+      confirmed = by.confirmed;
+      named = sym (eqb-true x.head.mine a.parameters.dlr (first_true (x.head.mine == a.parameters.dlr) _ named));
+      point = by.point_is;
+      other = by.other;
+      state = by.state;
+    }))
+    as_arrival (owner u) named b = absurd b
+
+other_arrival : (ticks : Ticks) (point : ℕ) (a : Arrival) (x : Section) (this that : End) → that ≡ wire x → is_reached x.head.state ≡ false
+    → Becomes (IsConfirmed point a) x.head (at_this (hears_message ticks a.occasion point a.parameters) (both this that)).0.that
+unfolding hears_message
+other_arrival ticks point a x this that is unknown =
+    let f = (at_this (hears_message ticks a.occasion point a.parameters) (both this that)).0.that in
+    still_becomes (IsConfirmed point a) x f (subst (λ (e : End). StaysUnknown e f) is (stays this)) unknown
+  where
+    stays : (this : End) → StaysUnknown that (at_this (hears_message ticks a.occasion point a.parameters) (both this that)).0.that
+    stays (wire z) =
+        either (λ (r : Connection × List Output). StaysUnknown that r.0.that) (is_from_elsewhere point z.head) _ _ (λ _. end_same that) (λ _. that_unknown ticks _ that)
+    stays (owner u) = end_same that
+
+message_known : (ticks : Ticks) (point : ℕ) (a : Option Arrival) (end other : Connection → End) (c : Connection) (x : Section) → AreSides end other → end c ≡ wire x → is_reached x.head.state ≡ false
+    → names (destination_of a) c ≡ true → Becomes (ByArrival point a) x.head (end (heard_by ticks point a c).0)
+unfolding Becomes
+message_known ticks point None end other c x sides is unknown n = absurd (false≢true n)
+message_known ticks point (Some a) end other c x this_and_that is unknown n =
+    either (λ (r : Connection × List Output). Becomes (IsConfirmed point a) x.head r.0.this) (is_named a.parameters.dlr c.this) _ _
+    (λ named. own_arrival ticks point a x c.this c.that is unknown named) (λ _. other_arrival ticks point a x c.that c.this is unknown)
+message_known ticks point (Some a) end other c x that_and_this is unknown n =
+    either (λ (r : Connection × List Output). Becomes (IsConfirmed point a) x.head r.0.that) (is_named a.parameters.dlr c.this) _ _
+    (λ _. other_arrival ticks point a x c.this c.that is unknown)
+    (λ named. own_arrival ticks point a x c.that c.this is unknown (other_named (is_named a.parameters.dlr c.this) (is_named a.parameters.dlr c.that) n named))
+
+-- The event, and the step.
+
+event_known : (ticks : Ticks) (c : Connection) (event : Event) (end other : Connection → End) (x : Section) → AreSides end other → end c ≡ wire x → is_reached x.head.state ≡ false
+    → hears c event ≡ true → Becomes (ByConfirm event) x.head (end (event_step ticks c event).0)
+unfolding hears
+event_known ticks c (Arrived point sls bytes) end other x sides is unknown h = message_known ticks point (arrival_in bytes) end other c x sides is unknown h
+event_known ticks c (Requested ssn r) end other x sides is unknown h =
+    let d = (event_step ticks c (Requested ssn r)).0 in
+    still_becomes (ByConfirm (Requested ssn r)) x (end d) (subst (λ (e : End). StaysUnknown e (end d)) is (of_end StaysUnknown end other c d sides (asked_unknown ticks ssn r c.this c.that))) unknown
+event_known ticks c Tick end other x sides is unknown h =
+    let d = (event_step ticks c Tick).0 in
+    still_becomes (ByConfirm Tick) x (end d) (subst (λ (e : End). StaysUnknown e (end d)) is (of_end StaysUnknown end other c d sides (ticks_unknown ticks c))) unknown
+
+same_becomes : (Confirmed : SectionHead → SectionHead → Type 0) (x : SectionHead) (e f : End) → SameHead e f → Becomes Confirmed x e → Becomes Confirmed x f
+unfolding Becomes
+same_becomes Confirmed x (wire y) (wire z) same b = subst (λ (h : SectionHead). (is_reached h.state ≡ false) ⊎ (h.state ≡ Gone) ⊎ Confirmed x h) (sym same) b
+same_becomes Confirmed x (wire y) (owner v) same b = absurd same
+same_becomes Confirmed x (owner u) f same b = absurd b
+
+pub becomes_known : BecomesKnown
+unfolding connection_step Becomes
+becomes_known ticks c event end other x y h sides is after unknown =
+    let r = event_step ticks c event in
+    let d = (connection_step ticks c event).0 in
+    subst (Becomes (ByConfirm event) x.head) after
+    (same_becomes (ByConfirm event) x.head (end r.0) (end d) (of_end SameHead end other r.0 d sides (after_heads ticks r)) (event_known ticks c event end other x sides is unknown h))

@@ -1,0 +1,35 @@
+-- How a section that asks for a connection comes to know its other end (Q.714, 3.1.4): by CC for its reference alone.
+use Rattle.std.specs.Prelude.{IsTrue, ◌≡◌, ◌⊎◌, ℕ, false, List, Option, Some, None}
+use Rattle.relay_base.specs.declared.words.Event.{Event}
+use Rattle.relay_base.specs.declared.words.Event.TheVariants.{Message as Arrived}
+use Rattle.plant_core.specs.declared.terms.Ticks.{Ticks}
+use Rattle.section_model.specs.declared.cell.Occasion.TheVariants as on
+use Rattle.section_model.specs.declared.cell.SectionState.TheVariants.{Up, Ending, Gone}
+use Rattle.section_model.specs.Parameters.{Arrival, arrival_in}
+use Rattle.section_model.specs.Ends.{End, wire, SectionHead, Section, Connection, is_reached}
+use Rattle.section_model.specs.Step.{hears, connection_step}
+use Rattle.passing_law.specs.LeavingLaw.{AreSides}
+
+-- CC for the section came from a point: that is the section's point now, and the references are each other's. It is up, in the class that CC names, or
+-- it is released.
+pub record IsConfirmed (from : ℕ) (a : Arrival) (before after : SectionHead) : Type 0 where
+  pub confirmed : a.occasion ≡ on.Cc
+  pub named : a.parameters.dlr ≡ before.mine
+  pub point : after.point ≡ from
+  pub other : after.other ≡ a.parameters.slr
+  pub state : ((after.state ≡ Up) × (after.class ≡ a.parameters.class)) ⊎ (after.state ≡ Ending)
+
+abbrev pub ByArrival : ℕ → Option Arrival → SectionHead → SectionHead → Type 0
+ByArrival from None before after = ⊥
+ByArrival from (Some a) before after = IsConfirmed from a before after
+
+abbrev pub ByConfirm : Event → SectionHead → SectionHead → Type 0
+ByConfirm (Arrived from sls bytes) before after = ByArrival from (arrival_in bytes) before after
+ByConfirm _ before after = ⊥
+
+-- The law, of one step of what the connection hears: a section whose other end isn't known stays one, or it is over, or CC came.
+abbrev pub BecomesKnown : Type 0
+BecomesKnown =
+    (ticks : Ticks) (c : Connection) (event : Event) (end other : Connection → End) (x y : Section) →
+    IsTrue (hears c event) → AreSides end other → end c ≡ wire x → end (connection_step ticks c event).0 ≡ wire y → is_reached x.head.state ≡ false →
+    (is_reached y.head.state ≡ false) ⊎ (y.head.state ≡ Gone) ⊎ ByConfirm event x.head y.head
