@@ -23,7 +23,7 @@ use Rattle.section_model.specs.declared.hand.Acted.{Acted}
 use Rattle.section_model.specs.Table.{section_row, user_row, section_cell}
 use Rattle.section_model.specs.Parameters.{Parameters, Arrival, arrival_in}
 use Rattle.section_model.specs.Timing.{firing_order, firing, rearmed}
-use Rattle.section_model.specs.Ends.{End, wire, owner, Line, SectionHead, Section, User, Connection, turned, gives, gives_then, is_gone, is_reached}
+use Rattle.section_model.specs.Ends.{End, wire, owner, Line, SectionHead, Section, User, Connection, turned, gives, gives_then, is_gone, is_connected, is_reached}
 use Rattle.section_model.specs.Line.{line_hears, line_fires, line_takes}
 use Rattle.section_model.specs.Windowed.{windowed_takes}
 use Rattle.section_model.specs.UserEnd.{user_takes, user_asks}
@@ -34,12 +34,13 @@ use Rattle.section_model.specs.Step.{checked, hears_checked, in_touch, is_from_e
 use Rattle.connection_law.proofs.Flow.Flowing.{either}
 use Rattle.connection_law.proofs.Message.Hearing.{other_named}
 use Rattle.connection_law.proofs.Reference.Ends.{Both}
+use Rattle.passing_law.specs.TakingLaw.{at_this as at_this_end, at_that as at_that_end}
 use Rattle.passing_law.specs.LeavingLaw.{AreSides, this_and_that, that_and_this}
 use Rattle.passing_law.proofs.Exchanging.{both}
 use Rattle.passing_law.proofs.Taking.{SameHead}
 use Rattle.passing_law.proofs.Heads.{after_heads}
 use Rattle.passing_law.proofs.Passing.{first_true}
-use Rattle.hop_law.specs.Confirming.{IsConfirmed, ByArrival, ByConfirm, BecomesKnown}
+use Rattle.hop_law.specs.Confirming.{IsConfirmed, ByArrival, ByConfirm, is_answer, OnlyByConfirm, ByAnswer, BecomesKnown}
 use Rattle.hop_law.proofs.Along.{of_end}
 use Rattle.hop_law.proofs.Effects.{AreTaken, both_then, settled_by}
 
@@ -203,9 +204,18 @@ ticks_unknown ticks c =
 
 -- A message for the section itself.
 
+IsKnown : (SectionHead → SectionHead → Type 0) → SectionHead → End → Type 0
+IsKnown Confirmed x (wire y) = (y.head.state ≡ Gone) ⊎ Confirmed x y.head
+IsKnown Confirmed x (owner u) = ⊥
+
 Becomes : (SectionHead → SectionHead → Type 0) → SectionHead → End → Type 0
 Becomes Confirmed x (wire y) = (is_reached y.head.state ≡ false) ⊎ (y.head.state ≡ Gone) ⊎ Confirmed x y.head
 Becomes Confirmed x (owner u) = ⊥
+
+known_becomes : (Confirmed : SectionHead → SectionHead → Type 0) (x : SectionHead) (e : End) → IsKnown Confirmed x e → Becomes Confirmed x e
+unfolding IsKnown Becomes
+known_becomes Confirmed x (wire y) k = inr k
+known_becomes Confirmed x (owner u) k = absurd k
 
 still_becomes : (Confirmed : SectionHead → SectionHead → Type 0) (x : Section) (f : End) → StaysUnknown (wire x) f → is_reached x.head.state ≡ false → Becomes Confirmed x.head f
 unfolding StaysUnknown IsUnknown Becomes
@@ -264,24 +274,36 @@ record IsBy (o : Occasion) (point : ℕ) (m : Parameters) (before after : Sectio
   other : after.other ≡ m.slr
   state : ((after.state ≡ Up) × (after.class ≡ m.class)) ⊎ (after.state ≡ Ending)
 
-CcHeard : Ticks → ℕ → Parameters → Section → End → Line × Acted → Type 0
-CcHeard ticks point m x that done = Becomes (IsBy on.Cc point m) x.head (settles ticks (timed ticks x (by_line (λ line. done) x)) that).0.this
+KnownBy : Ticks → Occasion → ℕ → Parameters → Section → End → Section × Acted → Type 0
+KnownBy ticks o point m x that done = IsKnown (IsBy o point m) x.head (settles ticks (timed ticks x done) that).0.this
 
-cc_heard : (ticks : Ticks) (point : ℕ) (m : Parameters) (x : Section) (that : End) → CcHeard ticks point m x that (line_hears cell.Confirm point m (line_in x))
-unfolding CcHeard line_hears Becomes
+cc_heard : (ticks : Ticks) (point : ℕ) (m : Parameters) (x : Section) (that : End) → KnownBy ticks on.Cc point m x that (by_line (line_hears cell.Confirm point m) x)
+unfolding KnownBy line_hears IsKnown
 cc_heard ticks point m x that =
-    either (CcHeard ticks point m x that) ((m.class == 2 || m.class == 3) && nat_le m.class x.head.class) _ _
-    (λ _. after_one (Becomes (IsBy on.Cc point m) x.head) ticks _ that [] _ tt (inr (inr (record { confirmed = refl; point_is = refl; other = refl; state = inl (refl, refl) }))))
-    (λ _. after_one (Becomes (IsBy on.Cc point m) x.head) ticks _ that _ _ tt (inr (inr (record { confirmed = refl; point_is = refl; other = refl; state = inr refl }))))
+    either (λ (done : Line × Acted). KnownBy ticks on.Cc point m x that (by_line (λ line. done) x)) ((m.class == 2 || m.class == 3) && nat_le m.class x.head.class) _ _
+    (λ _. after_one (IsKnown (IsBy on.Cc point m) x.head) ticks _ that [] _ tt (inr (record { confirmed = refl; point_is = refl; other = refl; state = inl (refl, refl) })))
+    (λ _. after_one (IsKnown (IsBy on.Cc point m) x.head) ticks _ that _ _ tt (inr (record { confirmed = refl; point_is = refl; other = refl; state = inr refl })))
+
+-- CC or CREF in a state in which the other end isn't known
+answered_at : (ticks : Ticks) (o : Occasion) (point : ℕ) (m : Parameters) (x : Section) (that : End) (s : SectionState) → is_reached s ≡ false → is_answer o ≡ true
+    → IsKnown (IsBy o point m) x.head (settles ticks (section_hears ticks (section_cell s o) point m x) that).0.this
+unfolding section_row section_hears line_hears IsKnown KnownBy
+answered_at ticks on.Cc point m x that Asking unknown is = cc_heard ticks point m x that
+answered_at ticks on.Cc point m x that Waning unknown is =
+    after_none (IsKnown (IsBy on.Cc point m) x.head) ticks _ that _ (inr (record { confirmed = refl; point_is = refl; other = refl; state = inr refl }))
+answered_at ticks on.Cref point m x that Asking unknown is = after_one (IsKnown (IsBy on.Cref point m) x.head) ticks _ that [] _ tt (inl refl)
+answered_at ticks on.Cref point m x that Waning unknown is = after_none (IsKnown (IsBy on.Cref point m) x.head) ticks _ that [] (inl refl)
+answered_at ticks on.Cc point m x that _ unknown is = absurd (false≢true (sym unknown))
+answered_at ticks on.Cref point m x that _ unknown is = absurd (false≢true (sym unknown))
+answered_at ticks _ point m x that s unknown is = absurd (false≢true is)
 
 hears_at : (ticks : Ticks) (o : Occasion) (point : ℕ) (m : Parameters) (x : Section) (that : End) (s : SectionState) → x.head.state ≡ s → is_reached s ≡ false
     → Becomes (IsBy o point m) x.head (settles ticks (section_hears ticks (section_cell s o) point m x) that).0.this
-unfolding section_row section_hears line_hears Becomes CcHeard
-hears_at ticks on.Cc point m x that Asking e unknown = cc_heard ticks point m x that
-hears_at ticks on.Cc point m x that Waning e unknown =
-    after_none (Becomes (IsBy on.Cc point m) x.head) ticks _ that _ (inr (inr (record { confirmed = refl; point_is = refl; other = refl; state = inr refl })))
-hears_at ticks on.Cref point m x that Asking e unknown = after_one (Becomes (IsBy on.Cref point m) x.head) ticks _ that [] _ tt (inr (inl refl))
-hears_at ticks on.Cref point m x that Waning e unknown = after_none (Becomes (IsBy on.Cref point m) x.head) ticks _ that [] (inr (inl refl))
+unfolding section_row section_hears line_hears Becomes
+hears_at ticks on.Cc point m x that s e unknown =
+    known_becomes (IsBy on.Cc point m) x.head (settles ticks (section_hears ticks (section_cell s on.Cc) point m x) that).0.this (answered_at ticks on.Cc point m x that s unknown refl)
+hears_at ticks on.Cref point m x that s e unknown =
+    known_becomes (IsBy on.Cref point m) x.head (settles ticks (section_hears ticks (section_cell s on.Cref) point m x) that).0.this (answered_at ticks on.Cref point m x that s unknown refl)
 hears_at ticks on.ConnectFires point m x that Waning e unknown = after_none (Becomes (IsBy on.ConnectFires point m) x.head) ticks _ that [] (inr (inl refl))
 hears_at ticks o point m x that Asking e unknown = after_none (Becomes (IsBy o point m) x.head) ticks _ that _ (inl (rw e refl))
 hears_at ticks o point m x that Waning e unknown = after_none (Becomes (IsBy o point m) x.head) ticks _ that _ (inl (rw e refl))
@@ -297,6 +319,34 @@ section_hears_it ticks o point m x that unknown =
     by_check (Some out) = after_none (Becomes (IsBy o point m) x.head) ticks _ that (out ∷ []) (inl unknown)
     by_check None = hears_at ticks o point m (in_touch ticks x) that x.head.state refl unknown
 
+-- no check answers CC or CREF
+and_false : (b : Bool) → (b && false) ≡ false
+and_false true = refl
+and_false false = refl
+
+unchecked : (o : Occasion) (m : Parameters) (x : SectionHead) → is_answer o ≡ true → checked o m x ≡ None
+unchecked on.Cc m x is = rw (and_false (is_connected x.state)) refl
+unchecked on.Cref m x is = rw (and_false (is_connected x.state)) refl
+unchecked _ m x is = absurd (false≢true is)
+
+section_answers : (ticks : Ticks) (o : Occasion) (point : ℕ) (m : Parameters) (x : Section) (that : End) → is_reached x.head.state ≡ false → is_answer o ≡ true
+    → IsKnown (IsBy o point m) x.head (hears_message ticks o point m x that).0.this
+unfolding hears_message
+section_answers ticks o point m x that unknown is =
+    let P : Connection × List Output → Type 0 = λ r. IsKnown (IsBy o point m) x.head r.0.this in
+    either P (is_from_elsewhere point x.head) _ _ (λ elsewhere. absurd (false≢true (sym unknown ∙ first_true (is_reached x.head.state) _ elsewhere)))
+    (λ _. subst (λ c. P (settles ticks (hears_checked ticks o point m (in_touch ticks x) c) that)) (sym (unchecked o m x.head is))
+    (answered_at ticks o point m (in_touch ticks x) that x.head.state unknown is))
+
+as_confirmed : (point : ℕ) (a : Arrival) (x y : Section) → is_named a.parameters.dlr (wire x) ≡ true → IsBy a.occasion point a.parameters x.head y.head → IsConfirmed point a x.head y.head
+as_confirmed point a x y named by = record {
+  confirmed = by.confirmed;
+  named = sym (eqb-true x.head.mine a.parameters.dlr (first_true (x.head.mine == a.parameters.dlr) _ named));
+  point = by.point_is;
+  other = by.other;
+  state = by.state;
+}
+
 -- a message that names the section, and one that doesn't
 own_arrival : (ticks : Ticks) (point : ℕ) (a : Arrival) (x : Section) (this that : End) → this ≡ wire x → is_reached x.head.state ≡ false → is_named a.parameters.dlr this ≡ true
     → Becomes (IsConfirmed point a) x.head (at_this (hears_message ticks a.occasion point a.parameters) (both this that)).0.this
@@ -308,13 +358,7 @@ own_arrival ticks point a x this that is unknown =
     as_arrival : (e : End) → is_named a.parameters.dlr (wire x) ≡ true → Becomes (IsBy a.occasion point a.parameters) x.head e → Becomes (IsConfirmed point a) x.head e
     as_arrival (wire y) named (inl unknown) = inl unknown
     as_arrival (wire y) named (inr (inl gone)) = inr (inl gone)
-    as_arrival (wire y) named (inr (inr by)) = inr (inr (record {
-      confirmed = by.confirmed;
-      named = sym (eqb-true x.head.mine a.parameters.dlr (first_true (x.head.mine == a.parameters.dlr) _ named));
-      point = by.point_is;
-      other = by.other;
-      state = by.state;
-    }))
+    as_arrival (wire y) named (inr (inr by)) = inr (inr (as_confirmed point a x y named by))
     as_arrival (owner u) named b = absurd b
 
 other_arrival : (ticks : Ticks) (point : ℕ) (a : Arrival) (x : Section) (this that : End) → that ≡ wire x → is_reached x.head.state ≡ false
@@ -360,10 +404,50 @@ same_becomes Confirmed x (wire y) (wire z) same b = subst (λ (h : SectionHead).
 same_becomes Confirmed x (wire y) (owner v) same b = absurd same
 same_becomes Confirmed x (owner u) f same b = absurd b
 
-pub becomes_known : BecomesKnown
+only_by : OnlyByConfirm
 unfolding connection_step Becomes
-becomes_known ticks c event end other x y h sides is after unknown =
+only_by ticks c event end other x y h sides is after unknown =
     let r = event_step ticks c event in
     let d = (connection_step ticks c event).0 in
     subst (Becomes (ByConfirm event) x.head) after
     (same_becomes (ByConfirm event) x.head (end r.0) (end d) (of_end SameHead end other r.0 d sides (after_heads ticks r)) (event_known ticks c event end other x sides is unknown h))
+
+-- CC or CREF for the section.
+
+own_answer : (ticks : Ticks) (point : ℕ) (a : Arrival) (x : Section) (this that : End) → this ≡ wire x → is_reached x.head.state ≡ false → is_answer a.occasion ≡ true
+    → is_named a.parameters.dlr (wire x) ≡ true → IsKnown (IsConfirmed point a) x.head (at_this (hears_message ticks a.occasion point a.parameters) (both this that)).0.this
+unfolding IsKnown
+own_answer ticks point a x this that is unknown answer named =
+    subst (λ (e : End). IsKnown (IsConfirmed point a) x.head (at_this (hears_message ticks a.occasion point a.parameters) (both e that)).0.this) (sym is)
+    (of_arrival (hears_message ticks a.occasion point a.parameters x that).0.this (section_answers ticks a.occasion point a.parameters x that unknown answer))
+  where
+    of_arrival : (e : End) → IsKnown (IsBy a.occasion point a.parameters) x.head e → IsKnown (IsConfirmed point a) x.head e
+    of_arrival (wire y) (inl gone) = inl gone
+    of_arrival (wire y) (inr by) = inr (as_confirmed point a x y named by)
+    of_arrival (owner u) k = absurd k
+
+same_known : (Confirmed : SectionHead → SectionHead → Type 0) (x : SectionHead) (e f : End) → SameHead e f → IsKnown Confirmed x e → IsKnown Confirmed x f
+unfolding IsKnown
+same_known Confirmed x (wire y) (wire z) same k = subst (λ (h : SectionHead). (h.state ≡ Gone) ⊎ Confirmed x h) (sym same) k
+same_known Confirmed x (wire y) (owner v) same k = absurd same
+same_known Confirmed x (owner u) f same k = absurd k
+
+by_answer : ByAnswer
+unfolding connection_step IsKnown
+by_answer ticks c point sls bytes a x y end e answer named (at_this_end is) unknown after =
+    let r = event_step ticks c (Arrived point sls bytes) in
+    let K : End → Type 0 = IsKnown (IsConfirmed point a) x.head in
+    let heard : K r.0.this = subst (λ b. K (heard_by ticks point b c).0.this) (sym e)
+    (either (λ (r : Connection × List Output). K r.0.this) (is_named a.parameters.dlr c.this) _ _ (λ _. own_answer ticks point a x c.this c.that is unknown answer named)
+    (λ not. absurd (false≢true (sym not ∙ subst (λ (e : End). is_named a.parameters.dlr e ≡ true) (sym is) named)))) in
+    subst K after (same_known (IsConfirmed point a) x.head r.0.this (after_event ticks r).0.this (after_heads ticks r).0 heard)
+by_answer ticks c point sls bytes a x y end e answer named (at_that_end is not_this) unknown after =
+    let r = event_step ticks c (Arrived point sls bytes) in
+    let K : End → Type 0 = IsKnown (IsConfirmed point a) x.head in
+    let heard : K r.0.that = subst (λ b. K (heard_by ticks point b c).0.that) (sym e)
+    (either (λ (r : Connection × List Output). K r.0.that) (is_named a.parameters.dlr c.this) _ _ (λ is_this. absurd (false≢true (sym not_this ∙ is_this)))
+    (λ _. own_answer ticks point a x c.that c.this is unknown answer named)) in
+    subst K after (same_known (IsConfirmed point a) x.head r.0.that (after_event ticks r).0.that (after_heads ticks r).1 heard)
+
+pub becomes_known : BecomesKnown
+becomes_known = record { only_by = only_by; by_answer = by_answer }
