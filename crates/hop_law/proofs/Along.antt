@@ -84,7 +84,7 @@ of_other : (R : End → End → Type 0) (end other : Connection → End) (c d : 
 of_other R end other c d this_and_that r = r.1
 of_other R end other c d that_and_this r = r.0
 
-sides_in_step : (end other : Connection → End) (c : Connection) → AreSides end other → IsInStep c → AreInStep (end c) (other c)
+pub sides_in_step : (end other : Connection → End) (c : Connection) → AreSides end other → IsInStep c → AreInStep (end c) (other c)
 sides_in_step end other c this_and_that k = k
 sides_in_step end other c that_and_this k = kept_back c k
 

@@ -27,7 +27,7 @@ use Rattle.section_model.specs.Ends.{End, wire, owner, Line, SectionHead, Sectio
 use Rattle.section_model.specs.Line.{line_hears, line_fires, line_takes}
 use Rattle.section_model.specs.Windowed.{windowed_takes}
 use Rattle.section_model.specs.UserEnd.{user_takes, user_asks}
-use Rattle.section_model.specs.Acting.{timed, by_line, line_in, section_hears, section_fires, section_takes, section_takes_by, user_takes_by, end_takes}
+use Rattle.section_model.specs.Acting.{timed, by_line, section_hears, section_fires, section_takes, section_takes_by, user_takes_by, end_takes}
 use Rattle.section_model.specs.Coupling.{exchange, settles}
 use Rattle.section_model.specs.Laws.{hands_of}
 use Rattle.section_model.specs.Step.{checked, hears_checked, in_touch, is_from_elsewhere, hears_message, asking_cell, reason_against, asks_unless, asks, ticked, is_due_at, fires_at, fires, fires_next, fires_due, ticks_by, after_event, is_named, at_this, heard_by, asked_by, destination_of, names, hears, event_step, connection_step}
@@ -227,7 +227,7 @@ still_becomes Confirmed x (wire y) stays unknown = by_state (stays.0 unknown)
 still_becomes Confirmed x (owner v) stays unknown = absurd stays
 
 -- what the other end is told of CC or CREF brings nothing back
-abbrev IsSetUp : Hand → Type 0
+abbrev pub IsSetUp : Hand → Type 0
 IsSetUp (hand.Accept class credit called body importance) = Unit {0}
 IsSetUp (hand.Refuse cause called body importance) = Unit {0}
 IsSetUp _ = ⊥

@@ -1,5 +1,5 @@
 -- What the ends hand to each other, by the effects that may be handed over and a relation of an end to what it is later.
-use Rattle.std.proofs.Common.{ℕ, zero, suc, List, [], ◌∷◌, ◌++◌, fold}
+use Rattle.std.proofs.Common.{ℕ, zero, suc, List, [], ◌∷◌, fold}
 use Rattle.std.specs.List.{AllByRecursion}
 use Rattle.relay_base.specs.declared.words.Output.{Output}
 use Rattle.plant_core.specs.declared.terms.Ticks.{Ticks}

@@ -3,3 +3,4 @@ pub mod Taken
 pub mod Queued
 pub mod Effects
 pub mod Confirming
+pub mod Answering

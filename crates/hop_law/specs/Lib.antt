@@ -2,3 +2,4 @@ pub mod LeftAlong
 pub mod TakenAlong
 pub mod Waiting
 pub mod Confirming
+pub mod Answering

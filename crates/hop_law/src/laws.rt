@@ -1,4 +1,5 @@
 //! Laws of the definitions, each as the contract of a function.
+ghost use Rattle.hop_law.specs.Answering.{IsAnswered};
 ghost use Rattle.hop_law.specs.Confirming.{BecomesKnown};
 ghost use Rattle.hop_law.specs.LeftAlong.{LeftAlong};
 ghost use Rattle.hop_law.specs.TakenAlong.{TakenAlong};
@@ -22,4 +23,9 @@ pub fn units_wait()
 /// A section whose other end isn't known comes to know it by CC for its reference alone: the point, the reference and the class are those of CC.
 pub fn becomes_known()
     ensures { BecomesKnown }
+{}
+
+/// A section that was asked for a connection sends CC as it comes up, or CREF as it is over, and nothing before.
+pub fn is_answered()
+    ensures { IsAnswered }
 {}

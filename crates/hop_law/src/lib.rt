@@ -4,4 +4,4 @@
 
 mod laws;
 
-pub use laws::{becomes_known, left_along, taken_along, units_wait};
+pub use laws::{becomes_known, is_answered, left_along, taken_along, units_wait};
