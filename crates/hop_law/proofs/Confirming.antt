@@ -36,58 +36,59 @@ use Rattle.connection_law.proofs.Message.Hearing.{other_named}
 use Rattle.connection_law.proofs.Reference.Ends.{Both}
 use Rattle.passing_law.specs.TakingLaw.{at_this as at_this_end, at_that as at_that_end}
 use Rattle.passing_law.specs.LeavingLaw.{AreSides, this_and_that, that_and_this}
+use Rattle.passing_law.proofs.Effects.{AreTaken, exchanged}
 use Rattle.passing_law.proofs.Exchanging.{both}
 use Rattle.passing_law.proofs.Taking.{SameHead}
 use Rattle.passing_law.proofs.Heads.{after_heads}
 use Rattle.passing_law.proofs.Passing.{first_true}
-use Rattle.hop_law.specs.Confirming.{IsConfirmed, ByArrival, ByConfirm, is_answer, OnlyByConfirm, ByAnswer, BecomesKnown}
+use Rattle.hop_law.specs.Confirming.{IsStill, IsConfirmed, ByArrival, ByConfirm, is_answer, OnlyByConfirm, ByAnswer, BecomesKnown}
 use Rattle.hop_law.proofs.Along.{of_end}
-use Rattle.hop_law.proofs.Effects.{AreTaken, both_then, settled_by}
 
--- From a state to a later one, but by a message: where the other end isn't known it is not known still, or the section is over; and what is over stays so.
-IsUnknown : SectionState → SectionState → Type 0
-IsUnknown s t = (is_reached s ≡ false → (is_reached t ≡ false) ⊎ (t ≡ Gone)) × (s ≡ Gone → t ≡ Gone)
+-- From a head to a later one, but by a message: where the other end isn't known it is not known still, or the section is over, and its point stays; and
+-- what is over stays so.
+IsUnknown : SectionHead → SectionHead → Type 0
+IsUnknown x y = (is_reached x.state ≡ false → IsStill x y) × (x.state ≡ Gone → (y.state ≡ Gone) × (y.point ≡ x.point))
 
-same_state : (s : SectionState) → IsUnknown s s
+same_head : (x : SectionHead) → IsUnknown x x
 unfolding IsUnknown
-same_state s = (λ e. inl e, λ e. e)
+same_head x = (λ e. (inl e, refl), λ gone. (gone, refl))
 
-in_turn : (s t u : SectionState) → IsUnknown s t → IsUnknown t u → IsUnknown s u
+in_turn : (x y z : SectionHead) → IsUnknown x y → IsUnknown y z → IsUnknown x z
 unfolding IsUnknown
-in_turn s t u one other = (λ e. by_first (one.0 e), λ gone. other.1 (one.1 gone))
+in_turn x y z one other = (λ e. by_first (one.0 e), λ gone. let first = one.1 gone in let last = other.1 first.0 in (last.0, last.1 ∙ first.1))
   where
-    by_first : (is_reached t ≡ false) ⊎ (t ≡ Gone) → (is_reached u ≡ false) ⊎ (u ≡ Gone)
-    by_first (inl unknown) = other.0 unknown
-    by_first (inr gone) = inr (other.1 gone)
+    by_first : ((is_reached y.state ≡ false) ⊎ (y.state ≡ Gone)) × (y.point ≡ x.point) → IsStill x z
+    by_first (inl unknown, same) = let last = other.0 unknown in (last.0, last.1 ∙ same)
+    by_first (inr gone, same) = let last = other.1 gone in (inr last.0, last.1 ∙ same)
 
 not_gone : (s : SectionState) → is_gone s ≡ false → s ≡ Gone → ⊥
 not_gone s not e = false≢true (sym not ∙ ap is_gone e)
 
-known : (s t : SectionState) → is_reached s ≡ true → is_gone s ≡ false → IsUnknown s t
+known : (x y : SectionHead) → is_reached x.state ≡ true → is_gone x.state ≡ false → IsUnknown x y
 unfolding IsUnknown
-known s t reached not = (λ e. absurd (false≢true (sym e ∙ reached)), λ gone. absurd (not_gone s not gone))
+known x y reached not = (λ e. absurd (false≢true (sym e ∙ reached)), λ gone. absurd (not_gone x.state not gone))
 
-ended : (s t : SectionState) → t ≡ Gone → IsUnknown s t
+ended : (x y : SectionHead) → y.state ≡ Gone → y.point ≡ x.point → IsUnknown x y
 unfolding IsUnknown
-ended s t gone = (λ _. inr gone, λ _. gone)
+ended x y gone same = (λ _. (inr gone, same), λ _. (gone, same))
 
-waits : (s t : SectionState) → is_gone s ≡ false → is_reached t ≡ false → IsUnknown s t
+waits : (x y : SectionHead) → is_gone x.state ≡ false → is_reached y.state ≡ false → y.point ≡ x.point → IsUnknown x y
 unfolding IsUnknown
-waits s t not unknown = (λ _. inl unknown, λ gone. absurd (not_gone s not gone))
+waits x y not unknown same = (λ _. (inl unknown, same), λ gone. absurd (not_gone x.state not gone))
 
 StaysUnknown : End → End → Type 0
-StaysUnknown (wire x) (wire y) = IsUnknown x.head.state y.head.state
+StaysUnknown (wire x) (wire y) = IsUnknown x.head y.head
 StaysUnknown (wire x) (owner v) = ⊥
 StaysUnknown (owner u) f = Unit {0}
 
 end_same : (e : End) → StaysUnknown e e
 unfolding StaysUnknown
-end_same (wire x) = same_state x.head.state
+end_same (wire x) = same_head x.head
 end_same (owner u) = tt
 
 end_then : (e f g : End) → StaysUnknown e f → StaysUnknown f g → StaysUnknown e g
 unfolding StaysUnknown
-end_then (wire x) (wire y) (wire z) one other = in_turn x.head.state y.head.state z.head.state one other
+end_then (wire x) (wire y) (wire z) one other = in_turn x.head y.head z.head one other
 end_then (wire x) (wire y) (owner w) one other = absurd other
 end_then (wire x) (owner v) g one other = absurd one
 end_then (owner u) f g one other = tt
@@ -95,18 +96,18 @@ end_then (owner u) f g one other = tt
 -- An effect of the other end.
 
 TakenUnknown : Section → Section × Acted → Type 0
-TakenUnknown x done = IsUnknown x.head.state done.0.head.state
+TakenUnknown x done = IsUnknown x.head done.0.head
 
 section_unknown : (ticks : Ticks) (h : Hand) (x : Section) (s : SectionState) → x.head.state ≡ s → StaysUnknown (wire x) (section_takes ticks (section_takes_by s h) h x).0
 unfolding StaysUnknown TakenUnknown section_row section_takes line_takes windowed_takes
-section_unknown ticks h x Asked e = known x.head.state _ (rw e refl) (rw e refl)
-section_unknown ticks h x Up e = known x.head.state _ (rw e refl) (rw e refl)
-section_unknown ticks h x Resetting e = known x.head.state _ (rw e refl) (rw e refl)
-section_unknown ticks h x Ending e = known x.head.state _ (rw e refl) (rw e refl)
-section_unknown ticks (hand.End cause body importance) x Asking e = waits x.head.state _ (rw e refl) refl
-section_unknown ticks (hand.Left units true) x s e = either (TakenUnknown x) (x.head.class == 3) _ _ (λ _. same_state x.head.state) (λ _. same_state x.head.state)
-section_unknown ticks (hand.Left units false) x s e = either (TakenUnknown x) (x.head.class == 3) _ _ (λ _. same_state x.head.state) (λ _. same_state x.head.state)
-section_unknown ticks _ x s e = same_state x.head.state
+section_unknown ticks h x Asked e = known x.head _ (rw e refl) (rw e refl)
+section_unknown ticks h x Up e = known x.head _ (rw e refl) (rw e refl)
+section_unknown ticks h x Resetting e = known x.head _ (rw e refl) (rw e refl)
+section_unknown ticks h x Ending e = known x.head _ (rw e refl) (rw e refl)
+section_unknown ticks (hand.End cause body importance) x Asking e = waits x.head _ (rw e refl) refl refl
+section_unknown ticks (hand.Left units true) x s e = either (TakenUnknown x) (x.head.class == 3) _ _ (λ _. same_head x.head) (λ _. same_head x.head)
+section_unknown ticks (hand.Left units false) x s e = either (TakenUnknown x) (x.head.class == 3) _ _ (λ _. same_head x.head) (λ _. same_head x.head)
+section_unknown ticks _ x s e = same_head x.head
 
 all_fit : (hands : List Hand) → AllByRecursion (λ (h : Hand). Unit {0}) hands
 all_fit [] = tt
@@ -117,25 +118,30 @@ unfolding StaysUnknown
 takes_unknown ticks h (wire x) = section_unknown ticks h x x.head.state refl
 takes_unknown ticks h (owner u) = tt
 
-taken : (ticks : Ticks) → AreTaken ticks (λ h. Unit {0}) StaysUnknown
+taken : (ticks : Ticks) → AreTaken ticks (λ h. Unit {0}) (λ outs. Unit {0}) StaysUnknown
 taken ticks = record {
   same = end_same;
   in_turn = end_then;
-  takes = λ h e fits. (takes_unknown ticks h e, all_fit (hands_of (end_takes ticks h e).1));
+  none = tt;
+  joined = λ one other p q. tt;
+  takes = λ h e fits. (takes_unknown ticks h e, tt, all_fit (hands_of (end_takes ticks h e).1));
 }
 
 -- what the other end becomes by an act of the one
 that_unknown : (ticks : Ticks) (acting : End × Acted) (that : End) → StaysUnknown that (settles ticks acting that).0.that
-that_unknown ticks acting that = (settled_by (taken ticks) acting that (all_fit (hands_of acting.1))).1
+that_unknown ticks acting that = (exchanged (taken ticks) 2 acting that tt (all_fit (hands_of acting.1))).0.1
 
 this_unknown : (ticks : Ticks) (this that : End) (acting : End × Acted) → StaysUnknown this acting.0 → Both StaysUnknown (both this that) (settles ticks acting that).0
 this_unknown ticks this that acting acts =
-    let s = settled_by (taken ticks) acting that (all_fit (hands_of acting.1)) in (end_then this acting.0 (settles ticks acting that).0.this acts s.0, s.1)
+    let s = (exchanged (taken ticks) 2 acting that tt (all_fit (hands_of acting.1))).0 in (end_then this acting.0 (settles ticks acting that).0.this acts s.0, s.1)
 
 -- A request, and a tick.
 
 abbrev From : Connection → Connection × List Output → Type 0
 From c r = Both StaysUnknown c r.0
+
+both_then : (c d e : Connection) → Both StaysUnknown c d → Both StaysUnknown d e → Both StaysUnknown c e
+both_then c d e one other = (end_then c.this d.this e.this one.0 other.0, end_then c.that d.that e.that one.1 other.1)
 
 both_unknown : (c : Connection) → Both StaysUnknown c c
 both_unknown c = (end_same c.this, end_same c.that)
@@ -156,17 +162,17 @@ asked_unknown ticks ssn r (owner u) that = asks_unknown ticks ssn r (owner u) th
 asked_unknown ticks ssn r (wire x) that = let back = asks_unknown ticks ssn r that (wire x) in (back.1, back.0)
 
 FiredUnknown : Section → Section × Acted → Type 0
-FiredUnknown x done = IsUnknown x.head.state done.0.head.state
+FiredUnknown x done = IsUnknown x.head done.0.head
 
 section_fires_unknown : (ticks : Ticks) (t : Timer) (x : Section) (s : SectionState) → x.head.state ≡ s → StaysUnknown (wire x) (section_fires ticks (section_cell s (firing t)) x).0
 unfolding StaysUnknown section_row section_fires line_fires
-section_fires_unknown ticks t x Asked e = known x.head.state _ (rw e refl) (rw e refl)
-section_fires_unknown ticks t x Up e = known x.head.state _ (rw e refl) (rw e refl)
-section_fires_unknown ticks t x Resetting e = known x.head.state _ (rw e refl) (rw e refl)
-section_fires_unknown ticks t x Ending e = known x.head.state _ (rw e refl) (rw e refl)
-section_fires_unknown ticks timer.Connect x Asking e = ended x.head.state _ refl
-section_fires_unknown ticks timer.Connect x Waning e = ended x.head.state _ refl
-section_fires_unknown ticks _ x s e = same_state x.head.state
+section_fires_unknown ticks t x Asked e = known x.head _ (rw e refl) (rw e refl)
+section_fires_unknown ticks t x Up e = known x.head _ (rw e refl) (rw e refl)
+section_fires_unknown ticks t x Resetting e = known x.head _ (rw e refl) (rw e refl)
+section_fires_unknown ticks t x Ending e = known x.head _ (rw e refl) (rw e refl)
+section_fires_unknown ticks timer.Connect x Asking e = ended x.head _ refl refl
+section_fires_unknown ticks timer.Connect x Waning e = ended x.head _ refl refl
+section_fires_unknown ticks _ x s e = same_head x.head
 
 fires_unknown : (ticks : Ticks) (t : Timer) (this that : End) → From (both this that) (fires ticks t this that)
 unfolding StaysUnknown
@@ -182,7 +188,7 @@ fire_in_order : (ticks : Ticks) (timers : List Timer) (r : Connection × List Ou
 fire_in_order ticks [] r = both_unknown r.0
 fire_in_order ticks (t ∷ timers) r =
     let one = fires_next ticks r t in
-    both_then (taken ticks) r.0 one.0 (fold (fires_next ticks) one timers).0 (fires_unknown ticks t r.0.this r.0.that) (fire_in_order ticks timers one)
+    both_then r.0 one.0 (fold (fires_next ticks) one timers).0 (fires_unknown ticks t r.0.this r.0.that) (fire_in_order ticks timers one)
 
 due_unknown : (ticks : Ticks) (c : Connection) → From c (fires_due ticks c)
 unfolding fires_due
@@ -190,40 +196,36 @@ due_unknown ticks c = fire_in_order ticks firing_order (c, [])
 
 ticked_unknown : (e : End) → StaysUnknown e (ticked e)
 unfolding StaysUnknown
-ticked_unknown (wire x) = same_state x.head.state
+ticked_unknown (wire x) = same_head x.head
 ticked_unknown (owner u) = tt
 
 ticks_unknown : (ticks : Ticks) (c : Connection) → From c (ticks_by ticks c)
 ticks_unknown ticks c =
-    let k = taken ticks in
     let lower = both (ticked c.this) (ticked c.that) in
     let one = fires_due ticks lower in
     let other = fires_due ticks (turned one.0) in
     let back = due_unknown ticks (turned one.0) in
-    both_then k c one.0 (turned other.0) (both_then k c lower one.0 (ticked_unknown c.this, ticked_unknown c.that) (due_unknown ticks lower)) (back.1, back.0)
+    both_then c one.0 (turned other.0) (both_then c lower one.0 (ticked_unknown c.this, ticked_unknown c.that) (due_unknown ticks lower)) (back.1, back.0)
 
 -- A message for the section itself.
 
 IsKnown : (SectionHead → SectionHead → Type 0) → SectionHead → End → Type 0
-IsKnown Confirmed x (wire y) = (y.head.state ≡ Gone) ⊎ Confirmed x y.head
+IsKnown Confirmed x (wire y) = ((y.head.state ≡ Gone) × (y.head.point ≡ x.point)) ⊎ Confirmed x y.head
 IsKnown Confirmed x (owner u) = ⊥
 
 Becomes : (SectionHead → SectionHead → Type 0) → SectionHead → End → Type 0
-Becomes Confirmed x (wire y) = (is_reached y.head.state ≡ false) ⊎ (y.head.state ≡ Gone) ⊎ Confirmed x y.head
+Becomes Confirmed x (wire y) = IsStill x y.head ⊎ Confirmed x y.head
 Becomes Confirmed x (owner u) = ⊥
 
 known_becomes : (Confirmed : SectionHead → SectionHead → Type 0) (x : SectionHead) (e : End) → IsKnown Confirmed x e → Becomes Confirmed x e
 unfolding IsKnown Becomes
-known_becomes Confirmed x (wire y) k = inr k
+known_becomes Confirmed x (wire y) (inl gone) = inl (inr gone.0, gone.1)
+known_becomes Confirmed x (wire y) (inr confirmed) = inr confirmed
 known_becomes Confirmed x (owner u) k = absurd k
 
 still_becomes : (Confirmed : SectionHead → SectionHead → Type 0) (x : Section) (f : End) → StaysUnknown (wire x) f → is_reached x.head.state ≡ false → Becomes Confirmed x.head f
 unfolding StaysUnknown IsUnknown Becomes
-still_becomes Confirmed x (wire y) stays unknown = by_state (stays.0 unknown)
-  where
-    by_state : (is_reached y.head.state ≡ false) ⊎ (y.head.state ≡ Gone) → (is_reached y.head.state ≡ false) ⊎ (y.head.state ≡ Gone) ⊎ Confirmed x.head y.head
-    by_state (inl unknown) = inl unknown
-    by_state (inr gone) = inr (inl gone)
+still_becomes Confirmed x (wire y) stays unknown = inl (stays.0 unknown)
 still_becomes Confirmed x (owner v) stays unknown = absurd stays
 
 -- what the other end is told of CC or CREF brings nothing back
@@ -291,8 +293,8 @@ unfolding section_row section_hears line_hears IsKnown KnownBy
 answered_at ticks on.Cc point m x that Asking unknown is = cc_heard ticks point m x that
 answered_at ticks on.Cc point m x that Waning unknown is =
     after_none (IsKnown (IsBy on.Cc point m) x.head) ticks _ that _ (inr (record { confirmed = refl; point_is = refl; other = refl; state = inr refl }))
-answered_at ticks on.Cref point m x that Asking unknown is = after_one (IsKnown (IsBy on.Cref point m) x.head) ticks _ that [] _ tt (inl refl)
-answered_at ticks on.Cref point m x that Waning unknown is = after_none (IsKnown (IsBy on.Cref point m) x.head) ticks _ that [] (inl refl)
+answered_at ticks on.Cref point m x that Asking unknown is = after_one (IsKnown (IsBy on.Cref point m) x.head) ticks _ that [] _ tt (inl (refl, refl))
+answered_at ticks on.Cref point m x that Waning unknown is = after_none (IsKnown (IsBy on.Cref point m) x.head) ticks _ that [] (inl (refl, refl))
 answered_at ticks on.Cc point m x that _ unknown is = absurd (false≢true (sym unknown))
 answered_at ticks on.Cref point m x that _ unknown is = absurd (false≢true (sym unknown))
 answered_at ticks _ point m x that s unknown is = absurd (false≢true is)
@@ -304,19 +306,19 @@ hears_at ticks on.Cc point m x that s e unknown =
     known_becomes (IsBy on.Cc point m) x.head (settles ticks (section_hears ticks (section_cell s on.Cc) point m x) that).0.this (answered_at ticks on.Cc point m x that s unknown refl)
 hears_at ticks on.Cref point m x that s e unknown =
     known_becomes (IsBy on.Cref point m) x.head (settles ticks (section_hears ticks (section_cell s on.Cref) point m x) that).0.this (answered_at ticks on.Cref point m x that s unknown refl)
-hears_at ticks on.ConnectFires point m x that Waning e unknown = after_none (Becomes (IsBy on.ConnectFires point m) x.head) ticks _ that [] (inr (inl refl))
-hears_at ticks o point m x that Asking e unknown = after_none (Becomes (IsBy o point m) x.head) ticks _ that _ (inl (rw e refl))
-hears_at ticks o point m x that Waning e unknown = after_none (Becomes (IsBy o point m) x.head) ticks _ that _ (inl (rw e refl))
+hears_at ticks on.ConnectFires point m x that Waning e unknown = after_none (Becomes (IsBy on.ConnectFires point m) x.head) ticks _ that [] (inl (inr refl, refl))
+hears_at ticks o point m x that Asking e unknown = after_none (Becomes (IsBy o point m) x.head) ticks _ that _ (inl (inl (rw e refl), refl))
+hears_at ticks o point m x that Waning e unknown = after_none (Becomes (IsBy o point m) x.head) ticks _ that _ (inl (inl (rw e refl), refl))
 hears_at ticks o point m x that _ e unknown = absurd (false≢true (sym unknown))
 
 section_hears_it : (ticks : Ticks) (o : Occasion) (point : ℕ) (m : Parameters) (x : Section) (that : End) → is_reached x.head.state ≡ false
     → Becomes (IsBy o point m) x.head (hears_message ticks o point m x that).0.this
 unfolding hears_message Becomes
 section_hears_it ticks o point m x that unknown =
-    either (λ (r : Connection × List Output). Becomes (IsBy o point m) x.head r.0.this) (is_from_elsewhere point x.head) _ _ (λ _. inl unknown) (λ _. by_check (checked o m x.head))
+    either (λ (r : Connection × List Output). Becomes (IsBy o point m) x.head r.0.this) (is_from_elsewhere point x.head) _ _ (λ _. inl (inl unknown, refl)) (λ _. by_check (checked o m x.head))
   where
     by_check : (c : Option Output) → Becomes (IsBy o point m) x.head (settles ticks (hears_checked ticks o point m (in_touch ticks x) c) that).0.this
-    by_check (Some out) = after_none (Becomes (IsBy o point m) x.head) ticks _ that (out ∷ []) (inl unknown)
+    by_check (Some out) = after_none (Becomes (IsBy o point m) x.head) ticks _ that (out ∷ []) (inl (inl unknown, refl))
     by_check None = hears_at ticks o point m (in_touch ticks x) that x.head.state refl unknown
 
 -- no check answers CC or CREF
@@ -356,9 +358,8 @@ own_arrival ticks point a x this that is unknown =
     (λ named. as_arrival (hears_message ticks a.occasion point a.parameters x that).0.this named (section_hears_it ticks a.occasion point a.parameters x that unknown))
   where
     as_arrival : (e : End) → is_named a.parameters.dlr (wire x) ≡ true → Becomes (IsBy a.occasion point a.parameters) x.head e → Becomes (IsConfirmed point a) x.head e
-    as_arrival (wire y) named (inl unknown) = inl unknown
-    as_arrival (wire y) named (inr (inl gone)) = inr (inl gone)
-    as_arrival (wire y) named (inr (inr by)) = inr (inr (as_confirmed point a x y named by))
+    as_arrival (wire y) named (inl still) = inl still
+    as_arrival (wire y) named (inr by) = inr (as_confirmed point a x y named by)
     as_arrival (owner u) named b = absurd b
 
 other_arrival : (ticks : Ticks) (point : ℕ) (a : Arrival) (x : Section) (this that : End) → that ≡ wire x → is_reached x.head.state ≡ false
@@ -400,7 +401,7 @@ event_known ticks c Tick end other x sides is unknown h =
 
 same_becomes : (Confirmed : SectionHead → SectionHead → Type 0) (x : SectionHead) (e f : End) → SameHead e f → Becomes Confirmed x e → Becomes Confirmed x f
 unfolding Becomes
-same_becomes Confirmed x (wire y) (wire z) same b = subst (λ (h : SectionHead). (is_reached h.state ≡ false) ⊎ (h.state ≡ Gone) ⊎ Confirmed x h) (sym same) b
+same_becomes Confirmed x (wire y) (wire z) same b = subst (λ (h : SectionHead). IsStill x h ⊎ Confirmed x h) (sym same) b
 same_becomes Confirmed x (wire y) (owner v) same b = absurd same
 same_becomes Confirmed x (owner u) f same b = absurd b
 
@@ -428,7 +429,7 @@ own_answer ticks point a x this that is unknown answer named =
 
 same_known : (Confirmed : SectionHead → SectionHead → Type 0) (x : SectionHead) (e f : End) → SameHead e f → IsKnown Confirmed x e → IsKnown Confirmed x f
 unfolding IsKnown
-same_known Confirmed x (wire y) (wire z) same k = subst (λ (h : SectionHead). (h.state ≡ Gone) ⊎ Confirmed x h) (sym same) k
+same_known Confirmed x (wire y) (wire z) same k = subst (λ (h : SectionHead). ((h.state ≡ Gone) × (h.point ≡ x.point)) ⊎ Confirmed x h) (sym same) k
 same_known Confirmed x (wire y) (owner v) same k = absurd same
 same_known Confirmed x (owner u) f same k = absurd k
 

@@ -1,6 +1,5 @@
 pub mod Along
 pub mod Taken
 pub mod Queued
-pub mod Effects
 pub mod Confirming
 pub mod Answering

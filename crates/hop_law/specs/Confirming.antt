@@ -29,12 +29,16 @@ abbrev pub ByConfirm : Event → SectionHead → SectionHead → Type 0
 ByConfirm (Arrived from sls bytes) before after = ByArrival from (arrival_in bytes) before after
 ByConfirm _ before after = ⊥
 
+-- The other end isn't known still, or the section is over, and its point stays.
+abbrev pub IsStill : SectionHead → SectionHead → Type 0
+IsStill before after = ((is_reached after.state ≡ false) ⊎ (after.state ≡ Gone)) × (after.point ≡ before.point)
+
 -- In one step of what the connection hears, a section whose other end isn't known stays one, or it is over, or CC came.
 abbrev pub OnlyByConfirm : Type 0
 OnlyByConfirm =
     (ticks : Ticks) (c : Connection) (event : Event) (end other : Connection → End) (x y : Section) →
     IsTrue (hears c event) → AreSides end other → end c ≡ wire x → end (connection_step ticks c event).0 ≡ wire y → is_reached x.head.state ≡ false →
-    (is_reached y.head.state ≡ false) ⊎ (y.head.state ≡ Gone) ⊎ ByConfirm event x.head y.head
+    IsStill x.head y.head ⊎ ByConfirm event x.head y.head
 
 -- CC, or CREF
 abbrev pub is_answer : Occasion → Bool
@@ -48,7 +52,7 @@ ByAnswer =
     (ticks : Ticks) (c : Connection) (point sls : ℕ) (bytes : List ℕ) (a : Arrival) (x y : Section) (end : Connection → End) →
     arrival_in bytes ≡ Some a → is_answer a.occasion ≡ true → is_named a.parameters.dlr (wire x) ≡ true → StandsAt a.parameters.dlr c x end →
     is_reached x.head.state ≡ false → end (connection_step ticks c (Arrived point sls bytes)).0 ≡ wire y →
-    (y.head.state ≡ Gone) ⊎ IsConfirmed point a x.head y.head
+    ((y.head.state ≡ Gone) × (y.head.point ≡ x.head.point)) ⊎ IsConfirmed point a x.head y.head
 
 pub record BecomesKnown : Type 0 where
   pub only_by : OnlyByConfirm

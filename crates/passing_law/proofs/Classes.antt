@@ -1,5 +1,5 @@
 -- The class stays 2 or 3.
-use Rattle.std.proofs.Common.{◌≡◌, inl, inr, ℕ, zero, suc, ◌==◌, ◌&&◌, ◌||◌, not, nat_le, nat_lt, Bool, true, false, List, [], ◌∷◌, ◌++◌, length, map, fold, Option, Some, None, refl}
+use Rattle.std.proofs.Common.{◌≡◌, inl, inr, ℕ, ◌==◌, ◌&&◌, ◌||◌, not, nat_le, nat_lt, Bool, true, false, List, [], ◌∷◌, ◌++◌, length, map, fold, Option, Some, None, refl}
 use Rattle.std.specs.List.{AllByRecursion}
 use Rattle.std.proofs.lemmas.Bool.{false≢true, eqb-true}
 use Rattle.relay_base.specs.declared.causes.TheConstants.{ERROR_CLASS_MISMATCH, RESET_INCORRECT_RECEIVE_NUMBER, RESET_OUT_OF_WINDOW, RESET_REMOTE_PROCEDURE_ERROR}
@@ -27,7 +27,7 @@ use Rattle.section_model.specs.Line.{line_hears, line_fires, line_takes}
 use Rattle.section_model.specs.Windowed.{Windowed, windowed_hears, windowed_fires, windowed_takes, resets, is_next, is_used_up, sends_expedited}
 use Rattle.section_model.specs.UserEnd.{user_takes, user_asks, units_of, handed}
 use Rattle.section_model.specs.Acting.{line_in, in_windows, section_hears, section_fires, section_takes, section_takes_by, user_takes_by, end_takes}
-use Rattle.section_model.specs.Coupling.{with_more, other_takes, exchange, settles}
+use Rattle.section_model.specs.Coupling.{settles}
 use Rattle.section_model.specs.Laws.{hands_of}
 use Rattle.section_model.specs.Step.{checked, hears_checked, in_touch, is_from_elsewhere, hears_message, is_in_range, asking_cell, reason_against, asks_unless, asks, ticked, is_due_at, fires_at, fires, fires_next, fires_due, ticks_by, is_named, at_this, heard_by, asked_by, event_step, hears, connection_step}
 use Rattle.connection_law.specs.InStep.{class_at}
@@ -35,7 +35,7 @@ use Rattle.connection_law.proofs.Flow.Flowing.{either}
 use Rattle.connection_law.proofs.Message.Sent.{after_leaving}
 use Rattle.connection_law.proofs.Reference.Ends.{Both}
 use Rattle.passing_law.specs.ClassLaw.{IsOfAClass, ClassesStay}
-use Rattle.passing_law.proofs.Quiet.{parted}
+use Rattle.passing_law.proofs.Effects.{AreTaken, exchanged}
 use Rattle.passing_law.proofs.Exchanging.{both}
 use Rattle.passing_law.proofs.Passing.{first_true}
 
@@ -225,38 +225,18 @@ unfolding UserActs
 takes_class ticks h (wire x) fits = section_takes_class ticks (section_takes_by x.head.state h) h x fits
 takes_class ticks h (owner u) fits = user_takes_class (user_takes_by u.state h) h u fits
 
-unfoldable Exchanges : ℕ → Ticks → Type 0
-Exchanges n ticks = (acting : End × Acted) (that : End) → HandsFit (hands_of acting.1) → Both Later (both acting.0 that) (exchange n ticks acting that).0
-
-offered_class : (n : ℕ) (ticks : Ticks) → Exchanges n ticks → (r : Connection × List Output) (h : Hand) → HandFits h → Both Later r.0 (other_takes (exchange n ticks) ticks r h).0
-unfolding Exchanges
-offered_class n ticks keeps r h fits =
-    let taken = end_takes ticks h r.0.that in
-    let t = takes_class ticks h r.0.that fits in
-    let after = keeps taken r.0.this t.1 in (after.1, λ k. after.0 (t.0 k))
-
-hands_class : (n : ℕ) (ticks : Ticks) → Exchanges n ticks → (hands : List Hand) (r : Connection × List Output) → HandsFit hands
-    → Both Later r.0 (fold (other_takes (exchange n ticks) ticks) r hands).0
-hands_class n ticks keeps [] r fit = both_same r.0
-hands_class n ticks keeps (h ∷ hands) r fit =
-    let one = other_takes (exchange n ticks) ticks r h in
-    both_then r.0 one.0 (fold (other_takes (exchange n ticks) ticks) one hands).0 (offered_class n ticks keeps r h fit.0) (hands_class n ticks keeps hands one fit.1)
-
-exchange_class : (n : ℕ) (ticks : Ticks) → Exchanges n ticks
-unfolding exchange Exchanges
-exchange_class zero ticks acting that fit = both_same (both acting.0 that)
-exchange_class (suc n) ticks acting that fit =
-    let c = both acting.0 that in
-    let hands = parted HandFits acting.1.first acting.1.then fit in
-    let first = fold (other_takes (exchange n ticks) ticks) (c, []) acting.1.first in
-    both_then c first.0 (fold (other_takes (exchange n ticks) ticks) (with_more acting.1.outs first) acting.1.then).0
-    (hands_class n ticks (exchange_class n ticks) acting.1.first (c, []) hands.0)
-    (hands_class n ticks (exchange_class n ticks) acting.1.then (with_more acting.1.outs first) hands.1)
+class_taken : (ticks : Ticks) → AreTaken ticks HandFits (λ outs. Unit {0}) Later
+class_taken ticks = record {
+  same = later_same;
+  in_turn = λ e f g one other. λ k. other (one k);
+  none = tt;
+  joined = λ one other p q. tt;
+  takes = λ h e fits. let t = takes_class ticks h e fits in (t.0, tt, t.1);
+}
 
 settled_class : (ticks : Ticks) (this that : End) (acting : End × Acted) → Acts this acting → Both Later (both this that) (settles ticks acting that).0
-unfolding Exchanges
 settled_class ticks this that acting acts =
-    let after = exchange_class 2 ticks acting that acts.1 in (λ k. after.0 (acts.0 k), after.1)
+    let after = (exchanged (class_taken ticks) 2 acting that tt acts.1).0 in (λ k. after.0 (acts.0 k), after.1)
 
 -- The event.
 

@@ -1,5 +1,5 @@
 -- What came in goes on, but by a reset.
-use Rattle.std.proofs.Common.{◌≡◌, ◌⊎◌, inl, inr, ℕ, zero, suc, ◌==◌, ◌&&◌, ◌||◌, not, nat_le, nat_lt, if◌then◌else◌, Bool, true, false, List, [], ◌∷◌, ◌++◌, length, map, fold, Option, Some, None, refl, sym, ◌∙◌, subst, append_assoc, append-nil}
+use Rattle.std.proofs.Common.{◌≡◌, ◌⊎◌, inl, inr, ℕ, suc, ◌==◌, ◌&&◌, ◌||◌, not, nat_le, nat_lt, if◌then◌else◌, Bool, true, false, List, [], ◌∷◌, ◌++◌, length, map, fold, Option, Some, None, refl, sym, ◌∙◌, subst, append_assoc, append-nil}
 use Rattle.std.specs.List.{list_any, AllByRecursion}
 use Rattle.std.proofs.lemmas.Bool.{false≢true, eqb-true}
 use Rattle.relay_base.specs.declared.causes.TheConstants.{ERROR_CLASS_MISMATCH, RESET_END_USER, RESET_INCORRECT_RECEIVE_NUMBER, RESET_OUT_OF_WINDOW, RESET_REMOTE_PROCEDURE_ERROR}
@@ -48,7 +48,7 @@ use Rattle.passing_law.specs.EarlyLaw.{IsBefore, IsEmptyEarly}
 use Rattle.passing_law.specs.ClearingLaw.{is_reset, SendsReset, NoClearing}
 use Rattle.passing_law.specs.ClosingLaw.{may_take, is_resetting, IsNoOpening, StaysClosed}
 use Rattle.passing_law.proofs.Cells.{IsResetComes, IsCellOf, cell_of, as_occasion, taking_cell, IsResets, IsUserCellOf, as_asked, asking_cell_of, as_told, telling_cell}
-use Rattle.passing_law.proofs.Quiet.{parted}
+use Rattle.passing_law.proofs.Effects.{AreTaken, exchanged}
 use Rattle.passing_law.proofs.Exchanging.{both}
 use Rattle.passing_law.proofs.Taking.{not_set_up}
 use Rattle.passing_law.proofs.Passing.{second_true}
@@ -332,39 +332,18 @@ unfolding UserGoes
 takes_goes ticks h (wire x) plain = section_takes_goes ticks (section_takes_by x.head.state h) (as_occasion h) h x (no_reset_comes h plain) (taking_cell h x.head.state)
 takes_goes ticks h (owner u) plain = user_takes_goes (user_takes_by u.state h) (as_told h) h u plain (telling_cell h u.state)
 
-unfoldable Exchanges : ℕ → Ticks → Type 0
-Exchanges n ticks = (acting : End × Acted) (that : End) → AreNoReset (hands_of acting.1) → Both Goes (both acting.0 that) (exchange n ticks acting that).0
-
-offered_goes : (n : ℕ) (ticks : Ticks) → Exchanges n ticks → (r : Connection × List Output) (h : Hand) → IsNoReset h → Both Goes r.0 (other_takes (exchange n ticks) ticks r h).0
-unfolding Exchanges
-offered_goes n ticks goes r h plain =
-    let taken = end_takes ticks h r.0.that in
-    let t = takes_goes ticks h r.0.that plain in
-    let after = goes taken r.0.this t.2 in
-    (after.1, goes_then r.0.that taken.0 (exchange n ticks taken r.0.this).0.this (takes_early ticks h r.0.that, t.0, t.1) after.0)
-
-hands_go : (n : ℕ) (ticks : Ticks) → Exchanges n ticks → (hands : List Hand) (r : Connection × List Output) → AreNoReset hands
-    → Both Goes r.0 (fold (other_takes (exchange n ticks) ticks) r hands).0
-hands_go n ticks goes [] r plain = both_go_same r.0
-hands_go n ticks goes (h ∷ hands) r plain =
-    let one = other_takes (exchange n ticks) ticks r h in
-    both_go_then r.0 one.0 (fold (other_takes (exchange n ticks) ticks) one hands).0 (offered_goes n ticks goes r h plain.0) (hands_go n ticks goes hands one plain.1)
-
-exchange_goes : (n : ℕ) (ticks : Ticks) → Exchanges n ticks
-unfolding exchange Exchanges
-exchange_goes zero ticks acting that plain = both_go_same (both acting.0 that)
-exchange_goes (suc n) ticks acting that plain =
-    let c = both acting.0 that in
-    let hands = parted IsNoReset acting.1.first acting.1.then plain in
-    let first = fold (other_takes (exchange n ticks) ticks) (c, []) acting.1.first in
-    both_go_then c first.0 (fold (other_takes (exchange n ticks) ticks) (with_more acting.1.outs first) acting.1.then).0
-    (hands_go n ticks (exchange_goes n ticks) acting.1.first (c, []) hands.0)
-    (hands_go n ticks (exchange_goes n ticks) acting.1.then (with_more acting.1.outs first) hands.1)
+goes_taken : (ticks : Ticks) → AreTaken ticks IsNoReset (λ outs. Unit {0}) Goes
+goes_taken ticks = record {
+  same = goes_same;
+  in_turn = goes_then;
+  none = tt;
+  joined = λ one other p q. tt;
+  takes = λ h e plain. let t = takes_goes ticks h e plain in ((takes_early ticks h e, t.0, t.1), tt, t.2);
+}
 
 settled_goes : (ticks : Ticks) (this that : End) (acting : End × Acted) → KeptEarly this acting.0 → TakeGoes this acting → Both Goes (both this that) (settles ticks acting that).0
-unfolding Exchanges
 settled_goes ticks this that acting k t =
-    both_go_then (both this that) (both acting.0 that) (settles ticks acting that).0 ((k, t.0, t.1), goes_same that) (exchange_goes 2 ticks acting that t.2)
+    both_go_then (both this that) (both acting.0 that) (settles ticks acting that).0 ((k, t.0, t.1), goes_same that) (exchanged (goes_taken ticks) 2 acting that tt t.2).0
 
 -- the outputs of an act are among those of the exchange
 folded : (p : Output → Bool) (n : ℕ) (ticks : Ticks) (hands : List Hand) (r : Connection × List Output) → list_any p r.1 ≡ true

@@ -1,5 +1,6 @@
 pub mod Cells
 pub mod Quiet
+pub mod Effects
 pub mod Exchanging
 pub mod Taking
 pub mod Passing
