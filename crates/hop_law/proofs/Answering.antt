@@ -1,5 +1,5 @@
 -- How a section that was asked for a connection answers.
-use Rattle.std.proofs.Common.{◌≡◌, ◌≢◌, ◌⊎◌, inl, inr, ℕ, ◌+◌, ◌-◌, ◌==◌, ◌&&◌, ◌||◌, not, nat_le, nat_lt, min, take, drop, arith, Bool, true, false, if◌then◌else◌, List, [], ◌∷◌, ◌++◌, fold, Option, Some, None, refl, sym, ◌∙◌, ap, subst, eq-eqb, append_assoc, append-nil}
+use Rattle.std.proofs.Common.{◌≡◌, ◌≢◌, ◌⊎◌, inl, inr, ℕ, ◌+◌, ◌-◌, ◌==◌, ◌&&◌, ◌||◌, not, nat_le, nat_lt, min, take, drop, arith, true, false, if◌then◌else◌, List, [], ◌∷◌, ◌++◌, fold, Option, Some, None, refl, sym, ◌∙◌, ap, subst, eq-eqb, append_assoc, append-nil}
 use Rattle.std.proofs.lemmas.Bool.{false≢true, ne_eqb}
 use Rattle.relay_base.specs.declared.causes.TheConstants.{REFUSAL_ESTABLISHMENT_EXPIRED}
 use Rattle.relay_base.specs.declared.words.Event.{Event}
@@ -15,7 +15,7 @@ use Rattle.section_model.specs.declared.cell.Cell.TheVariants as cell
 use Rattle.section_model.specs.declared.cell.Occasion.{Occasion}
 use Rattle.section_model.specs.declared.cell.Occasion.TheVariants as on
 use Rattle.section_model.specs.declared.cell.SectionState.{SectionState}
-use Rattle.section_model.specs.declared.cell.SectionState.TheVariants.{Asked, Asking, Up, Gone}
+use Rattle.section_model.specs.declared.cell.SectionState.TheVariants.{Asked, Asking, Gone}
 use Rattle.section_model.specs.declared.cell.UserState.{UserState}
 use Rattle.section_model.specs.declared.cell.UserState.TheVariants as user
 use Rattle.section_model.specs.declared.cell.Timer.{Timer}
@@ -26,17 +26,17 @@ use Rattle.section_model.specs.declared.hand.Acted.{Acted}
 use Rattle.section_model.specs.Table.{section_row, user_row, section_cell}
 use Rattle.section_model.specs.Parameters.{Parameters, Arrival, arrival_in}
 use Rattle.section_model.specs.Timing.{firing_order, firing, rearmed}
-use Rattle.section_model.specs.Ends.{End, wire, owner, Line, SectionHead, Section, User, Connection, turned, gives, gives_then, cleared, is_up, is_connected}
+use Rattle.section_model.specs.Ends.{End, wire, owner, Line, SectionHead, Section, User, Connection, turned, gives_then, cleared, is_up, is_connected}
 use Rattle.section_flow.specs.Windows.{Windows}
 use Rattle.section_model.specs.Line.{sent_on, agreed_credit, line_hears, line_fires, line_takes}
 use Rattle.section_model.specs.UserEnd.{user_asks, given}
 use Rattle.section_model.specs.Windowed.{Windowed, numbered, leaves, acknowledges}
 use Rattle.section_model.specs.Acting.{timed, by_line, by_windows, line_in, section_hears, section_fires, section_takes, end_takes}
 use Rattle.section_model.specs.Coupling.{exchange, settles}
-use Rattle.section_model.specs.Step.{names_both, ends_both, names_another, is_of_other_class, knows_other, checked, hears_checked, in_touch, is_from_elsewhere, hears_message, asking_cell, reason_against, asks_unless, asks, ticked, is_due_at, fires_at, fires, fires_next, fires_due, ticks_by, on_windows, after_event, is_named, at_this, heard_by, asked_by, event_step, connection_step}
-use Rattle.connection_law.specs.InStep.{Stage, asked, asking, Meets, section_stage, user_stage, stage_at, AreInStep, IsInStep}
+use Rattle.section_model.specs.Step.{names_both, ends_both, names_another, is_of_other_class, knows_other, checked, hears_checked, in_touch, is_from_elsewhere, hears_message, asking_cell, reason_against, asks_unless, asks, ticked, is_due_at, fires, fires_next, fires_due, ticks_by, on_windows, after_event, is_named, at_this, heard_by, event_step, connection_step}
+use Rattle.connection_law.specs.InStep.{asked, Meets, section_stage, user_stage, stage_at, AreInStep, IsInStep}
 use Rattle.connection_law.proofs.Flow.Flowing.{either}
-use Rattle.passing_law.specs.LeavingLaw.{AreSides, this_and_that, that_and_this, IsApart}
+use Rattle.passing_law.specs.LeavingLaw.{this_and_that, that_and_this, IsApart}
 use Rattle.connection_law.proofs.Flow.Ends.{kept_back}
 use Rattle.passing_law.proofs.Exchanging.{both}
 use Rattle.passing_law.proofs.Taking.{SameHead}
@@ -44,7 +44,6 @@ use Rattle.passing_law.proofs.Heads.{after_heads}
 use Rattle.passing_law.proofs.Passing.{first_true, second_true}
 use Rattle.hop_law.specs.Waiting.{Waiting, messages_to}
 use Rattle.hop_law.specs.Answering.{waiting_on, Answers, silent, accepts, refuses, IsAnswered}
-use Rattle.hop_law.proofs.Along.{sides_in_step}
 use Rattle.hop_law.proofs.Queued.{messages_joined}
 use Rattle.hop_law.proofs.Confirming.{IsSetUp}
 
