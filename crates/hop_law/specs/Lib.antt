@@ -3,3 +3,4 @@ pub mod TakenAlong
 pub mod Waiting
 pub mod Confirming
 pub mod Answering
+pub mod Hop
