@@ -1,0 +1,6 @@
+//! The law of the form of a journal's text, as the contracts of functions without a body: what is printed of a book has it.
+#![tactic(auto)]
+
+mod laws;
+
+pub use laws::outputs_have_form;
