@@ -79,6 +79,9 @@ next_digit m (d ∷ ds) h w =
 pub number_is : (n : ℕ) → n < 10 ^ 64 → is_number (decimal n) ≡ true
 number_is n h = (decimal_by_steps_wide IsWhole first_digit next_digit n h).number
 
+pub all_digits : (n : ℕ) → n < 10 ^ 64 → list_all is_ascii_digit (decimal n) ≡ true
+all_digits n h = passes (length (decimal n) == 0 || has_leading_zero (decimal n)) (list_all is_ascii_digit (decimal n)) (number_is n h)
+
 -- ---- octets
 
 at : (p : ℕ → Bool) (table : List ℕ) (k : ℕ) → list_all p table ≡ true → k < length table → p (slice_index table k) ≡ true

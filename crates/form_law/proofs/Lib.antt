@@ -1,3 +1,5 @@
 pub mod Words
 pub mod Fields
 pub mod Outputs
+pub mod Headings
+pub mod Stamps

@@ -1,8 +1,20 @@
 //! Laws of the definitions, each as the contract of a function.
-ghost use Rattle.form_law.specs.FormLaw.{OutputsHaveForm};
+ghost use Rattle.form_law.specs.FormLaw.{HeadingsHaveForm, OutputsHaveForm, StampsAreRead};
 
 /// The line of an output that is printed is one that the form allows.
 #[tactic(auto, using(crate::proofs::Outputs::outputs_have_form))]
 pub fn outputs_have_form()
     ensures { OutputsHaveForm }
+{}
+
+/// The line of an entry that is printed says its stamp, and its routing or what it published.
+#[tactic(auto, using(crate::proofs::Headings::headings_have_form))]
+pub fn headings_have_form()
+    ensures { HeadingsHaveForm }
+{}
+
+/// Its stamp is read of these words.
+#[tactic(auto, using(crate::proofs::Stamps::stamps_are_read))]
+pub fn stamps_are_read()
+    ensures { StampsAreRead }
 {}

@@ -3,4 +3,4 @@
 
 mod laws;
 
-pub use laws::outputs_have_form;
+pub use laws::{headings_have_form, outputs_have_form, stamps_are_read};
