@@ -3,3 +3,4 @@ pub mod Fields
 pub mod Outputs
 pub mod Headings
 pub mod Stamps
+pub mod Print

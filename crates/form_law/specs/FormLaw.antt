@@ -1,5 +1,5 @@
 -- The laws of the form: what is printed has it.
-use Rattle.std.specs.Prelude.{◌≡◌, ℕ, ◌<◌, true, codes, List, Option, Some, None, option_map}
+use Rattle.std.specs.Prelude.{◌≡◌, ℕ, ◌<◌, true, codes, List, length, Option, Some, None, option_map}
 use Rattle.std.specs.Fmt.{decimal}
 use Rattle.relay_base.specs.declared.words.Output.{Output}
 use Rattle.relay_base.specs.declared.words.Stamp.{Stamp}
@@ -9,11 +9,13 @@ use Rattle.plant_core.specs.declared.entry.Asked.{Asked}
 use Rattle.plant_core.specs.declared.entry.Entry.{Entry}
 use Rattle.plant_core.specs.declared.entry.ControlEntry.{ControlEntry}
 use Rattle.journal_text.specs.Print.{cause_text}
-use Rattle.book_output.specs.Print.{line_of_output, line_of_entry, line_of_control}
+use Rattle.journal_text.specs.declared.book.Book.{Book}
+use Rattle.book_output.specs.Print.{line_of_output, line_of_entry, line_of_control, print_of}
+use Rattle.journal_form.specs.Form.{lane_lines, form_fault}
 use Rattle.journal_form.specs.Outputs.{is_output_line}
 use Rattle.journal_form.specs.Headings.{RoutingWords, EntryWords, heading_of}
 use Rattle.journal_form.specs.Stamps.{stamp_of}
-use Rattle.form_law.specs.Written.{AreWritable, of_output, of_heading, of_control_heading}
+use Rattle.form_law.specs.Written.{AreWritable, of_output, of_heading, of_control_heading, IsPrintable}
 
 -- The line of an output that is printed is one that the form allows.
 abbrev pub OutputsHaveForm : Type 0
@@ -58,3 +60,9 @@ pub record IsStamp (stamp : Stamp) : Type 0 where
 -- And its stamp is read of these words.
 abbrev pub StampsAreRead : Type 0
 StampsAreRead = (stamp : Stamp) (asked : Option Asked) (published : Option ℕ) → IsStamp stamp → stamp_of (entry_words stamp asked published) ≡ Some stamp
+
+-- ---- books
+
+-- No line of a print breaks the form of a journal with as many lanes as the book has.
+abbrev pub PrintHasForm : Type 0
+PrintHasForm = (book : Book) → IsPrintable book → form_fault (lane_lines (length book.conns) (length book.units)) (print_of book) ≡ None

@@ -15,6 +15,7 @@ use Rattle.plant_core.specs.declared.answer.Answer.TheVariants as answer
 use Rattle.plant_core.specs.declared.entry.Asked.{Asked}
 use Rattle.plant_core.specs.declared.entry.Entry.{Entry}
 use Rattle.plant_core.specs.declared.entry.ControlEntry.{ControlEntry}
+use Rattle.journal_text.specs.declared.book.Book.{Book}
 
 pub data Written : Type 0 where
   Number : ℕ → Written
@@ -91,3 +92,23 @@ of_heading e = of_stamp e.stamp ++ of_asked e.asked
 
 abbrev pub of_control_heading : ControlEntry → List Written
 of_control_heading e = of_stamp e.stamp ++ of_published e.published
+
+-- ---- books
+
+abbrev pub AreWritableOutputs : List Output → Type 0
+AreWritableOutputs outs = AllByRecursion (λ o. AreWritable (of_output o)) outs
+
+abbrev pub IsWritableEntry : Entry → Type 0
+IsWritableEntry e = AreWritable (of_heading e) × AreWritableOutputs e.outs
+
+abbrev pub IsWritableControl : ControlEntry → Type 0
+IsWritableControl e = AreWritable (of_control_heading e) × AreWritableOutputs e.outs
+
+abbrev pub AreWritableLanes : List (List Entry) → Type 0
+AreWritableLanes lanes = AllByRecursion (λ (entries : List Entry). AllByRecursion IsWritableEntry entries) lanes
+
+-- each number that its lines write has at most 64 digits, and what they write as octets are octets
+pub record IsPrintable (book : Book) : Type 0 where
+  pub control : AllByRecursion IsWritableControl book.control
+  pub conns : AreWritableLanes book.conns
+  pub units : AreWritableLanes book.units

@@ -1,5 +1,5 @@
 //! Laws of the definitions, each as the contract of a function.
-ghost use Rattle.form_law.specs.FormLaw.{HeadingsHaveForm, OutputsHaveForm, StampsAreRead};
+ghost use Rattle.form_law.specs.FormLaw.{HeadingsHaveForm, OutputsHaveForm, PrintHasForm, StampsAreRead};
 
 /// The line of an output that is printed is one that the form allows.
 #[tactic(auto, using(crate::proofs::Outputs::outputs_have_form))]
@@ -17,4 +17,10 @@ pub fn headings_have_form()
 #[tactic(auto, using(crate::proofs::Stamps::stamps_are_read))]
 pub fn stamps_are_read()
     ensures { StampsAreRead }
+{}
+
+/// No line of a print breaks the form of a journal with as many lanes as the book has.
+#[tactic(auto, using(crate::proofs::Print::print_has_form))]
+pub fn print_has_form()
+    ensures { PrintHasForm }
 {}

@@ -3,4 +3,4 @@
 
 mod laws;
 
-pub use laws::{headings_have_form, outputs_have_form, stamps_are_read};
+pub use laws::{headings_have_form, outputs_have_form, print_has_form, stamps_are_read};
