@@ -1,6 +1,8 @@
-//! The law of the form of a journal's text, as the contracts of functions without a body: what is printed of a book has it.
+//! The law of the form of a journal's text, as the contracts of functions without a body: what is printed of a book has it; and worked examples.
 #![tactic(auto)]
 
 mod laws;
+mod rows;
 
 pub use laws::{headings_have_form, outputs_have_form, print_has_form, stamps_are_read};
+pub use rows::{missing, sound, unsound};
