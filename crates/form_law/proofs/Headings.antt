@@ -13,7 +13,8 @@ use Rattle.journal_form.specs.Words.{parted, words, is_number}
 use Rattle.journal_form.specs.Headings.{RoutingWords, EntryWords, is_cause, is_answer, edition_of, routing_of, stamped_of, entry_with, entry_in, heading_of}
 use Rattle.form_law.specs.Written as written
 use Rattle.form_law.specs.Written.{IsWritable, AreWritable, of_stamp, of_answer, of_asked, of_published, of_heading, of_control_heading}
-use Rattle.form_law.specs.FormLaw.{way_of, value_of, routing_words, entry_words, HeadingsHaveForm}
+use Rattle.form_law.specs.Printed.{way_of, value_of, routing_words, entry_words}
+use Rattle.form_law.specs.FormLaw.{HeadingsHaveForm}
 use Rattle.form_law.proofs.Words.{is_without, AreWithout, all_both, joined_parted}
 use Rattle.form_law.proofs.Fields.{number_is, number_without}
 

@@ -4,3 +4,4 @@ pub mod Outputs
 pub mod Headings
 pub mod Stamps
 pub mod Print
+pub mod Reading

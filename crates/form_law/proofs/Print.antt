@@ -1,23 +1,21 @@
 -- The lines of a print have the form.
-use Rattle.std.proofs.Common.{◌≡◌, ◌∙◌, ℕ, zero, suc, ◌+◌, ◌-◌, ◌||◌, Bool, true, false, cond, List, [], ◌∷◌, ◌++◌, codes, length, take, get_or, map, Option, Some, None, is_some, refl, sym, ap, ap₂, append_assoc, arith, length-append}
+use Rattle.std.proofs.Common.{◌≡◌, ◌∙◌, ℕ, ◌+◌, ◌-◌, ◌||◌, Bool, true, false, List, [], ◌∷◌, ◌++◌, codes, length, take, get_or, map, None, is_some, refl, sym, ap, ap₂, append_assoc, arith, length-append}
 use Rattle.std.proofs.Math.Seq.{take-append_seam, get_or-append_seam}
 use Rattle.std.specs.Fmt.{decimal}
 use Rattle.std.specs.List.{AllByRecursion, flat_map}
 use Rattle.relay_base.specs.declared.words.Output.{Output}
 use Rattle.plant_core.specs.declared.entry.Entry.{Entry}
 use Rattle.plant_core.specs.declared.entry.ControlEntry.{ControlEntry}
-use Rattle.journal_text.specs.Print.{spaced}
 use Rattle.journal_text.specs.declared.book.Book.{Book}
 use Rattle.capture_generator.specs.Counts.{outputs_in, journal_outputs}
 use Rattle.capture_generator.proofs.CaptureLemmas.{all-append}
-use Rattle.book_output.specs.Print.{line_of_lane, line_of_control, line_of_entry, line_of_output, Heading, OfLane, OfEntry, lane_headings, kind_headings, headings_in, woven, book_lines, print_of}
-use Rattle.book_output.specs.PrintLaw.{PrintIsInLines}
+use Rattle.book_output.specs.Print.{line_of_lane, line_of_control, line_of_entry, line_of_output, Heading, OfLane, OfEntry, kind_headings, woven, book_lines}
 use Rattle.book_output.proofs.LineLemmas.{print_is_in_lines}
-use Rattle.journal_form.specs.Words.{same, parted, words}
+use Rattle.journal_form.specs.Words.{same, words}
 use Rattle.journal_form.specs.Outputs.{is_output_line, are_of_output}
-use Rattle.journal_form.specs.Headings.{EntryWords, entry_in, heading_of, is_entry_line}
-use Rattle.journal_form.specs.Form.{Place, AtTop, InLane, InEntry, stands, begins_lane, first_fault, ended_lines, last_piece, fault_in, kind_lines, lane_lines, form_fault}
-use Rattle.form_law.specs.Written.{AreWritable, of_output, of_heading, of_control_heading, AreWritableOutputs, IsWritableEntry, IsWritableControl, AreWritableLanes, IsPrintable}
+use Rattle.journal_form.specs.Headings.{entry_in, heading_of, is_entry_line}
+use Rattle.journal_form.specs.Form.{Place, AtTop, InLane, InEntry, stands, first_fault, ended_lines, last_piece, fault_in, kind_lines, lane_lines, form_fault}
+use Rattle.form_law.specs.Written.{AreWritableOutputs, IsWritableEntry, IsWritableControl, AreWritableLanes, IsPrintable}
 use Rattle.form_law.specs.FormLaw.{PrintHasForm}
 use Rattle.form_law.proofs.Words.{is_without, joined_parted}
 use Rattle.form_law.proofs.Fields.{number_without}
@@ -35,11 +33,11 @@ lane_parted name n h =
     ∙ joined_parted 32 (codes "=") (name ∷ decimal n ∷ []) (refl, (h, (number_without 32 n (omega arith), tt)))
 
 -- a line of neither an entry nor an output
-record IsOther (line : List ℕ) : Type 0 where
-  entry : is_entry_line line ≡ false
-  output : is_output_line line ≡ false
+pub record IsOther (line : List ℕ) : Type 0 where
+  pub entry : is_entry_line line ≡ false
+  pub output : is_output_line line ≡ false
 
-lane_other : (name : List ℕ) (n : ℕ) → is_without 32 name ≡ true → same name (codes "new") ≡ false → IsOther (line_of_lane name n)
+pub lane_other : (name : List ℕ) (n : ℕ) → is_without 32 name ≡ true → same name (codes "new") ≡ false → IsOther (line_of_lane name n)
 unfolding heading_of is_output_line
 lane_other name n h other = record {
   entry = ap (λ ws. is_some (entry_in ws)) (lane_parted name n h) ∙ rw other refl;
@@ -200,7 +198,7 @@ lines_whole book h =
     ∙ ap (λ l. first_fault l InLane 2 [] rest) (sym (below_lanes book))
     ∙ woven_stand (below_control book) (outputs_in book) InLane tt (below_headings book h) (book_outputs book h) 2
 
-ended : (lines : List (List ℕ)) → ended_lines (lines ++ [] ∷ []) ≡ lines
+pub ended : (lines : List (List ℕ)) → ended_lines (lines ++ [] ∷ []) ≡ lines
 ended lines =
     let size : length (lines ++ [] ∷ []) - 1 ≡ length lines = omega (arith, length-append lines ([] ∷ [])) in
     ap (λ n. take n (lines ++ [] ∷ [])) size ∙ take-append_seam lines ([] ∷ [])

@@ -25,7 +25,7 @@ all_both p [] ys h k = k
 all_both p (x ∷ xs) ys h k =
     ap (λ t. t && list_all p (xs ++ ys)) (both-left (p x) (list_all p xs) h) ∙ all_both p xs ys (both-right (p x) (list_all p xs) h) k
 
-is_no : (t : Bool) → not t ≡ true → t ≡ false
+pub is_no : (t : Bool) → not t ≡ true → t ≡ false
 is_no true h = cc
 is_no false h = refl
 

@@ -1,20 +1,18 @@
 -- The laws of the form: what is printed has it.
-use Rattle.std.specs.Prelude.{◌≡◌, ℕ, ◌<◌, true, codes, List, length, Option, Some, None, option_map}
-use Rattle.std.specs.Fmt.{decimal}
+use Rattle.std.specs.Prelude.{◌≡◌, ℕ, ◌<◌, true, List, length, map, Option, Some, None}
 use Rattle.relay_base.specs.declared.words.Output.{Output}
 use Rattle.relay_base.specs.declared.words.Stamp.{Stamp}
-use Rattle.plant_core.specs.declared.answer.Answer.{Answer}
-use Rattle.plant_core.specs.declared.answer.Answer.TheVariants as answer
 use Rattle.plant_core.specs.declared.entry.Asked.{Asked}
 use Rattle.plant_core.specs.declared.entry.Entry.{Entry}
 use Rattle.plant_core.specs.declared.entry.ControlEntry.{ControlEntry}
-use Rattle.journal_text.specs.Print.{cause_text}
 use Rattle.journal_text.specs.declared.book.Book.{Book}
 use Rattle.book_output.specs.Print.{line_of_output, line_of_entry, line_of_control, print_of}
 use Rattle.journal_form.specs.Form.{lane_lines, form_fault}
 use Rattle.journal_form.specs.Outputs.{is_output_line}
-use Rattle.journal_form.specs.Headings.{RoutingWords, EntryWords, heading_of}
+use Rattle.journal_form.specs.Headings.{heading_of}
 use Rattle.journal_form.specs.Stamps.{stamp_of}
+use Rattle.journal_form.specs.Parts.{LanePart, HasForm}
+use Rattle.form_law.specs.Printed.{entry_words, read_lane, printed}
 use Rattle.form_law.specs.Written.{AreWritable, of_output, of_heading, of_control_heading, IsPrintable}
 
 -- The line of an output that is printed is one that the form allows.
@@ -22,29 +20,6 @@ abbrev pub OutputsHaveForm : Type 0
 OutputsHaveForm = (o : Output) → AreWritable (of_output o) → is_output_line (line_of_output o) ≡ true
 
 -- ---- the lines of entries
-
-abbrev pub way_of : Answer → List ℕ
-way_of (answer.Local ssn) = codes "local"
-way_of (answer.Forward dpc rewrite hop) = codes "to"
-way_of (answer.Refused cause local) = codes "no"
-
-abbrev pub value_of : Answer → List ℕ
-value_of (answer.Local ssn) = decimal ssn
-value_of (answer.Forward dpc rewrite hop) = decimal dpc
-value_of (answer.Refused cause local) = cause_text cause
-
-abbrev pub routing_words : Asked → RoutingWords
-routing_words asked = record { edition = decimal asked.edition; way = way_of asked.answer; value = value_of asked.answer }
-
--- the words of an entry with this stamp, the routing that it asked for, and the edition that it published
-abbrev pub entry_words : Stamp → Option Asked → Option ℕ → EntryWords
-entry_words stamp asked published = record {
-  phase = decimal stamp.phase;
-  link = decimal stamp.link;
-  line = decimal stamp.line;
-  asked = option_map routing_words asked;
-  published = option_map decimal published;
-}
 
 -- The line of an entry that is printed says its stamp and its routing, or what it published.
 pub record HeadingsHaveForm : Type 0 where
@@ -66,3 +41,9 @@ StampsAreRead = (stamp : Stamp) (asked : Option Asked) (published : Option ℕ) 
 -- No line of a print breaks the form of a journal with as many lanes as the book has.
 abbrev pub PrintHasForm : Type 0
 PrintHasForm = (book : Book) → IsPrintable book → form_fault (lane_lines (length book.conns) (length book.units)) (print_of book) ≡ None
+
+-- Whatever is read of a print as the lanes of such a journal: it is the lanes of the book, with their entries and outputs.
+abbrev pub PrintIsRead : Type 0
+PrintIsRead =
+    (book : Book) (lanes : List LanePart) → IsPrintable book → HasForm (lane_lines (length book.conns) (length book.units)) (print_of book) lanes
+    → map read_lane lanes ≡ printed book

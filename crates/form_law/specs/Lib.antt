@@ -1,3 +1,4 @@
 pub mod Written
+pub mod Printed
 pub mod FormLaw
 pub mod Examples

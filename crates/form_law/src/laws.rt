@@ -1,5 +1,5 @@
 //! Laws of the definitions, each as the contract of a function.
-ghost use Rattle.form_law.specs.FormLaw.{HeadingsHaveForm, OutputsHaveForm, PrintHasForm, StampsAreRead};
+ghost use Rattle.form_law.specs.FormLaw.{HeadingsHaveForm, OutputsHaveForm, PrintHasForm, PrintIsRead, StampsAreRead};
 
 /// The line of an output that is printed is one that the form allows.
 #[tactic(auto, using(crate::proofs::Outputs::outputs_have_form))]
@@ -23,4 +23,10 @@ pub fn stamps_are_read()
 #[tactic(auto, using(crate::proofs::Print::print_has_form))]
 pub fn print_has_form()
     ensures { PrintHasForm }
+{}
+
+/// What is read of a print are the lanes of the book with their entries and outputs.
+#[tactic(auto, using(crate::proofs::Reading::print_is_read))]
+pub fn print_is_read()
+    ensures { PrintIsRead }
 {}
