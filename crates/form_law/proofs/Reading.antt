@@ -23,7 +23,7 @@ use Rattle.journal_form.specs.Parts.{EntryPart, LanePart, outs_front, entry_fron
 use Rattle.journal_form.proofs.PartLemmas.{outs_no, outs_yes}
 use Rattle.form_law.specs.Written.{AreWritableOutputs, IsWritableEntry, IsWritableControl, AreWritableLanes, IsPrintable}
 use Rattle.form_law.specs.Printed.{PrintedEntry, PrintedLane, printed_entry, printed_control, printed_kind, printed, read_entry, read_lane}
-use Rattle.form_law.specs.FormLaw.{PrintIsRead}
+use Rattle.form_law.specs.FormLaw.{LanesHaveForm, PrintIsRead}
 use Rattle.form_law.proofs.Words.{is_without, is_no}
 use Rattle.form_law.proofs.Fields.{number_without}
 use Rattle.form_law.proofs.Outputs.{outputs_have_form}
@@ -269,6 +269,9 @@ book_names book =
     let conns = printed_kind (codes "conn") 0 book.conns in
     let units = printed_kind (codes "data") 0 book.units in
     ap (λ l. codes "= control" ∷ l) (sym (names_both conns units ∙ ap₂ (λ l m. l ++ m) (kind_names (codes "conn") 0 book.conns) (kind_names (codes "data") 0 book.units)))
+
+pub lanes_have_form : LanesHaveForm
+lanes_have_form = record { line = λ name number. refl; lines = λ book. sym (book_names book) }
 
 pub print_is_read : PrintIsRead
 print_is_read book lanes h form =

@@ -6,18 +6,23 @@ use Rattle.plant_core.specs.declared.entry.Asked.{Asked}
 use Rattle.plant_core.specs.declared.entry.Entry.{Entry}
 use Rattle.plant_core.specs.declared.entry.ControlEntry.{ControlEntry}
 use Rattle.journal_text.specs.declared.book.Book.{Book}
-use Rattle.book_output.specs.Print.{line_of_output, line_of_entry, line_of_control, print_of}
-use Rattle.journal_form.specs.Form.{lane_lines, form_fault}
+use Rattle.book_output.specs.Print.{line_of_lane, line_of_output, line_of_entry, line_of_control, print_of}
+use Rattle.journal_form.specs.Form.{lane_line, lane_lines, form_fault}
 use Rattle.journal_form.specs.Outputs.{is_output_line}
 use Rattle.journal_form.specs.Headings.{heading_of}
 use Rattle.journal_form.specs.Stamps.{stamp_of}
 use Rattle.journal_form.specs.Parts.{LanePart, HasForm}
-use Rattle.form_law.specs.Printed.{entry_words, read_lane, printed}
+use Rattle.form_law.specs.Printed.{PrintedLane, entry_words, read_lane, printed}
 use Rattle.form_law.specs.Written.{AreWritable, of_output, of_heading, of_control_heading, IsPrintable}
 
 -- The line of an output that is printed is one that the form allows.
 abbrev pub OutputsHaveForm : Type 0
 OutputsHaveForm = (o : Output) → AreWritable (of_output o) → is_output_line (line_of_output o) ≡ true
+
+-- The line of a lane that is printed is the form's, and a book's lanes are those of a journal with as many lanes.
+pub record LanesHaveForm : Type 0 where
+  pub line : (name : List ℕ) (number : ℕ) → line_of_lane name number ≡ lane_line name number
+  pub lines : (book : Book) → map (λ (lane : PrintedLane). lane.text) (printed book) ≡ lane_lines (length book.conns) (length book.units)
 
 -- ---- the lines of entries
 

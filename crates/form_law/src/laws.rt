@@ -1,10 +1,17 @@
 //! Laws of the definitions, each as the contract of a function.
-ghost use Rattle.form_law.specs.FormLaw.{HeadingsHaveForm, OutputsHaveForm, PrintHasForm, PrintIsRead, StampsAreRead};
+ghost use Rattle.form_law.specs.FormLaw.{HeadingsHaveForm, LanesHaveForm, OutputsHaveForm, StampsAreRead};
+ghost use Rattle.form_law.specs.FormLaw.{PrintHasForm, PrintIsRead};
 
 /// The line of an output that is printed is one that the form allows.
 #[tactic(auto, using(crate::proofs::Outputs::outputs_have_form))]
 pub fn outputs_have_form()
     ensures { OutputsHaveForm }
+{}
+
+/// The lines of lanes that are printed are those of the form.
+#[tactic(auto, using(crate::proofs::Reading::lanes_have_form))]
+pub fn lanes_have_form()
+    ensures { LanesHaveForm }
 {}
 
 /// The line of an entry that is printed says its stamp, and its routing or what it published.

@@ -5,6 +5,7 @@ mod laws;
 mod rows;
 
 pub use laws::{
-    headings_have_form, outputs_have_form, print_has_form, print_is_read, stamps_are_read,
+    headings_have_form, lanes_have_form, outputs_have_form, print_has_form, print_is_read,
+    stamps_are_read,
 };
 pub use rows::{missing, sound, unsound};
