@@ -44,7 +44,7 @@ and_false false = refl
 digit : (d : ℕ) → d < 10 → is_ascii_digit (48 + d) ≡ true
 digit d h = grind (arith, nat_tests, h)
 
-passes : (lead all : Bool) → cond lead false all ≡ true → all ≡ true
+pub passes : (lead all : Bool) → cond lead false all ≡ true → all ≡ true
 passes true all h = cc
 passes false all h = h
 

@@ -5,3 +5,4 @@ pub mod Headings
 pub mod Stamps
 pub mod Print
 pub mod Reading
+pub mod Back

@@ -25,7 +25,7 @@ value_folds = record {
     turned : (n d : ℕ) → 10 * n + d ≡ n * 10 + d
     turned n d = omega arith
 
-numerals : IsNumeralModel (AllDigits 10) (value_from 0)
+pub numerals : IsNumeralModel (AllDigits 10) (value_from 0)
 numerals = numerals_by_fold (AllDigits 10) tells_digits value_from value_folds
 
 short : (n : ℕ) → 0 < n → n ≤ 10 → (n == 0 || nat_lt 10 n) ≡ false

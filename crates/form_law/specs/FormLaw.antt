@@ -1,12 +1,17 @@
 -- The laws of the form: what is printed has it.
-use Rattle.std.specs.Prelude.{◌≡◌, ℕ, ◌<◌, true, List, length, map, Option, Some, None}
+use Rattle.std.specs.Prelude.{◌≡◌, ℕ, ◌<◌, ◌^◌, true, List, length, map, Option, Some, None}
+use Rattle.std.specs.Fmt.{decimal}
+use Rattle.std.specs.List.{AllByRecursion}
+use Rattle.relay_base.specs.Decimal.{digits_value}
 use Rattle.relay_base.specs.declared.words.Output.{Output}
 use Rattle.relay_base.specs.declared.words.Stamp.{Stamp}
 use Rattle.plant_core.specs.declared.entry.Asked.{Asked}
 use Rattle.plant_core.specs.declared.entry.Entry.{Entry}
 use Rattle.plant_core.specs.declared.entry.ControlEntry.{ControlEntry}
+use Rattle.journal_text.specs.Print.{octets_text}
 use Rattle.journal_text.specs.declared.book.Book.{Book}
 use Rattle.book_output.specs.Print.{line_of_lane, line_of_output, line_of_entry, line_of_control, print_of}
+use Rattle.journal_form.specs.Words.{is_number, is_octets}
 use Rattle.journal_form.specs.Form.{lane_line, lane_lines, form_fault}
 use Rattle.journal_form.specs.Outputs.{is_output_line}
 use Rattle.journal_form.specs.Headings.{heading_of}
@@ -14,6 +19,17 @@ use Rattle.journal_form.specs.Stamps.{stamp_of}
 use Rattle.journal_form.specs.Parts.{LanePart, HasForm}
 use Rattle.form_law.specs.Printed.{PrintedLane, entry_words, read_lane, printed}
 use Rattle.form_law.specs.Written.{AreWritable, of_output, of_heading, of_control_heading, IsPrintable}
+
+-- octets that are written so
+pub record IsOctetsText (word : List ℕ) : Type 0 where
+  pub bytes : List ℕ
+  pub octets : AllByRecursion (λ b. b < 256) bytes
+  pub is : octets_text bytes ≡ word
+
+-- A word that the form takes for a number below 2^64 is printed of its value, and one that it takes for octets is printed of some.
+pub record WordsArePrinted : Type 0 where
+  pub numbers : (word : List ℕ) → is_number word ≡ true → digits_value word < 2 ^ 64 → decimal (digits_value word) ≡ word
+  pub octets : (word : List ℕ) → is_octets word ≡ true → IsOctetsText word
 
 -- The line of an output that is printed is one that the form allows.
 abbrev pub OutputsHaveForm : Type 0

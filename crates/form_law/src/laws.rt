@@ -1,6 +1,12 @@
 //! Laws of the definitions, each as the contract of a function.
 ghost use Rattle.form_law.specs.FormLaw.{HeadingsHaveForm, LanesHaveForm, OutputsHaveForm, StampsAreRead};
-ghost use Rattle.form_law.specs.FormLaw.{PrintHasForm, PrintIsRead};
+ghost use Rattle.form_law.specs.FormLaw.{PrintHasForm, PrintIsRead, WordsArePrinted};
+
+/// Words that the form takes for numbers and octets are printed of some.
+#[tactic(auto, using(crate::proofs::Back::words_are_printed))]
+pub fn words_are_printed()
+    ensures { WordsArePrinted }
+{}
 
 /// The line of an output that is printed is one that the form allows.
 #[tactic(auto, using(crate::proofs::Outputs::outputs_have_form))]

@@ -6,6 +6,6 @@ mod rows;
 
 pub use laws::{
     headings_have_form, lanes_have_form, outputs_have_form, print_has_form, print_is_read,
-    stamps_are_read,
+    stamps_are_read, words_are_printed,
 };
 pub use rows::{missing, sound, unsound};
