@@ -98,7 +98,7 @@ IsAt k [] shape = ⊥
 IsAt zero (first ∷ shapes) shape = first ≡ shape
 IsAt (suc k) (first ∷ shapes) shape = IsAt k shapes shape
 
-or_true : (t : Bool) → (t || true) ≡ true
+pub or_true : (t : Bool) → (t || true) ≡ true
 or_true true = refl
 or_true false = refl
 

@@ -19,7 +19,7 @@ use Rattle.form_law.specs.Written.{AreWritableOutputs, IsWritableEntry, IsWritab
 use Rattle.form_law.specs.FormLaw.{PrintHasForm}
 use Rattle.form_law.proofs.Words.{is_without, joined_parted}
 use Rattle.form_law.proofs.Fields.{number_without}
-use Rattle.form_law.proofs.Outputs.{same_self, outputs_have_form}
+use Rattle.form_law.proofs.Outputs.{same_self, or_true, outputs_have_form}
 use Rattle.form_law.proofs.Headings.{headings_have_form}
 
 -- ---- the lines of lanes
@@ -57,10 +57,6 @@ abbrev IsBelow : Place → Type 0
 IsBelow AtTop = ⊥
 IsBelow InLane = Unit {0}
 IsBelow InEntry = Unit {0}
-
-or_true : (t : Bool) → (t || true) ≡ true
-or_true true = refl
-or_true false = refl
 
 entry_stands : (place : Place) (line : List ℕ) → IsBelow place → is_entry_line line ≡ true → stands place line ≡ true
 entry_stands AtTop line b h = absurd b
