@@ -1,29 +1,18 @@
 -- The stamp that is read of the words of an entry.
-use Rattle.std.proofs.Common.{◌≡◌, ◌∙◌, ℕ, ◌+◌, ◌-◌, ◌*◌, ◌^◌, ◌≤◌, ◌<◌, ◌==◌, ◌||◌, nat_lt, true, false, cond, List, length, fold, Some, None, option_and_then, refl, ap, arith}
+use Rattle.std.proofs.Common.{◌≡◌, ◌∙◌, ℕ, ◌+◌, ◌^◌, ◌≤◌, ◌<◌, ◌==◌, ◌||◌, nat_lt, true, false, cond, List, length, Some, None, option_and_then, refl, ap, arith}
 use Rattle.std.proofs.lemmas.Bool.{lt-ltb}
 use Rattle.std.proofs.lemmas.Bool.Decides.{nat_tests}
 use Rattle.std.proofs.lemmas.Fmt.{digits_value-decimal, decimal_nonempty, length-decimal-le}
-use Rattle.std.proofs.lemmas.Str.Parse.{FoldsDigits, IsNumeralModel, numerals_by_fold, tells_digits}
+use Rattle.std.proofs.lemmas.Str.Parse.{IsNumeralModel, numerals_by_fold, tells_digits}
 use Rattle.std.specs.Char.{is_ascii_digit}
 use Rattle.std.specs.Fmt.{decimal}
 use Rattle.std.specs.List.{list_all}
 use Rattle.std.specs.Str.Parse.{AllDigits}
 use Rattle.relay_base.specs.Decimal.{is_number, digits_value, number_of}
+use Rattle.relay_base.proofs.Numerals.{value_from, value_folds}
 use Rattle.journal_form.specs.Stamps.{number_below}
 use Rattle.form_law.specs.FormLaw.{StampsAreRead}
 use Rattle.form_law.proofs.Fields.{all_digits}
-
-abbrev value_from : ℕ → List ℕ → ℕ
-value_from n ds = fold (λ number digit. 10 * number + (digit - 48)) n ds
-
-value_folds : FoldsDigits value_from
-value_folds = record {
-  empty = λ n. refl;
-  more = λ n c cs h. ap (λ m. value_from m cs) (turned n (c - 48));
-}
-  where
-    turned : (n d : ℕ) → 10 * n + d ≡ n * 10 + d
-    turned n d = omega arith
 
 pub numerals : IsNumeralModel (AllDigits 10) (value_from 0)
 numerals = numerals_by_fold (AllDigits 10) tells_digits value_from value_folds

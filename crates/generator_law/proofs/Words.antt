@@ -1,9 +1,9 @@
 -- The words of a generated line, and what is read of each.
-use Rattle.std.proofs.Common.{◌≡◌, ℕ, zero, suc, ◌+◌, ◌*◌, ◌-◌, ◌/◌, ◌%◌, ◌^◌, ◌≤◌, ◌<◌, ◌==◌, ◌&&◌, ◌||◌, nat_lt, nat_le, true, false, cond, List, [], ◌∷◌, length, fold, slice_index, Some, None, Ok, refl, ap, ◌∙◌, arith}
+use Rattle.std.proofs.Common.{◌≡◌, ℕ, zero, suc, ◌+◌, ◌*◌, ◌/◌, ◌%◌, ◌^◌, ◌≤◌, ◌<◌, ◌==◌, ◌&&◌, ◌||◌, nat_lt, nat_le, true, false, cond, List, [], ◌∷◌, length, slice_index, Some, None, Ok, refl, ap, ◌∙◌, arith}
 use Rattle.std.proofs.lemmas.Bool.{leb-true, ltb-true}
 use Rattle.std.proofs.lemmas.Bool.Decides.{nat_tests}
 use Rattle.std.proofs.lemmas.Fmt.{digits_decimal, digits_value-decimal, decimal_nonempty, length-decimal-le}
-use Rattle.std.proofs.lemmas.Str.Parse.{IsDigitsTest, FoldsDigits, IsNumeralModel, numerals_by_fold}
+use Rattle.std.proofs.lemmas.Str.Parse.{IsDigitsTest, IsNumeralModel, numerals_by_fold}
 use Rattle.std.specs.Fmt.{decimal}
 use Rattle.std.specs.Int.{IsInRange}
 use Rattle.std.specs.Char.{is_ascii_digit}
@@ -12,6 +12,7 @@ use Rattle.relay_base.specs.declared.limits.TheConstants.{OCTET_VALUES}
 use Rattle.hex.specs.Hex.{encode_lower, encode_with, lower_digits, IsBytes}
 use Rattle.hex.proofs.HexLemmas.{decode_of-encode_lower, length-encode_with}
 use Rattle.relay_base.specs.Decimal.{is_number, digits_value, number_of}
+use Rattle.relay_base.proofs.Numerals.{value_from, value_folds}
 use Rattle.journal_text.specs.Print.{octets_text}
 use Rattle.capture_form.specs.Text.{is_dash, hex_of}
 use Rattle.capture_form.specs.Words.{below, octets_of}
@@ -24,18 +25,6 @@ AreDigits ds = AllByRecursion (λ c. IsInRange 48 57 c) ds
 
 digits_test : IsDigitsTest AreDigits
 digits_test = record { empty = tt; parts = λ c cs h. h; more = λ c cs p q. (p, q) }
-
-abbrev value_from : ℕ → List ℕ → ℕ
-value_from n ds = fold (λ number digit. 10 * number + (digit - 48)) n ds
-
-value_folds : FoldsDigits value_from
-value_folds = record {
-  empty = λ n. refl;
-  more = λ n c cs h. ap (λ m. value_from m cs) (turned n (c - 48));
-}
-  where
-    turned : (n d : ℕ) → 10 * n + d ≡ n * 10 + d
-    turned n d = omega arith
 
 numerals : IsNumeralModel AreDigits (value_from 0)
 numerals = numerals_by_fold AreDigits digits_test value_from value_folds

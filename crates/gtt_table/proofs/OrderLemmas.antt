@@ -120,7 +120,7 @@ pairs_append R (x ∷ xs) ys h k between =
     AllPairs-cons R x (xs ++ ys) (All-append (R x) xs ys (λ j d below. h 0 (suc j) d (omega arith) (omega (arith, below))) (All-head (λ x. All (R x) ys) x xs between))
     (pairs_append R xs ys (λ i j d before below. h (suc i) (suc j) d (omega (arith, before)) (omega (arith, below))) k (All-tail (λ x. All (R x) ys) x xs between))
 
-pub pairs_take : {X : Type 0} (R : X → X → Type 0) (n : ℕ) (xs : List X) → AllPairs R xs → AllPairs R (take n xs)
+pairs_take : {X : Type 0} (R : X → X → Type 0) (n : ℕ) (xs : List X) → AllPairs R xs → AllPairs R (take n xs)
 pairs_take R zero xs h = λ i j d before below. absurd (omega (arith, below))
 pairs_take R (suc n) [] h = h
 pairs_take R (suc n) (x ∷ xs) h =

@@ -1,3 +1,4 @@
 pub mod DeviceLemmas
 pub mod DigitLemmas
 pub mod GivingLemmas
+pub mod Numerals
