@@ -14,14 +14,13 @@ use Rattle.capture_form.specs.Text.{words}
 use Rattle.capture_form.specs.Line.{Linked, meaning_of}
 use Rattle.capture_form.specs.Groups.{may_stand, placed, event_in}
 use Rattle.capture_form.specs.declared.meaning.Meaning.{Meaning}
-use Rattle.capture_form.specs.declared.fault.LineKind.{LineKind}
 use Rattle.capture_form.specs.declared.fault.CaptureFault.{CaptureFault}
 use Rattle.capture_form.specs.declared.fault.CaptureFault.TheVariants as refused
 use Rattle.capture_form.specs.declared.fault.Limit.TheVariants as limit
 use Rattle.capture_form.specs.declared.reading.Reading.{Reading}
 use Rattle.capture_form.specs.declared.capture.Capture.{Capture}
-use Rattle.capture_form.specs.Capture.{Reads, is_skipped, begins, Line, lines_from, barriers, event_lines, barrier_form, with_above, open_group, fault_at, open_fault, event_at, phases_of, unless_faulty, at_head, capture_after, capture_from, capture_within}
-use Rattle.capture_form.specs.Inner.Reader.{at_line, phase_ended, pushed, with_event, meaning_taken, line_added, barrier_taken, tick_counted, line_counted, event_put, event_taken, words_taken, line_taken, lines_taken, reading_from, closed, phases_read, capture_read}
+use Rattle.capture_form.specs.Capture.{Reads, is_skipped, begins, lines_from, barriers, event_lines, barrier_form, with_above, open_group, fault_at, open_fault, event_at, phases_of, unless_faulty, at_head, capture_after, capture_from, capture_within}
+use Rattle.capture_form.specs.Inner.Reader.{at_line, phase_ended, with_event, meaning_taken, line_added, barrier_taken, tick_counted, line_counted, event_put, event_taken, words_taken, line_taken, lines_taken, reading_from, closed, phases_read, capture_read}
 use Rattle.capture_form.specs.declared.steps.TheConstants.{MOST_LINES, MOST_TICK_LINES, MOST_BARRIERS}
 use Rattle.capture_form.specs.Events.{Stamped, phase_lists, phase_events, all_events, AreOfPhases, IsStamped}
 use Rattle.capture_form.proofs.PhaseLemmas.{phases-stamped}

@@ -6,8 +6,7 @@ use Rattle.std.proofs.Math.ListN.{set}
 use Rattle.std.specs.List.{AllByRecursion, filter, range_with_len}
 use Rattle.relay_base.specs.declared.words.Stamp.{Stamp}
 use Rattle.plant_core.specs.declared.entry.ControlEvent.{ControlEvent}
-use Rattle.node_head.specs.declared.head.Head.{Head}
-use Rattle.capture_form.specs.Events.{Stamped, is_at, phase_lists, AreOfLinks, AreOfPhases, IsStamped}
+use Rattle.capture_form.specs.Events.{Stamped, is_at, phase_lists, AreOfLinks, AreOfPhases}
 
 abbrev StampedEvent : Type 0
 StampedEvent = Stamp × ControlEvent

@@ -1,5 +1,5 @@
 -- What the reader of lines keeps is what the lines above state, and so it gives what the definition gives.
-use Rattle.std.proofs.Common.{◌≡◌, ℕ, ◌+◌, ◌≤◌, ◌==◌, ◌&&◌, nat_lt, nat_le, nat_eq, not, codes, Bool, true, false, cond, List, [], ◌∷◌, ◌++◌, length, map, Option, Some, None, option_map, Result, Ok, Err, refl, sym, ap, subst, ◌∙◌, arith, append-nil, append_assoc}
+use Rattle.std.proofs.Common.{◌≡◌, ℕ, ◌+◌, ◌==◌, ◌&&◌, nat_lt, nat_le, nat_eq, not, Bool, true, false, cond, List, [], ◌∷◌, ◌++◌, map, Option, Some, None, option_map, Result, Ok, Err, refl, sym, ap, subst, ◌∙◌, arith, append-nil, append_assoc}
 use lib.Pointwise.{pointwise}
 use Rattle.std.proofs.lemmas.Bool.Decides.{nat_tests}
 use Rattle.std.proofs.lemmas.List.Sums.{sum_by_push, fold_push}
@@ -24,7 +24,7 @@ use Rattle.capture_form.specs.declared.capture.Capture.{Capture}
 use Rattle.capture_form.specs.declared.steps.TheConstants.{MOST_LINES, MOST_TICK_LINES, MOST_BARRIERS}
 use Rattle.capture_form.specs.declared.reading.Reading.{Reading}
 use Rattle.capture_form.specs.Capture.{Line, is_skipped, lines_from, is_barrier, is_tick, barriers, ticks, event_lines, left_by, open_group, form_fault, barrier_form, barrier_fault, event_fault, fault_at, open_fault, brought, event_at, phases_of, unless_faulty, capture_after}
-use Rattle.capture_form.specs.Inner.Reader.{at_line, phase_ended, with_event, meaning_taken, line_added, barrier_taken, event_put, event_taken, words_taken, line_taken, lines_taken, reading_from, closed, phases_read, capture_read}
+use Rattle.capture_form.specs.Inner.Reader.{at_line, phase_ended, with_event, meaning_taken, line_added, barrier_taken, event_put, event_taken, words_taken, line_taken, lines_taken, closed, phases_read, capture_read}
 use Rattle.capture_form.proofs.PhaseLemmas.{AreUpTo, up-to-push, up-to-next, lists-push, lists-empty, phases-before, number-is, both-left, both-right}
 
 -- ---- what is kept

@@ -1,5 +1,5 @@
 -- In which lane an event stands, by the head and the event alone.
-use Rattle.std.specs.Prelude.{ℕ, ◌+◌, ◌%◌, ◌==◌, List, if◌then◌else◌, Ok, Err}
+use Rattle.std.specs.Prelude.{ℕ, ◌+◌, ◌%◌, List, if◌then◌else◌, Ok, Err}
 use Rattle.std.specs.declared.result.Result.{Result}
 use Rattle.relay_base.specs.declared.limits.TheConstants.{MOST_LANES}
 use Rattle.relay_base.specs.declared.words.ReadFault.{ReadFault}
@@ -9,7 +9,7 @@ use Rattle.relay_base.specs.declared.words.Request.{Request}
 use Rattle.relay_base.specs.declared.words.Request.TheVariants as request
 use Rattle.scmg_messages.specs.Messages.{is_for_management}
 use Rattle.q713_codec.specs.Names.{Message}
-use Rattle.q713_codec.specs.declared.message.Message.TheVariants.{Cr, Cc, Cref, Rlsd, Rlc, Dt1, Dt2, Ak, Udt, Udts, Ed, Ea, Rsr, Rsc, Err as Error, It, Xudt, Xudts, Ludt, Ludts}
+use Rattle.q713_codec.specs.declared.message.Message.TheVariants.{Cr, Cc, Cref, Rlsd, Rlc, Dt1, Dt2, Ak, Udt, Ed, Ea, Rsr, Rsc, Err as Error, It}
 use Rattle.q713_codec.specs.Longest.{is_too_long}
 use Rattle.q713_codec.specs.Reading.{reading_of}
 use Rattle.plant_core.specs.declared.entry.ControlEvent.{ControlEvent}

@@ -1,5 +1,5 @@
 //! Where the lines of a group of edits may stand.
-ghost use Rattle.std.specs.Prelude.{◌≡◌, codes, Err};
+ghost use Rattle.std.specs.Prelude.{◌≡◌, Err};
 ghost use Rattle.capture_form.specs.Inner.Words.{texts};
 ghost use Rattle.capture_form.specs.Groups.{is_edit, is_commit, may_stand, out_of_place};
 ghost use Rattle.capture_form.specs.declared.meaning.Meaning.{Meaning};

@@ -23,4 +23,7 @@ pub use journal_text::{Book, WriteFault, print_book, write_book};
 pub use lane_place::{LanePlace, place};
 pub use note::fault_note;
 pub use reading::{Phase, PhaseList, StampedControlList};
-pub use steps::{MOST_BARRIERS, MOST_LINES, MOST_TICK_LINES};
+pub use refused::LineRefused;
+pub use requests::RequestForm;
+pub use steps::{MOST_BARRIERS, MOST_LINES, MOST_TICK_LINES, is_skipped};
+pub use text::split_words;

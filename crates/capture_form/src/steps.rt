@@ -1,10 +1,10 @@
 //! What one line adds to what was read.
-ghost use Rattle.std.specs.Prelude.{◌≡◌, ◌<◌, ◌≤◌, ◌+◌, ◌-◌, ◌^◌, length, Some, IfOk, OnOk, Ok, Err};
+ghost use Rattle.std.specs.Prelude.{◌≡◌, ◌<◌, ◌+◌, ◌-◌, ◌^◌, length, Some, IfOk, OnOk, Ok, Err};
 ghost use Rattle.capture_form.specs.Inner.Words.{texts, States, FaultAt};
 ghost use Rattle.capture_form.specs.Capture.{Reads, begins, is_skipped, barrier_form};
 ghost use Rattle.capture_form.specs.Inner.Reader.{Takes, IsNext, IsStill, IsWithin, pushed, with_event, empty_phase, phase_ended, barrier_taken, tick_counted, line_counted, meaning_taken, event_put, event_taken, line_taken, at_line};
-ghost use Rattle.capture_form.specs.Groups.{may_stand, placed, event_in};
-ghost use Rattle.capture_form.specs.Line.{Linked, meaning_of};
+ghost use Rattle.capture_form.specs.Groups.{may_stand, placed};
+ghost use Rattle.capture_form.specs.Line.{meaning_of};
 ghost use Rattle.capture_form.specs.Text.{words};
 
 use crate::changes::{OpenGroup, alone};
@@ -69,7 +69,7 @@ fn begins(word: &[u8], words: &[&[u8]]) -> bool
 }
 
 /// An empty line, or a comment.
-fn is_skipped(line: &[u8]) -> bool
+pub fn is_skipped(line: &[u8]) -> bool
     ensures { result ≡ is_skipped line.now }
 {
     line.is_empty() || line[0] == b'#'
@@ -214,7 +214,8 @@ fn count_line(read: &mut Reading, words: &[&[u8]]) -> Result<(), CaptureFault>
 /// Puts the event of a line on the list of its link.
 fn put_event(alloc: Global, read: &mut Reading, link: u8, event: ControlEvent) -> Result<(), Memory>
     requires { link < length read.old.current }
-    ensures { OnOk result (read.new ≡ record read.old { current = with_event read.old (Some (link, event)) }) }
+    ensures { let current = with_event read.old (Some (link, event)) in
+        OnOk result (read.new ≡ record read.old { current = current }) }
 {
     let stamp = Stamp {
         phase: read.phase,

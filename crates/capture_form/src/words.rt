@@ -1,7 +1,7 @@
 //! What the words of a line state.
-ghost use Rattle.std.specs.Prelude.{◌≡◌, ◌≤◌, ◌<◌, codes, false, is_ok, IfOk};
+ghost use Rattle.std.specs.Prelude.{◌≡◌, ◌≤◌, ◌<◌, is_ok, IfOk};
 ghost use Rattle.capture_form.specs.Text.{is_dash};
-ghost use Rattle.capture_form.specs.Words.{below, link_of, class_of, user_of, other_point_of, prefix_of, lead_of, octets_of, address_in, called_of, calling_of, body_of, text_of, asks_return, is_return};
+ghost use Rattle.capture_form.specs.Words.{below, link_of, class_of, user_of, other_point_of, prefix_of, lead_of, octets_of, called_of, calling_of, body_of, text_of, asks_return, is_return};
 ghost use Rattle.capture_form.specs.Inner.Words.{States};
 ghost use Rattle.sccp_address.specs.Parsing.{address_of};
 

@@ -8,4 +8,6 @@ mod text;
 mod writing;
 
 pub use book::{Book, print_book};
-pub use writing::{WriteFault, write_book};
+pub use tell::put_tell;
+pub use text::Text;
+pub use writing::{WriteFault, write_book, write_if_long, write_text};

@@ -155,8 +155,8 @@ pub fn put_words(text: &mut Text, first: &str, second: &str) -> Result<(), Alloc
     text.word(second)
 }
 
-/// Appends the text of what a user is told.
-fn put_tell(text: &mut Text, tell: &Tell) -> Result<(), AllocError>
+/// Appends a space and the text of what a user is told.
+pub fn put_tell(text: &mut Text, tell: &Tell) -> Result<(), AllocError>
     ensures { Puts result text.old text.new (codes " " ++ tell_text tell.now) }
 {
     match tell {

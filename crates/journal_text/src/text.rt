@@ -11,7 +11,7 @@ use std::marker::Model;
 
 /// The octets of a text that waits to be written. After an error a front of what was to join it stands at its end.
 #[derive(Drop)]
-pub(crate) struct Text {
+pub struct Text {
     waiting: Vec<u8>,
 }
 
@@ -32,18 +32,21 @@ impl Text {
         Ok(Text { waiting })
     }
 
+    /// How many octets wait.
     pub fn len(&self) -> usize
         ensures { result ≡ length self.now }
     {
         self.waiting.len()
     }
 
+    /// The octets that wait.
     pub fn as_slice(&self) -> &[u8]
         ensures { result.now ≡ self.now }
     {
         self.waiting.as_slice()
     }
 
+    /// Takes all octets away, and keeps their room.
     pub fn clear(&mut self)
         ensures { self.new ≡ [] }
     {

@@ -57,7 +57,8 @@ impl From<AllocError> for WriteFault {
     }
 }
 
-fn write_text<K: Sink>(out: &mut K, text: &Text) -> Result<(), WriteFault>
+/// Writes a text that waits.
+pub fn write_text<K: Sink>(out: &mut K, text: &Text) -> Result<(), WriteFault>
     ensures { Writes (K.held out.old) (K.held out.new) (K.faults out.old) (K.faults out.new)
         text.now result }
 {
@@ -65,8 +66,8 @@ fn write_text<K: Sink>(out: &mut K, text: &Text) -> Result<(), WriteFault>
     Ok(())
 }
 
-/// Writes a text that waits, where it is long.
-fn write_if_long<K: Sink>(out: &mut K, text: &mut Text) -> Result<(), WriteFault>
+/// Writes a text that waits, where it is long, and then takes it away.
+pub fn write_if_long<K: Sink>(out: &mut K, text: &mut Text) -> Result<(), WriteFault>
     ensures { Carries (K.held out.old) (K.held out.new) (K.faults out.old) (K.faults out.new)
         text.old text.new result }
 {
