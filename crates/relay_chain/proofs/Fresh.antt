@@ -9,7 +9,7 @@ use Rattle.section_model.specs.Ends.{Connection}
 use Rattle.section_model.specs.Laws.{openings_from}
 use Rattle.section_model.specs.Opening.{wish_of}
 use Rattle.section_model.specs.Lane.{Lane, Opening, with_event, opening_of, opening_list, openings_after, answer_of}
-use Rattle.relay_chain.specs.Fresh.{listed, references_in, is_among, has_twice}
+use Rattle.chain_step.specs.Fresh.{listed, references_in, is_among, has_twice}
 use Rattle.conn_lane.specs.Outcomes.{taken_by}
 use Rattle.relay_chain.specs.Inner.Taking.{ReferencesState, is_it, had}
 use Rattle.relay_chain.specs.Inner.Kept.{AreTaken}

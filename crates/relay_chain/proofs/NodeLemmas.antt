@@ -16,8 +16,8 @@ use Rattle.journal_law.proofs.Splitting.{splits}
 use Rattle.conn_lane.specs.Lanes.{ConnLaneState, ConnLaneTakes, conn_asked_of}
 use Rattle.conn_lane.specs.Outcomes.{next_outputs, next_connection, taken_by}
 use Rattle.relay_chain.specs.declared.node.Coming.{Coming}
-use Rattle.relay_chain.specs.Run.{NodeState, messages_in, asked_by, outputs_of, entry_of, after_event, waiting}
-use Rattle.relay_chain.specs.Fresh.{listed, references_in, is_among}
+use Rattle.chain_step.specs.Run.{NodeState, messages_in, asked_by, outputs_of, entry_of, after_event, waiting}
+use Rattle.chain_step.specs.Fresh.{listed, references_in, is_among}
 use Rattle.relay_chain.specs.Inner.Queues.{QueueState}
 use Rattle.relay_chain.specs.Inner.Taking.{ReferencesState, is_it, had}
 use Rattle.relay_chain.specs.Inner.Nodes.{IsComing, SameReferences}

@@ -8,11 +8,11 @@ use Rattle.relay_base.specs.declared.words.Event.{Event}
 use Rattle.relay_base.specs.declared.words.Request.{Request}
 use Rattle.chain_step.specs.declared.step.Step.{Step}
 use Rattle.chain_step.specs.declared.step.Step.TheVariants.{Ask, Pass, Tick}
-use Rattle.relay_chain.specs.Run.{NodeState, RunState, first_node, node_at, with_node, neighbour, waiting, after_event, after_giving, start, taking, passing, after_step, after_steps}
+use Rattle.chain_step.specs.Run.{NodeState, RunState, first_node, node_at, with_node, neighbour, waiting, after_event, after_giving, start, taking, passing, after_step, after_steps}
 use Rattle.chain_step.specs.Steps.{is_step, is_askable, is_node}
 use Rattle.relay_chain.specs.Inner.Kept.{AreShort}
 use Rattle.relay_chain.specs.Inner.Chains.{IsChain}
-use Rattle.relay_chain.specs.declared.terms.TheConstants.{USER}
+use Rattle.chain_step.specs.declared.terms.TheConstants.{USER}
 use Rattle.relay_base.specs.declared.words.Event.TheVariants.{Asked as Requested, Tick as Ticked}
 
 -- before the first step no journal has an entry

@@ -5,7 +5,7 @@ use Rattle.std.proofs.lemmas.List.{drop-append-le}
 use Rattle.std.proofs.lemmas.List.Concat.{flat_map-append}
 use Rattle.relay_base.specs.declared.words.Event.{Event}
 use Rattle.plant_core.specs.declared.entry.Entry.{Entry}
-use Rattle.relay_chain.specs.Run.{messages_in}
+use Rattle.chain_step.specs.Run.{messages_in}
 use Rattle.relay_chain.specs.Inner.Queues.{QueueState}
 use Rattle.relay_chain.specs.Inner.Kept.{Waits, sent_of}
 

@@ -1,4 +1,1 @@
-pub mod Run
-pub mod Fresh
-pub mod Chains
 pub mod Inner

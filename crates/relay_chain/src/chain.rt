@@ -1,9 +1,9 @@
 //! A chain of nodes.
 ghost use Rattle.std.specs.Prelude.{◌≡◌, ◌≤◌, ◌<◌, ◌++◌, ◌∷◌, [], not, length, IsTrue, IfOk, OnOk, OnErr};
-ghost use Rattle.relay_chain.specs.Run.{node_at, tells_by, is_idle};
+ghost use Rattle.chain_step.specs.Run.{node_at, tells_by, is_idle};
 ghost use Rattle.chain_step.specs.Steps.{is_step};
-ghost use Rattle.relay_chain.specs.Fresh.{all_fresh};
-ghost use Rattle.relay_chain.specs.Chains.{run_in};
+ghost use Rattle.chain_step.specs.Fresh.{all_fresh};
+ghost use Rattle.chain_step.specs.Chains.{run_in};
 
 use crate::nodes::Nodes;
 use crate::tells::TellList;
@@ -23,7 +23,7 @@ pub struct Chain {
 }
 
 impl Model for Chain {
-    ghost use Rattle.relay_chain.specs.Chains.{ChainState};
+    ghost use Rattle.chain_step.specs.Chains.{ChainState};
     ghost use Rattle.relay_chain.specs.Inner.Chains.{IsChain};
 
     ghost Value = { ChainState };

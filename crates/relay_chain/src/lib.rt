@@ -9,7 +9,6 @@ mod queue;
 mod references;
 mod start;
 mod tells;
-mod terms;
 
 pub use chain::Chain;
 pub use tells::TellList;

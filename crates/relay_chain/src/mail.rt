@@ -1,6 +1,6 @@
 //! The outputs of an event by where they go.
 ghost use Rattle.std.specs.Prelude.{◌≡◌, ◌∷◌, [], IfOk, OnOk};
-ghost use Rattle.relay_chain.specs.Run.{tells_in, messages_in};
+ghost use Rattle.chain_step.specs.Run.{tells_in, messages_in};
 ghost use Rattle.relay_chain.specs.Inner.Mails.{IsPut};
 
 use relay_base::{Event, Memory, Output, Outs, Pc, Tell};

@@ -2,8 +2,8 @@
 ghost use Rattle.std.specs.Prelude.{◌≡◌, ◌≤◌, ◌<◌, ◌+◌, ◌^◌, ◌++◌, true, is_some, length, option_map, IfOk, OnOk, OnErr};
 ghost use Rattle.section_model.specs.Journals.{IsConnJournal};
 ghost use Rattle.conn_lane.specs.Lanes.{ConnLaneTakes};
-ghost use Rattle.relay_chain.specs.Run.{first_node, waiting, tells_by_event, after_event, after_giving};
-ghost use Rattle.relay_chain.specs.Fresh.{is_fresh};
+ghost use Rattle.chain_step.specs.Run.{first_node, waiting, tells_by_event, after_event, after_giving};
+ghost use Rattle.chain_step.specs.Fresh.{is_fresh};
 ghost use Rattle.relay_chain.specs.Inner.Nodes.{IsComing, HasRoom, SameReferences};
 
 use crate::mail::Mail;
@@ -31,7 +31,7 @@ pub struct Node {
 }
 
 impl Model for Node {
-    ghost use Rattle.relay_chain.specs.Run.{NodeState};
+    ghost use Rattle.chain_step.specs.Run.{NodeState};
     ghost use Rattle.relay_chain.specs.Inner.Kept.{IsNode};
 
     ghost Value = { NodeState };

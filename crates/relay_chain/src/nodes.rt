@@ -1,15 +1,14 @@
 //! The nodes of a chain.
 ghost use Rattle.std.specs.Prelude.{◌≡◌, ◌≤◌, ◌<◌, ◌++◌, true, not, is_some, None, length, IsTrue, IfOk, OnOk, OnErr};
-ghost use Rattle.relay_chain.specs.Run.{start, neighbour, waiting, node_at, with_node, after_giving, taking, passing, after_step, tells_at, tells_by_pass, tells_by, has_none, is_idle};
+ghost use Rattle.chain_step.specs.Run.{start, neighbour, waiting, node_at, with_node, after_giving, taking, passing, after_step, tells_at, tells_by_pass, tells_by, has_none, is_idle};
 ghost use Rattle.relay_base.specs.declared.words.Event.TheVariants.{Asked};
-ghost use Rattle.relay_chain.specs.declared.terms.TheConstants.{USER};
+ghost use Rattle.chain_step.specs.declared.terms.TheConstants.{USER};
 ghost use Rattle.chain_step.specs.Steps.{is_step};
-ghost use Rattle.relay_chain.specs.Fresh.{all_fresh};
+ghost use Rattle.chain_step.specs.Fresh.{all_fresh};
 
 use crate::node::Node;
 use crate::tells::TellList;
-use crate::terms::USER;
-use chain_step::Step;
+use chain_step::{Step, USER};
 use plant_core::EntryList;
 use relay_base::{Event, Memory, Request, Ssn};
 use std::alloc::Global;
@@ -23,7 +22,7 @@ pub struct Nodes {
 }
 
 impl Model for Nodes {
-    ghost use Rattle.relay_chain.specs.Run.{RunState};
+    ghost use Rattle.chain_step.specs.Run.{RunState};
     ghost use Rattle.relay_chain.specs.Inner.Kept.{AreShort};
 
     ghost Value = { RunState };
@@ -154,7 +153,7 @@ impl Nodes {
     }
 
     /// Takes a step. False where it finds no message.
-    #[tactic(auto, unfolding(crate::specs::Run::after_step, crate::specs::Run::tells_by, crate::specs::Run::is_idle))]
+    #[tactic(auto, unfolding(chain_step::specs::Run::after_step, chain_step::specs::Run::tells_by, chain_step::specs::Run::is_idle))]
     pub fn step(&mut self, step: &Step, tells: &mut TellList) -> Result<bool, Memory>
         requires step { IsTrue (is_step (length self.old.nodes) step.now) }
         requires least { 2 ≤ length self.old.nodes }

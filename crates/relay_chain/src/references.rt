@@ -1,6 +1,6 @@
 //! The local references that the connections of a node took.
 ghost use Rattle.std.specs.Prelude.{◌≡◌, ◌≤◌, ◌+◌, ◌||◌, ℕ, [], false, OnOk};
-ghost use Rattle.relay_chain.specs.Fresh.{is_among};
+ghost use Rattle.chain_step.specs.Fresh.{is_among};
 ghost use Rattle.relay_chain.specs.Inner.Taking.{is_it, had};
 
 use relay_base::{Memory, Ref24};

@@ -1,9 +1,9 @@
 //! What the nodes are told at the start.
 ghost use Rattle.std.specs.Prelude.{◌≡◌, ◌≤◌, ◌<◌, ◌+◌, ◌-◌, ◌∷◌, [], IfOk, OnOk};
-ghost use Rattle.relay_chain.specs.Run.{head_of, users_of, row_to, routing_of};
+ghost use Rattle.chain_step.specs.Run.{head_of, users_of, row_to, routing_of};
 
 use crate::mail::Place;
-use crate::terms::{CREDIT, USER};
+use chain_step::{CREDIT, USER};
 use gtt_table::{AddFault, Entity, Row};
 use plant_core::{LaneHead, Plant, Terms, USUAL_TICKS};
 use relay_base::{Digits, Memory, Pc, PcList, Ssn, SsnList};

@@ -1,7 +1,7 @@
 -- What a chain keeps.
 use Rattle.std.specs.Prelude.{◌≡◌, ℕ, ◌≤◌, List, length}
 use Rattle.chain_step.specs.declared.step.Step.{Step}
-use Rattle.relay_chain.specs.Run.{RunState, run_of}
+use Rattle.chain_step.specs.Run.{RunState, run_of}
 
 -- from two to eight nodes, after these steps
 pub record IsChain (count : ℕ) (steps : List Step) (r : RunState) : Type 0 where

@@ -5,8 +5,8 @@ use Rattle.plant_core.specs.Plant.{PlantState}
 use Rattle.plant_core.specs.declared.entry.Entry.{Entry}
 use Rattle.conn_lane.specs.Lanes.{ConnLaneState}
 use Rattle.conn_lane.specs.Outcomes.{openings_in}
-use Rattle.relay_chain.specs.Run.{NodeState, messages_in, first_node}
-use Rattle.relay_chain.specs.Fresh.{references_in, is_among, has_twice}
+use Rattle.chain_step.specs.Run.{NodeState, messages_in, first_node}
+use Rattle.chain_step.specs.Fresh.{references_in, is_among, has_twice}
 use Rattle.relay_chain.specs.Inner.Queues.{QueueState}
 use Rattle.relay_chain.specs.Inner.Taking.{ReferencesState}
 

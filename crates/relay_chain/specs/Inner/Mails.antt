@@ -2,7 +2,7 @@
 use Rattle.std.specs.Prelude.{◌≡◌, ℕ, ◌++◌, List}
 use Rattle.relay_base.specs.declared.words.Output.{Output}
 use Rattle.relay_chain.specs.declared.mail.Mail.{Mail}
-use Rattle.relay_chain.specs.Run.{tells_in, messages_in}
+use Rattle.chain_step.specs.Run.{tells_in, messages_in}
 
 -- these outputs were put to others of node i
 pub record IsPut (i next before : ℕ) (outs : List Output) (old new : Mail) : Type 0 where

@@ -4,8 +4,8 @@ use Rattle.relay_base.specs.declared.words.Event.{Event}
 use Rattle.plant_core.specs.Plant.{PlantState}
 use Rattle.conn_lane.specs.Lanes.{ConnLaneState}
 use Rattle.conn_lane.specs.Outcomes.{next_outputs, next_connection, taken_by}
-use Rattle.relay_chain.specs.Run.{tells_in, messages_in}
-use Rattle.relay_chain.specs.Fresh.{is_among}
+use Rattle.chain_step.specs.Run.{tells_in, messages_in}
+use Rattle.chain_step.specs.Fresh.{is_among}
 use Rattle.relay_chain.specs.declared.mail.Mail.{Mail}
 use Rattle.relay_chain.specs.declared.node.Coming.{Coming}
 use Rattle.relay_chain.specs.Inner.Queues.{QueueState}

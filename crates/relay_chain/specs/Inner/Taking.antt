@@ -1,6 +1,6 @@
 -- The local references that the connections of a node took, as the code has it.
 use Rattle.std.specs.Prelude.{ℕ, ◌==◌, Bool, false, List, Option, Some, None}
-use Rattle.relay_chain.specs.Fresh.{is_among}
+use Rattle.chain_step.specs.Fresh.{is_among}
 
 -- those that were taken, in any order, whether one was taken twice, and how many can be taken without memory
 pub record ReferencesState : Type 0 where

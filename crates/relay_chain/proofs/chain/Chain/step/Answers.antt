@@ -1,5 +1,5 @@
 use Rattle.std.proofs.Common.{[], ◌∷◌, ◌++◌, sym, subst, ap, ◌∙◌}
-use Rattle.relay_chain.specs.Chains.{ChainState}
+use Rattle.chain_step.specs.Chains.{ChainState}
 use Rattle.relay_chain.specs.Inner.Chains.{IsChain}
 use Rattle.relay_chain.proofs.RunLemmas.{chain_more}
 use Rattle.relay_chain.proofs.chain.Chain.step.Goals as goal

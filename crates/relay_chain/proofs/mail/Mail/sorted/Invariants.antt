@@ -1,5 +1,5 @@
 use Rattle.std.proofs.Common.{◌≡◌}
-use Rattle.relay_chain.specs.Run.{tells_in, messages_in}
+use Rattle.chain_step.specs.Run.{tells_in, messages_in}
 use Rattle.relay_chain.proofs.mail.Mail.sorted.Given as goal
 
 abbrev pub invariant-loop-out : goal.invariant-loop-out

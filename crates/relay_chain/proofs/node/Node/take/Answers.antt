@@ -1,5 +1,5 @@
 use Rattle.std.proofs.Common.{ap, ◌∙◌}
-use Rattle.relay_chain.specs.Run.{after_event}
+use Rattle.chain_step.specs.Run.{after_event}
 use Rattle.relay_chain.proofs.NodeLemmas.{node_taken, node_is}
 use Rattle.relay_chain.proofs.node.Node.take.Goals as goal
 

@@ -1,6 +1,6 @@
 use Rattle.std.proofs.Common.{◌≡◌, map}
 use Rattle.std.specs.List.{range_with_len}
-use Rattle.relay_chain.specs.Run.{first_node}
+use Rattle.chain_step.specs.Run.{first_node}
 use Rattle.relay_chain.proofs.nodes.Nodes.new.Given as goal
 
 -- the nodes before this one

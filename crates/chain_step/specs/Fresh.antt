@@ -2,7 +2,7 @@
 use Rattle.std.specs.Prelude.{ℕ, nat_eq, ◌||◌, not, Bool, false, List, [], ◌∷◌, ◌++◌, flat_map, Option, Some, None}
 use Rattle.std.specs.List.{list_any, list_all}
 use Rattle.section_model.specs.Lane.{Opening, reference_of}
-use Rattle.relay_chain.specs.Run.{NodeState, RunState, openings_of}
+use Rattle.chain_step.specs.Run.{NodeState, RunState, openings_of}
 
 abbrev pub listed : Option ℕ → List ℕ
 listed None = []

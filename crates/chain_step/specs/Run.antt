@@ -17,7 +17,7 @@ use Rattle.section_model.specs.Opening.{wish_of, question_of}
 use Rattle.section_model.specs.Journals.{lane_of}
 use Rattle.section_model.specs.Lane.{Opening, legal_outputs}
 use Rattle.section_model.specs.Laws.{openings_from}
-use Rattle.relay_chain.specs.declared.terms.TheConstants.{CREDIT, USER}
+use Rattle.chain_step.specs.declared.terms.TheConstants.{CREDIT, USER}
 use Rattle.chain_step.specs.declared.step.Step.{Step}
 use Rattle.chain_step.specs.declared.step.Step.TheVariants.{Ask, Pass, Tick}
 
