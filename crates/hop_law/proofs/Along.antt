@@ -55,12 +55,12 @@ from_place x y (Sent point sls bytes) p s o = rw (p, s, o) refl
 from_place x y (Told ssn tell) p s o = refl
 from_place x y (Lost lost) p s o = refl
 
-on_place : (x y : SectionHead) (outs : List Output) → y.point ≡ x.point → y.sls ≡ x.sls → y.other ≡ x.other → units_on y outs ≡ units_on x outs
+pub on_place : (x y : SectionHead) (outs : List Output) → y.point ≡ x.point → y.sls ≡ x.sls → y.other ≡ x.other → units_on y outs ≡ units_on x outs
 unfolding units_on
 on_place x y [] p s o = refl
 on_place x y (out ∷ outs) p s o = rw (from_place x y out p s o, on_place x y outs p s o) refl
 
-apart_place : (x y : SectionHead) (e : End) → y.point ≡ x.point → IsApart x e → IsApart y e
+pub apart_place : (x y : SectionHead) (e : End) → y.point ≡ x.point → IsApart x e → IsApart y e
 apart_place x y (wire z) p apart = rw p apart
 apart_place x y (owner u) p apart = tt
 
@@ -80,7 +80,7 @@ pub of_end : (R : End → End → Type 0) (end other : Connection → End) (c d 
 of_end R end other c d this_and_that r = r.0
 of_end R end other c d that_and_this r = r.1
 
-of_other : (R : End → End → Type 0) (end other : Connection → End) (c d : Connection) → AreSides end other → Both R c d → R (other c) (other d)
+pub of_other : (R : End → End → Type 0) (end other : Connection → End) (c d : Connection) → AreSides end other → Both R c d → R (other c) (other d)
 of_other R end other c d this_and_that r = r.1
 of_other R end other c d that_and_this r = r.0
 
@@ -127,14 +127,14 @@ other_within end other c that_and_this w = w.0
 
 -- Where an end isn't set up, or is over, nothing comes in at the other one, and no DT1 leaves.
 
-open_stage : (e : End) → IsOpen e → stage_at e ≡ connected
+pub open_stage : (e : End) → IsOpen e → stage_at e ≡ connected
 open_stage (wire x) up = ap section_stage up
 open_stage (owner u) ready = ap user_stage ready
 
 abbrev NonePassing : (Connection → End) → Connection → Connection → List Output → Type 0
 NonePassing other c d outs = (dt1_among outs ≡ []) × StaysOrClears (other c) (other d)
 
-is_met : (s t : Stage) → s ≡ connected → Meets s t → t ≡ connected
+pub is_met : (s t : Stage) → s ≡ connected → Meets s t → t ≡ connected
 is_met s t e m = met t (subst (λ s. Meets s t) e m)
   where
     met : (t : Stage) → Meets connected t → t ≡ connected
@@ -150,12 +150,12 @@ none_passing event end other c d outs that_and_this k not_up (on_that units p) =
 none_passing event end other c d outs this_and_that k not_up (on_that units p) = absurd (not_up (is_met (stage_at c.that) (stage_at c.this) (open_stage c.that p.is_open) (kept_back c k).0))
 none_passing event end other c d outs that_and_this k not_up (on_this units p) = absurd (not_up (is_met (stage_at c.this) (stage_at c.that) (open_stage c.this p.is_open) k.0))
 
-still_none : (before after : End) → StaysOrClears before after → got_at before ≡ [] → got_at after ≡ []
+pub still_none : (before after : End) → StaysOrClears before after → got_at before ≡ [] → got_at after ≡ []
 still_none before after (inl same) e = same ∙ e
 still_none before after (inr cleared) e = cleared
 
 -- no DT2 leaves on an end where nothing came in at the other one
-no_data_from : (e after other : End) (pr : ℕ) → got_at other ≡ [] → data_on e pr after other ≡ []
+pub no_data_from : (e after other : End) (pr : ℕ) → got_at other ≡ [] → data_on e pr after other ≡ []
 no_data_from (owner u) after other pr e = refl
 no_data_from (wire x) after other pr e =
     either (λ (outs : List Output). outs ≡ []) (x.head.class == 3) _ _
@@ -233,14 +233,17 @@ unfolding StaysApart
 apart_first ticks y other c [] apart = apart
 apart_first ticks y other c (event ∷ events) apart = apart.0
 
+-- as the event leaves it, since what follows changes no head
+pub apart_between : (ticks : Ticks) (c : Connection) (event : Event) (end other : Connection → End) (y : SectionHead) → AreSides end other → IsApart y (other (next ticks c event))
+    → IsApart y (other (acted ticks c event))
+unfolding connection_step
+apart_between ticks c event end other y sides after =
+    apart_before y (other (acted ticks c event)) (other (next ticks c event))
+    (of_other SameHead end other (acted ticks c event) (next ticks c event) sides (after_heads ticks (event_step ticks c event))) after
+
 apart_at : (ticks : Ticks) (y : SectionHead) (end other : Connection → End) (c : Connection) (event : Event) → AreSides end other → IsApart y (other c) → IsApart y (other (next ticks c event))
     → IsApartAt ticks y other c event
-unfolding connection_step
-apart_at ticks y end other c event sides before after = record {
-  before = before;
-  acted = apart_before y (other (acted ticks c event)) (other (next ticks c event))
-      (of_other SameHead end other (acted ticks c event) (next ticks c event) sides (after_heads ticks (event_step ticks c event))) after;
-}
+apart_at ticks y end other c event sides before after = record { before = before; acted = apart_between ticks c event end other y sides after }
 
 record Kept (x : SectionHead) (end other : Connection → End) (c : Connection) (left : List DataUnit) : Type 0 where
   in_step : IsInStep c
@@ -444,9 +447,9 @@ first_step ticks c event end other x left hop kept =
 pub stays_early : (e f : End) → KeptEarly e f → IsEmptyEarly e → IsEmptyEarly f
 stays_early e f k empty = λ early. let before = k early in before.1 (empty before.0)
 
-unreached_before : (a b : Bool) → (a ≡ true → b ≡ true) → b ≡ false → a ≡ false
-unreached_before true b goes e = absurd (false≢true (sym e ∙ goes refl))
-unreached_before false b goes e = refl
+pub not_before : (a b : Bool) → (a ≡ true → b ≡ true) → b ≡ false → a ≡ false
+not_before true b goes e = absurd (false≢true (sym e ∙ goes refl))
+not_before false b goes e = refl
 
 unreached_only : (s : SectionState) → is_reached s ≡ false → section_stage s ≡ connected → ⊥
 unreached_only Asking e = asking_only
@@ -474,7 +477,7 @@ kept_step ticks c event end other x left hop kept =
         let d = stepped ticks c event in
         let put : StaysPut (end c) (end d) = of_end StaysPut end other c d hop.sides (step_place ticks c event) in
         let before : is_reached y.head.state ≡ false =
-        unreached_before (is_reached y.head.state) (is_reached z.head.state) (λ r. (known z (end c) y at.is (subst (λ e. StaysPut (end c) e) is_z put) r).reached) e in
+        not_before (is_reached y.head.state) (is_reached z.head.state) (λ r. (known z (end c) y at.is (subst (λ e. StaysPut (end c) e) is_z put) r).reached) e in
         (none_step ticks c event end other x left hop kept (λ up. unreached_only y.head.state before (sym (ap stage_at at.is) ∙ up)) (kept.unreached y at.is before)).0
 
 -- Along all that is heard.

@@ -229,7 +229,7 @@ still_becomes Confirmed x (wire y) stays unknown = inl (stays.0 unknown)
 still_becomes Confirmed x (owner v) stays unknown = absurd stays
 
 -- what the other end is told of CC or CREF brings nothing back
-abbrev pub IsSetUp : Hand → Type 0
+abbrev IsSetUp : Hand → Type 0
 IsSetUp (hand.Accept class credit called body importance) = Unit {0}
 IsSetUp (hand.Refuse cause called body importance) = Unit {0}
 IsSetUp _ = ⊥

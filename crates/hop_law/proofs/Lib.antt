@@ -1,3 +1,4 @@
+pub mod Lists
 pub mod Along
 pub mod Taken
 pub mod Queued

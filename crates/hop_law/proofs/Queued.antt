@@ -1,5 +1,5 @@
 -- The units that wait are those on a section.
-use Rattle.std.proofs.Common.{◌≡◌, ℕ, suc, ◌==◌, ◌&&◌, Bool, true, false, List, [], ◌∷◌, ◌++◌, filter, drop, take, if◌then◌else◌, refl, sym, ◌∙◌, ap, subst, append-nil, eq-eqb}
+use Rattle.std.proofs.Common.{◌≡◌, ℕ, suc, ◌==◌, ◌&&◌, Bool, true, false, List, [], ◌∷◌, ◌++◌, drop, take, if◌then◌else◌, refl, sym, ◌∙◌, ap, subst, append-nil, eq-eqb}
 use Rattle.std.specs.List.{AllByRecursion, flat_map}
 use Rattle.std.proofs.lemmas.Bool.{eqb-true}
 use Rattle.std.proofs.lemmas.Grind.{flat_map-append}
@@ -23,6 +23,7 @@ use Rattle.passing_law.proofs.Carrying.{no_units}
 use Rattle.passing_law.proofs.Passing.{units_pass}
 use Rattle.passing_law.proofs.Placing.{event_place}
 use Rattle.hop_law.specs.Waiting.{Waiting, message_to, messages_to, units_waiting, UnitsWait}
+use Rattle.hop_law.proofs.Lists.{all_joined, each_filtered}
 
 -- one queue after another
 pub waiting_joined : (reference : ℕ) (one other : List Waiting) → units_waiting reference (one ++ other) ≡ units_waiting reference one ++ units_waiting reference other
@@ -35,16 +36,12 @@ messages_joined point one other = flat_map-append (message_to point) one other
 
 -- Each message to the section's point has its link selection.
 
-IsWith : SectionHead → Output → Type 0
+pub IsWith : SectionHead → Output → Type 0
 IsWith y (Sent point sls bytes) = point ≡ y.point → sls ≡ y.sls
 IsWith y _ = Unit {0}
 
-abbrev AreWith : SectionHead → List Output → Type 0
+abbrev pub AreWith : SectionHead → List Output → Type 0
 AreWith y outs = AllByRecursion (IsWith y) outs
-
-with_joined : (y : SectionHead) (one other : List Output) → AreWith y one → AreWith y other → AreWith y (one ++ other)
-with_joined y [] other p q = q
-with_joined y (out ∷ one) other p q = (p.0, with_joined y one other p.1 q)
 
 -- an end sends with the link selection, or to another point
 SendsWith : SectionHead → End → Type 0
@@ -86,7 +83,7 @@ dt2_are_with y ticks c event k this that =
     let a = acted ticks c event in
     let d = stepped ticks c event in
     subst (AreWith y) (sym (data_sent ticks c event k).sends)
-    (with_joined y _ _ (data_with y a.this d.this d.that (passed_at a.this) this) (data_with y a.that d.that d.this (passed_at d.that) that))
+    (all_joined (IsWith y) _ _ (data_with y a.this d.this d.that (passed_at a.this) this) (data_with y a.that d.that d.this (passed_at d.that) that))
 
 -- Where each DT1 and DT2 is so, the units by the reference are those on the section.
 
@@ -115,28 +112,26 @@ alike_with y (Sent point sls bytes) same = by_point (point == y.point) refl
 alike_with y (Told ssn tell) same = refl
 alike_with y (Lost lost) same = refl
 
-all_alike : (y : SectionHead) (outs : List Output) → AreWith y (dt1_among outs) → AreWith y (data_among outs) → units_waiting y.other (messages_to y.point outs) ≡ units_on y outs
-unfolding dt1_among data_among units_waiting messages_to units_on IsAlike
-all_alike y [] one two = refl
-all_alike y (out ∷ outs) one two = by_test (is_of_type 6 out) (is_of_type 7 out) refl refl (all_alike y outs)
+alike : (y : SectionHead) (out : Output) → (is_of_type 6 out ≡ true → IsWith y out) → (is_of_type 7 out ≡ true → IsWith y out) → IsAlike y out
+alike y out one two = by_type (is_of_type 6 out) (is_of_type 7 out) refl refl
   where
-    after : IsAlike y out → units_waiting y.other (messages_to y.point outs) ≡ units_on y outs → units_waiting y.other (messages_to y.point (out ∷ outs)) ≡ units_on y (out ∷ outs)
-    after alike more =
-        waiting_joined y.other (message_to y.point out) (messages_to y.point outs)
-        ∙ (ap (λ (units : List DataUnit). units ++ units_waiting y.other (messages_to y.point outs)) alike ∙ ap (λ (units : List DataUnit). units_from y out ++ units) more)
+    by_type : (a b : Bool) → is_of_type 6 out ≡ a → is_of_type 7 out ≡ b → IsAlike y out
+    by_type true b six seven = alike_with y out (one six)
+    by_type false true six seven = alike_with y out (two seven)
+    by_type false false six seven = alike_none y out six seven
 
-    rest : (p : Output → Bool) (b : Bool) → p out ≡ b → AreWith y (filter p (out ∷ outs)) → AreWith y (filter p outs)
-    rest p true e all = (subst (λ (b : Bool). AreWith y (if b then out ∷ filter p outs else filter p outs)) e all).1
-    rest p false e all = subst (λ (b : Bool). AreWith y (if b then out ∷ filter p outs else filter p outs)) e all
+each_alike : (y : SectionHead) (outs : List Output) → AllByRecursion (λ (out : Output). is_of_type 6 out ≡ true → IsWith y out) outs
+    → AllByRecursion (λ (out : Output). is_of_type 7 out ≡ true → IsWith y out) outs → units_waiting y.other (messages_to y.point outs) ≡ units_on y outs
+unfolding units_waiting messages_to units_on IsAlike
+each_alike y [] one two = refl
+each_alike y (out ∷ outs) one two =
+    waiting_joined y.other (message_to y.point out) (messages_to y.point outs)
+    ∙ (ap (λ (units : List DataUnit). units ++ units_waiting y.other (messages_to y.point outs)) (alike y out one.0 two.0)
+    ∙ ap (λ (units : List DataUnit). units_from y out ++ units) (each_alike y outs one.1 two.1))
 
-    first : (p : Output → Bool) → p out ≡ true → AreWith y (filter p (out ∷ outs)) → IsWith y out
-    first p e all = (subst (λ (b : Bool). AreWith y (if b then out ∷ filter p outs else filter p outs)) e all).0
-
-    by_test : (a b : Bool) → is_of_type 6 out ≡ a → is_of_type 7 out ≡ b → (AreWith y (filter (is_of_type 6) outs) → AreWith y (filter (is_of_type 7) outs) → units_waiting y.other (messages_to y.point outs) ≡ units_on y outs)
-        → units_waiting y.other (messages_to y.point (out ∷ outs)) ≡ units_on y (out ∷ outs)
-    by_test true b six seven more = after (alike_with y out (first (is_of_type 6) six one)) (more (rest (is_of_type 6) true six one) (rest (is_of_type 7) b seven two))
-    by_test false true six seven more = after (alike_with y out (first (is_of_type 7) seven two)) (more (rest (is_of_type 6) false six one) (rest (is_of_type 7) true seven two))
-    by_test false false six seven more = after (alike_none y out six seven) (more (rest (is_of_type 6) false six one) (rest (is_of_type 7) false seven two))
+pub all_alike : (y : SectionHead) (outs : List Output) → AreWith y (dt1_among outs) → AreWith y (data_among outs) → units_waiting y.other (messages_to y.point outs) ≡ units_on y outs
+unfolding dt1_among data_among
+all_alike y outs one two = each_alike y outs (each_filtered (IsWith y) (is_of_type 6) outs one) (each_filtered (IsWith y) (is_of_type 7) outs two)
 
 -- The ends of a step.
 

@@ -74,7 +74,7 @@ any_reset (out ∷ outs) is = by_first (is_of_type 0x0D out) (is_of_type 0x0E ou
     by_first false true is more = refl
     by_first false false is more = more is
 
-is_for_it : (reference mine : ℕ) (s : SectionState) → (reference == mine) ≡ true → s ≡ Up → (mine == reference && not (is_gone s)) ≡ true
+pub is_for_it : (reference mine : ℕ) (s : SectionState) → (reference == mine) ≡ true → s ≡ Up → (mine == reference && not (is_gone s)) ≡ true
 is_for_it reference mine s same up = rw (up, eq-eqb mine reference (sym (eqb-true reference mine same))) refl
 
 not_named : (e : End) (reference : ℕ) → reference_of e ≢ Some reference → is_named reference e ≡ false
@@ -85,7 +85,7 @@ not_named (wire z) reference differs = by_test (z.head.mine == reference) refl
     by_test false e = refl
     by_test true e = absurd (differs (ap (λ (mine : ℕ). Some mine) (eqb-true z.head.mine reference e)))
 
-stands : (reference : ℕ) (c : Connection) (y : Section) (end other : Connection → End) → AreSides end other → end c ≡ wire y → (reference == y.head.mine) ≡ true → reference_of c.this ≢ reference_of c.that
+pub stands : (reference : ℕ) (c : Connection) (y : Section) (end other : Connection → End) → AreSides end other → end c ≡ wire y → (reference == y.head.mine) ≡ true → reference_of c.this ≢ reference_of c.that
     → StandsAt reference c y end
 stands reference c y end other this_and_that is same differs = at_this is
 stands reference c y end other that_and_this is same differs =
@@ -131,7 +131,7 @@ other_event : (event : Event) (y : Section) (after : End) → ((units : List Dat
 other_event event y after nothing (stays s) begins = stays_same (wire y) after s begins
 other_event event y after nothing (comes units b is_open e) begins = absurd (nothing units b)
 
-only_up : (s : SectionState) → is_up s ≡ true → s ≡ Up
+pub only_up : (s : SectionState) → is_up s ≡ true → s ≡ Up
 only_up Up e = refl
 only_up _ e = absurd (false≢true e)
 
@@ -162,7 +162,7 @@ event_takes ticks c (Arrived point sls bytes) end other y sides k is differs fit
 
 -- One step.
 
-step_takes : (ticks : Ticks) (c : Connection) (event : Event) (end other : Connection → End) (x : Section) → AreSides end other → hears c event ≡ true → StaysPut (end c) (wire x) → IsInStep c
+pub step_takes : (ticks : Ticks) (c : Connection) (event : Event) (end other : Connection → End) (x : Section) → AreSides end other → hears c event ≡ true → StaysPut (end c) (wire x) → IsInStep c
     → IsEmptyEarly c.this × IsEmptyEarly c.that → reference_of c.this ≢ reference_of c.that → Fits (end c) event → (class_at c.this ≡ 2) ⊎ (class_at c.this ≡ 3)
     → list_any is_reset (connection_step ticks c event).1 ≡ false → got_at (end (stepped ticks c event)) ≡ got_at (end c) ++ brought_to (end c) event
 step_takes ticks c event end other x sides h put k empty differs fits class no_reset =
@@ -179,7 +179,7 @@ step_takes ticks c event end other x sides h put k empty differs fits class no_r
     begins (inl reset) = absurd (false≢true (sym no_reset ∙ reset.1))
     begins (inr both) = of_end (λ e f. Begins (got_at e) (got_at f)) end other c (stepped ticks c event) sides both
 
-still_differs : (ticks : Ticks) (c : Connection) (event : Event) → reference_of c.this ≢ reference_of c.that → reference_of (next ticks c event).this ≢ reference_of (next ticks c event).that
+pub still_differs : (ticks : Ticks) (c : Connection) (event : Event) → reference_of c.this ≢ reference_of c.that → reference_of (next ticks c event).this ≢ reference_of (next ticks c event).that
 still_differs ticks c event differs = λ e. let stays = step_stays ticks c event in differs (sym stays.this.reference ∙ (e ∙ stays.that.reference))
 
 -- Along all that is heard.

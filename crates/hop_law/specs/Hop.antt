@@ -1,5 +1,5 @@
 -- The law of one hop of a connection along a chain of nodes (Q.714, 3.1 and 3.5): two neighbours, and what waits between them. Each message that one
--- sends to the other waits until those before it have arrived; none is lost. The law is stated here, and not proved yet: no contract cites it.
+-- sends to the other waits until those before it have arrived; none is lost. The law is the contract of `one_hop`, in the crate `course_law`.
 use Rattle.std.specs.Prelude.{◌≡◌, ◌≢◌, ◌⊎◌, ℕ, ◌<◌, Bool, true, false, List, [], ◌∷◌, ◌++◌, Option, Some, None}
 use Rattle.std.specs.List.{AllByRecursion, list_any}
 use Rattle.relay_base.specs.declared.limits.TheConstants.{REFERENCES}
@@ -17,6 +17,7 @@ use Rattle.section_model.specs.Lane.{fed, part_by, reference_of}
 use Rattle.carried_law.specs.Units.{units_on}
 use Rattle.connection_law.specs.InStep.{got_at, IsInStep}
 use Rattle.text_law.specs.TextLaw.{Begins}
+use Rattle.passing_law.specs.ClassLaw.{IsOfAClass}
 use Rattle.passing_law.specs.LeavingLaw.{IsApart}
 use Rattle.passing_law.specs.ClearingLaw.{is_reset}
 use Rattle.passing_law.specs.ClosingLaw.{may_take}
@@ -135,8 +136,7 @@ pub record IsBegun (n : Neighbours) (h : Hop) : Type 0 where
   pub point : asked.head.point ≡ n.near
   pub named : asked.head.other ≡ asking.head.mine
   pub references : (asking.head.mine < REFERENCES) × (asked.head.mine < REFERENCES)
-  pub class : (asked.head.class ≡ 2) ⊎ (asked.head.class ≡ 3)
-  pub same_class : asked.head.class ≡ asking.head.class
+  pub class : IsOfAClass asking.head.class × IsOfAClass asked.head.class
   pub in_step : IsInStep h.near × IsInStep h.far
   pub nothing : GotNothing h.near × GotNothing h.far
   pub other_references : (reference_of h.near.this ≢ reference_of h.near.that) × (reference_of h.far.this ≢ reference_of h.far.that)
@@ -151,7 +151,7 @@ IsCarried outs (wire y) (wire x) queue =
     × (may_take x.head.state ≡ true → units_on y.head outs ≡ x.windows.got ++ units_waiting x.head.mine queue)
 IsCarried outs _ _ queue = ⊥
 
--- The law, in both directions, as long as neither connection sent RSR or RSC. It isn't proved yet.
+-- The law, in both directions, as long as neither connection sent RSR or RSC.
 abbrev pub HopLaw : Type 0
 HopLaw =
     (n : Neighbours) (h : Hop) (steps : List HopStep) → IsBegun n h → AreFair n (begun h) steps →

@@ -351,7 +351,7 @@ folded : (p : Output → Bool) (n : ℕ) (ticks : Ticks) (hands : List Hand) (r 
 folded p n ticks [] r is = is
 folded p n ticks (h ∷ hands) r is = folded p n ticks hands (other_takes (exchange n ticks) ticks r h) (any_first p r.1 _ is)
 
-in_exchange : (p : Output → Bool) (n : ℕ) (ticks : Ticks) (acting : End × Acted) (that : End) → list_any p acting.1.outs ≡ true → list_any p (exchange (suc n) ticks acting that).1 ≡ true
+pub in_exchange : (p : Output → Bool) (n : ℕ) (ticks : Ticks) (acting : End × Acted) (that : End) → list_any p acting.1.outs ≡ true → list_any p (exchange (suc n) ticks acting that).1 ≡ true
 unfolding exchange
 in_exchange p n ticks acting that is =
     let first = fold (other_takes (exchange n ticks) ticks) (both acting.0 that, []) acting.1.first in
@@ -403,7 +403,7 @@ heard_goes ticks point (Some a) c k =
 
 -- A request.
 
-resets_up : (ticks : Ticks) (cause : ℕ) (x : Section) → x.head.state ≡ Up → x.head.class ≡ 3 → SendsReset (end_takes ticks (hand.Reset cause) (wire x)).1.outs
+pub resets_up : (ticks : Ticks) (cause : ℕ) (x : Section) → x.head.state ≡ Up → x.head.class ≡ 3 → SendsReset (end_takes ticks (hand.Reset cause) (wire x)).1.outs
 unfolding section_row section_takes windowed_takes spelling_of octets_of
 resets_up ticks cause x up three =
     subst (λ s. SendsReset (section_takes ticks (section_cell s on.ResetComes) (hand.Reset cause) x).1.outs) (sym up)
@@ -416,7 +416,7 @@ user_reset_goes ticks mine u x up three =
     inl (three.0, in_exchange is_reset 0 ticks (end_takes ticks (hand.Reset RESET_END_USER) (wire x)) (owner (user_asks cell.UserResets (request.Reset mine) u).0) (resets_up ticks RESET_END_USER x up three.1))
 
 -- a reset is asked for where the section is up, of a class but 2
-may_reset : (mine : ℕ) (u : User) (x : Section) → reason_against (request.Reset mine) u x ≡ None
+pub may_reset : (mine : ℕ) (u : User) (x : Section) → reason_against (request.Reset mine) u x ≡ None
     → (asking_cell u.state (request.Reset mine) ≡ cell.UserResets) × ((u.class == 2) ≡ false) × (x.head.state ≡ Up)
 unfolding user_row
 may_reset mine u x none = by_state u.state none

@@ -168,7 +168,7 @@ SectionQuiet : Section → Section × Acted → Type 0
 SectionQuiet x done = ActsQuiet x.windows.got done.0.windows.got done.1
 
 -- where a line acts, what came in is as it says, or begins anew
-line_got : (x : Section) (line : Line) → line.got ≡ x.windows.got → Kept x.windows.got (windows_after x line).got
+pub line_got : (x : Section) (line : Line) → line.got ≡ x.windows.got → Kept x.windows.got (windows_after x line).got
 line_got x line e =
     either (λ (w : Windows). Kept x.windows.got w.got) (is_up line.head.state && not (is_connected x.head.state)) _ _ (λ _. inr refl) (λ _. inl e)
 

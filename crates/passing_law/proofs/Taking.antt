@@ -153,7 +153,7 @@ section_passes ticks u y =
 UserTakes : User → User × Acted → Type 0
 UserTakes v done = (done.0.got ≡ v.got) × (AreAnswers done.1.first × AreAnswers done.1.then) × (dt1_among done.1.outs ≡ [])
 
-told_cell : (s : UserState) → Meets connected (user_stage s) → user_cell s by.UnitTold ≡ cell.TellUnit
+pub told_cell : (s : UserState) → Meets connected (user_stage s) → user_cell s by.UnitTold ≡ cell.TellUnit
 unfolding user_row
 told_cell user.Offered m = absurd m
 told_cell user.Calling m = absurd m

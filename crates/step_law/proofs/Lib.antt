@@ -1,0 +1,10 @@
+pub mod Hearing
+pub mod Agreeing
+pub mod Section
+pub mod ComingIn
+pub mod Typing
+pub mod Going
+pub mod Apart
+pub mod Unset
+pub mod Confirmless
+pub mod Setup
