@@ -1,5 +1,5 @@
 -- The run of a row of nodes, each with a point, a connection lane and routing data of its own, where neighbours are joined by one queue in each direction.
-use Rattle.std.specs.Prelude.{ℕ, ◌+◌, ◌-◌, ◌==◌, ◌||◌, nat_lt, Bool, true, false, List, [], ◌∷◌, ◌++◌, map, flat_map, slice_get, slice_set, get_or, if◌then◌else◌, Option, Some, None}
+use Rattle.std.specs.Prelude.{ℕ, ◌+◌, ◌-◌, ◌==◌, ◌||◌, nat_lt, Bool, true, false, List, [], ◌∷◌, ◌++◌, length, map, flat_map, take, drop, sum_by, slice_get, slice_set, get_or, if◌then◌else◌, Option, Some, None}
 use Rattle.std.specs.List.{range_with_len}
 use Rattle.relay_base.specs.declared.words.Event.{Event}
 use Rattle.relay_base.specs.declared.words.Event.TheVariants.{Message as Arrived, Asked as Requested, Tick as Ticked}
@@ -89,6 +89,14 @@ given_of forward node = if forward then node.ahead else node.back
 -- the first message that waits
 abbrev pub waiting : Bool → NodeState → Option Event
 waiting forward node = slice_get (messages_to node (neighbour forward node.head.terms.own)) (given_of forward node)
+
+-- how many messages wait
+abbrev pub queue_length : Bool → NodeState → ℕ
+queue_length forward node = length (messages_to node (neighbour forward node.head.terms.own)) - given_of forward node
+
+-- how many wait in all queues: to the next node from each but the last, and to the one before from each but the first
+abbrev pub waiting_count : RunState → ℕ
+waiting_count r = sum_by (queue_length true) (take (length r.nodes - 1) r.nodes) + sum_by (queue_length false) (drop 1 r.nodes)
 
 -- An event in a node, as the step of this number.
 

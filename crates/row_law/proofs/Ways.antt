@@ -1,0 +1,304 @@
+-- CR goes to the next node.
+use Rattle.std.proofs.Common.{◌≡◌, ℕ, ◌≤◌, ◌+◌, ◌-◌, ◌/◌, ◌%◌, ◌==◌, ◌||◌, not, nat_lt, Bool, true, false, List, [], ◌∷◌, length, if◌then◌else◌, Option, Some, None, IfSome, Result, Ok, Err, IfOk, IsTrue, refl, sym, subst, ap, ◌∙◌, eq-eqb}
+use Rattle.std.specs.Prelude.{nat_eq, slice_index, slice_get, drop}
+use Rattle.std.specs.List.{AllByRecursion}
+use Rattle.std.proofs.lemmas.Bool.{false≢true, and_parts}
+use lib.Pointwise.{pointwise, bytes_decides}
+use Rattle.relay_base.specs.Giving.{◌>>=◌}
+use Rattle.relay_base.specs.declared.words.Event.{Event}
+use Rattle.relay_base.specs.declared.words.Event.TheVariants.{Message as Arrived, Asked as Requested, Tick as Ticked}
+use Rattle.relay_base.specs.declared.words.ReadFault.{ReadFault}
+use Rattle.relay_base.specs.declared.words.Request.{Request}
+use Rattle.relay_base.specs.declared.words.Request.TheVariants as request
+use Rattle.sccp_address.specs.Form.{Form, TitleForm}
+use Rattle.sccp_address.specs.Parsing.{point_at, ssn_at, address_of}
+use Rattle.sccp_address.specs.Titles.{title_at, dialled_of}
+use Rattle.sccp_address.specs.declared.address.AddressFault.{AddressFault}
+use Rattle.sccp_address.specs.declared.address.Selector.{Selector}
+use Rattle.gtt_table.specs.declared.row.Row.{Row}
+use Rattle.gtt_table.specs.declared.row.Entity.{Entity}
+use Rattle.gtt_table.specs.Rows.{is_match}
+use Rattle.gtt_table.specs.Translation.{Found, no_selector, no_prefix, found, longer, has_selector, found_row, translation_of}
+use Rattle.plant_core.specs.Asking.{Question, asked_at, answer_in}
+use Rattle.plant_core.specs.Plant.{RoutingData, is_among}
+use Rattle.plant_core.specs.Routing.{local_answer, ssn_answer, availability_of, entity_answer, row_answer, found_answer, title_answer, route_of}
+use Rattle.plant_core.specs.declared.answer.Answer.{Answer}
+use Rattle.plant_core.specs.declared.answer.Answer.TheVariants.{Local, Forward, Refused}
+use Rattle.plant_core.specs.declared.answer.Origin.TheVariants.{Network, User as FromUser}
+use Rattle.plant_core.specs.declared.answer.Rewrite.{Rewrite}
+use Rattle.plant_core.specs.declared.answer.RouteCause.{RouteCause}
+use Rattle.plant_core.specs.declared.answer.TheConstants.{MOST_HOPS}
+use Rattle.plant_core.specs.declared.terms.Terms.{Terms}
+use Rattle.q713_codec.specs.Names.{Message}
+use Rattle.q713_codec.specs.declared.message.Message.TheVariants.{Cr}
+use Rattle.q713_codec.specs.Reading.{reading_of}
+use Rattle.section_model.specs.Ends.{Connection}
+use Rattle.section_model.specs.Opening.{Wanted, Wish, by_cr, by_user, no_wish, wish_of, wish_of_message, wish_of_reading, may_be_wanted, asked_for, question_of, fits, opened_through, opened_by_cr, opened_by_user, opened, Opened, slots_needed}
+use Rattle.section_model.specs.Journals.{lane_of}
+use Rattle.section_model.specs.Lane.{lowest_free, answer_of}
+use Rattle.connection_law.proofs.Flow.Flowing.{either}
+use Rattle.chain_step.specs.declared.step.Step.{Step}
+use Rattle.chain_step.specs.declared.step.Step.TheVariants.{Ask, Pass, Tick}
+use Rattle.chain_step.specs.declared.terms.TheConstants.{USER}
+use Rattle.chain_step.specs.Run.{NodeState, RunState, rows_of, routing_of, row_to, neighbour, given_of, waiting, node_at, openings_of, entry_of, start, after_step}
+use Rattle.chain_step.specs.Steps.{title_address, is_askable, is_step}
+use Rattle.row_law.specs.Links.{is_from}
+use Rattle.row_law.specs.References.{firsts_of}
+use Rattle.row_law.specs.Ways.{IsOnward, AllGoOn}
+use Rattle.row_law.proofs.Changing.{Change, stays, meets, gives, changed, at_node, passes, change_by, node_changed, kept_along}
+use Rattle.hop_law.proofs.Lists.{all_joined}
+use Rattle.row_law.proofs.Standing.{AreNodes, first_is, nodes_begin, nodes_kept}
+use Rattle.row_law.proofs.Linking.{sent_by, waits_from}
+use Rattle.row_law.proofs.Growing.{opened_by, new_firsts, firsts_met}
+
+-- Routing leads on.
+
+abbrev LeadsTo : ℕ → Answer → Type 0
+LeadsTo next (Local ssn) = Unit {0}
+LeadsTo next (Forward point rewrite hop) = point ≡ next
+LeadsTo next (Refused cause local) = Unit {0}
+
+entity_leads : (p : RoutingData) (hop : Option ℕ) (e : Entity) (next : ℕ) → e.point ≡ next → LeadsTo next (entity_answer p hop e)
+unfolding entity_answer
+entity_leads p hop e next same = by_available (availability_of p e) refl
+  where
+    by_available : (r : Result (Unit {0}) RouteCause) → availability_of p e ≡ r → LeadsTo next (entity_answer p hop e)
+    by_available (Ok available) is = rw is (either (LeadsTo next) (e.point == p.own) _ _ (λ _. tt) (λ _. same))
+    by_available (Err cause) is = rw is tt
+
+row_leads : (p : RoutingData) (hop : Option ℕ) (next : ℕ) (n : ℕ) → LeadsTo next (row_answer p hop (row_to n next))
+row_leads p None next n = entity_leads p None (row_to n next).first next refl
+row_leads p (Some hop) next n =
+    either (LeadsTo next) (nat_lt hop 2 || nat_lt MOST_HOPS hop) _ _ (λ _. tt) (λ _. entity_leads p (Some (hop - 1)) (row_to n next).first next refl)
+
+abbrev IsRowTo : ℕ → ℕ → Found → Type 0
+IsRowTo n next no_selector = Unit {0}
+IsRowTo n next no_prefix = Unit {0}
+IsRowTo n next (found row) = row ≡ row_to n next
+
+one_row : (n next : ℕ) (s : Selector) (digits : List ℕ) → IsRowTo n next (translation_of (row_to n next ∷ []) s digits)
+unfolding translation_of
+one_row n next s digits = either (IsRowTo n next) (has_selector s (row_to n next ∷ [])) _ _ (λ _. by_match (is_match s digits (row_to n next))) (λ _. tt)
+  where
+    by_match : (b : Bool) → IsRowTo n next (found_row (longer (if b then Some (row_to n next) else None) None))
+    by_match true = refl
+    by_match false = tt
+
+no_row : (n next : ℕ) (s : Selector) (digits : List ℕ) → IsRowTo n next (translation_of [] s digits)
+unfolding translation_of
+no_row n next s digits = tt
+
+found_leads : (p : RoutingData) (hop : Option ℕ) (n next : ℕ) (f : Found) → IsRowTo n next f → LeadsTo next (found_answer p hop f)
+found_leads p hop n next no_selector is = tt
+found_leads p hop n next no_prefix is = tt
+found_leads p hop n next (found row) is = subst (λ r. LeadsTo next (row_answer p hop r)) (sym is) (row_leads p hop next n)
+
+title_leads : (n i : ℕ) (title : TitleForm) (hop : Option ℕ) → LeadsTo (i + 1) (title_answer (routing_of n i) title hop)
+unfolding title_answer
+title_leads n i title hop = by_dialled (dialled_of title) refl
+  where
+    rows : (s : Selector) (digits : List ℕ) → IsRowTo n (i + 1) (translation_of (rows_of n i) s digits)
+    rows s digits = either (λ (rows : List Row). IsRowTo n (i + 1) (translation_of rows s digits)) (nat_lt i n) _ _ (λ _. one_row n (i + 1) s digits) (λ _. no_row n (i + 1) s digits)
+
+    by_dialled : (d : Option (Selector × List ℕ)) → dialled_of title ≡ d → LeadsTo (i + 1) (title_answer (routing_of n i) title hop)
+    by_dialled None is = rw is tt
+    by_dialled (Some d) is = rw is (found_leads (routing_of n i) hop n (i + 1) (translation_of (rows_of n i) d.0 d.1) (rows d.0 d.1))
+
+local_leads : (p : RoutingData) (ssn next : ℕ) → LeadsTo next (local_answer p ssn)
+unfolding local_answer
+local_leads p ssn next = either (LeadsTo next) (not (is_among ssn p.users)) _ _ (λ _. tt) (λ _. either (LeadsTo next) (is_among ssn p.out_of_service) _ _ (λ _. tt) (λ _. tt))
+
+network_leads : (n i : ℕ) (a : Form) (hop : Option ℕ) → LeadsTo (i + 1) (route_of (routing_of n i) a hop Network)
+unfolding route_of ssn_answer
+network_leads n i a hop = either (LeadsTo (i + 1)) a.on_ssn _ _ (λ _. local_leads (routing_of n i) _ (i + 1)) (λ _. title_leads n i a.title hop)
+
+user_leads : (n i : ℕ) (a : Form) → a.on_ssn ≡ false → LeadsTo (i + 1) (route_of (routing_of n i) a None FromUser)
+unfolding route_of
+user_leads n i a off =
+    either (LeadsTo (i + 1)) a.on_ssn _ _ (λ on. absurd (false≢true (sym off ∙ on))) (λ _. title_leads n i a.title None)
+
+-- The titles that users call.
+
+abbrev IsByTitle : List ℕ → Result Form AddressFault → Type 0
+IsByTitle octets r = IfOk r (λ a. a.on_ssn ≡ (slice_index octets 0 / 64 % 2 == 1))
+
+on_ssn_read : (octets : List ℕ) → IsByTitle octets (address_of octets)
+unfolding address_of
+on_ssn_read octets = either (IsByTitle octets) (length octets == 0) _ _ (λ _. tt) (λ _. by_point (point_at (slice_index octets 0 % 2 == 1) (drop 1 octets)))
+  where
+    by_title : (point ssn : Option ℕ) (r : Result TitleForm AddressFault) → IsByTitle octets (r >>= (λ title. Ok (record { point = point; ssn = ssn; title = title; on_ssn = slice_index octets 0 / 64 % 2 == 1 })))
+    by_title point ssn (Ok title) = refl
+    by_title point ssn (Err fault) = tt
+
+    by_ssn : (point : Option ℕ) (r : Result (Option ℕ × List ℕ) AddressFault)
+        → IsByTitle octets
+        (r >>= (λ ssn. title_at (slice_index octets 0 / 4 % 16) ssn.1
+        >>= (λ title. Ok (record { point = point; ssn = ssn.0; title = title; on_ssn = slice_index octets 0 / 64 % 2 == 1 }))))
+    by_ssn point (Ok ssn) = by_title point ssn.0 (title_at (slice_index octets 0 / 4 % 16) ssn.1)
+    by_ssn point (Err fault) = tt
+
+    by_point : (r : Result (Option ℕ × List ℕ) AddressFault)
+        → IsByTitle octets
+        (r >>= (λ point. ssn_at (slice_index octets 0 / 2 % 2 == 1) point.1
+        >>= (λ ssn. title_at (slice_index octets 0 / 4 % 16) ssn.1
+        >>= (λ title. Ok (record { point = point.0; ssn = ssn.0; title = title; on_ssn = slice_index octets 0 / 64 % 2 == 1 })))))
+    by_point (Ok point) = by_ssn point.0 (ssn_at (slice_index octets 0 / 2 % 2 == 1) point.1)
+    by_point (Err fault) = tt
+
+-- What an event wants is answered so.
+
+abbrev IsOfTitle : Wish → Type 0
+IsOfTitle (by_cr w) = Unit {0}
+IsOfTitle (by_user ssn tag w) = w.called ≡ title_address
+IsOfTitle no_wish = Unit {0}
+
+abbrev AnswerLeads : ℕ → Option Answer → Type 0
+AnswerLeads next answer = IfSome answer (LeadsTo next)
+
+wish_leads : (n i : ℕ) (wish : Wish) → IsOfTitle wish → AnswerLeads (i + 1) (answer_in (asked_at 0 (routing_of n i) (question_of wish)))
+unfolding question_of
+wish_leads n i (by_cr w) of = either (λ (q : Option Question). AnswerLeads (i + 1) (answer_in (asked_at 0 (routing_of n i) q))) (w.class == 2 || w.class == 3) _ _ (λ _. by_address (address_of w.called)) (λ _. tt)
+  where
+    by_address : (r : Result Form AddressFault) → AnswerLeads (i + 1) (answer_in (asked_at 0 (routing_of n i) (asked_for w.hop Network r)))
+    by_address (Ok a) = network_leads n i a w.hop
+    by_address (Err fault) = tt
+wish_leads n i (by_user ssn tag w) of = by_address (address_of w.called) (subst (λ octets. IsByTitle octets (address_of w.called)) of (on_ssn_read w.called))
+  where
+    by_address : (r : Result Form AddressFault) → IsByTitle title_address r → AnswerLeads (i + 1) (answer_in (asked_at 0 (routing_of n i) (asked_for None FromUser r)))
+    by_address (Ok a) is = user_leads n i a is
+    by_address (Err fault) is = tt
+wish_leads n i no_wish of = tt
+
+-- What is opened goes where the answer leads.
+
+abbrev OpensOn : ℕ → Opened → Type 0
+OpensOn next o = IfSome o.connection (λ c. IsOnward next c.that)
+
+through_on : (next : ℕ) (terms : Terms) (w : Wanted) (rewrite : Rewrite) (hop : Option ℕ) (refs : List ℕ) → OpensOn next (opened_through terms w next rewrite hop refs)
+through_on next terms w rewrite hop [] = tt
+through_on next terms w rewrite hop (mine ∷ []) = tt
+through_on next terms w rewrite hop (mine ∷ other ∷ refs) = refl
+
+by_cr_on : (next : ℕ) (terms : Terms) (w : Wanted) (answer : Answer) (refs : List ℕ) → LeadsTo next answer → OpensOn next (opened_by_cr terms w answer refs)
+unfolding opened_by_cr
+by_cr_on next terms w (Refused cause local) refs leads = tt
+by_cr_on next terms w (Local ssn) [] leads = tt
+by_cr_on next terms w (Local ssn) (mine ∷ refs) leads = tt
+by_cr_on next terms w (Forward point rewrite hop) refs leads =
+    either (OpensOn next) (fits w rewrite hop) _ _ (λ _. subst (λ p. OpensOn p (opened_through terms w point rewrite hop refs)) leads (through_on point terms w rewrite hop refs)) (λ _. tt)
+
+by_user_on : (next : ℕ) (terms : Terms) (ssn tag : ℕ) (w : Wanted) (answer : Answer) (refs : List ℕ) → LeadsTo next answer → OpensOn next (opened_by_user terms ssn tag w answer refs)
+unfolding opened_by_user
+by_user_on next terms ssn tag w (Refused cause local) refs leads = tt
+by_user_on next terms ssn tag w (Local other) refs leads = tt
+by_user_on next terms ssn tag w (Forward point rewrite hop) [] leads = tt
+by_user_on next terms ssn tag w (Forward point rewrite hop) (mine ∷ refs) leads = leads
+
+opened_on : (next : ℕ) (terms : Terms) (wish : Wish) (answer : Option Answer) (refs : List ℕ) → AnswerLeads next answer → OpensOn next (opened terms wish answer refs)
+unfolding opened
+opened_on next terms (by_cr w) (Some answer) refs leads = by_cr_on next terms w answer refs leads
+opened_on next terms (by_cr w) None refs leads = tt
+opened_on next terms (by_user ssn tag w) (Some answer) refs leads = by_user_on next terms ssn tag w answer refs leads
+opened_on next terms (by_user ssn tag w) None refs leads = tt
+opened_on next terms no_wish answer refs leads = tt
+
+new_on : (n i : ℕ) (e : Event) (node : NodeState) → node.routing ≡ routing_of n i → IsOfTitle (wish_of node.head.terms e) → AllByRecursion (λ (c : Connection). IsOnward (i + 1) c.that) (new_firsts (opened_by e node))
+new_on n i e node routing of =
+    by_connection (opened_by e node) (opened_on (i + 1) node.head.terms wish (answer_of (entry_of 0 e node)) (lowest_free (lane_of node.head 0) (openings_of node) (slots_needed wish (answer_of (entry_of 0 e node))))
+    (subst (λ p. AnswerLeads (i + 1) (answer_in (asked_at 0 p (question_of wish)))) (sym routing) (wish_leads n i wish of)))
+  where
+    wish : Wish
+    wish = wish_of node.head.terms e
+
+    by_connection : (connection : Option Connection) → IfSome connection (λ c. IsOnward (i + 1) c.that) → AllByRecursion (λ (c : Connection). IsOnward (i + 1) c.that) (new_firsts connection)
+    by_connection None on = tt
+    by_connection (Some c) on = (on, tt)
+
+-- Along the run.
+
+record GoOn (n : ℕ) (r : RunState) : Type 0 where
+  nodes : AreNodes n r
+  on : (i : ℕ) → 1 ≤ i → i ≤ n → AllByRecursion (λ (c : Connection). IsOnward (i + 1) c.that) (firsts_of (node_at i r.nodes))
+
+abbrev WantsTitle : NodeState → Change → Type 0
+WantsTitle node stays = Unit {0}
+WantsTitle node (meets number e) = IsOfTitle (wish_of node.head.terms e)
+WantsTitle node (gives forward) = Unit {0}
+
+changed_on : (n i : ℕ) (change : Change) (node : NodeState) → node.routing ≡ routing_of n i → WantsTitle node change → AllByRecursion (λ (c : Connection). IsOnward (i + 1) c.that) (firsts_of node)
+    → AllByRecursion (λ (c : Connection). IsOnward (i + 1) c.that) (firsts_of (changed change node))
+changed_on n i stays node routing wants on = on
+changed_on n i (meets number e) node routing wants on =
+    subst (AllByRecursion (λ (c : Connection). IsOnward (i + 1) c.that)) (sym (firsts_met number e node))
+    (all_joined (λ (c : Connection). IsOnward (i + 1) c.that) (firsts_of node) (new_firsts (opened_by e node)) on (new_on n i e node routing wants))
+changed_on n i (gives true) node routing wants on = on
+changed_on n i (gives false) node routing wants on = on
+
+request_wants : (terms : Terms) (q : Request) → IsTrue (is_askable q) → IsOfTitle (wish_of terms (Requested USER q))
+unfolding wish_of
+request_wants terms (request.Conn tag class credit called body) may =
+    either IsOfTitle (may_be_wanted class credit called body) _ _
+    (λ _. (bytes_decides called title_address).0 (and_parts (may_be_wanted class credit called body) (pointwise nat_eq called title_address) may).1) (λ _. tt)
+request_wants terms _ may = tt
+
+message_wants : (terms : Terms) (point sls : ℕ) (m : Message) → IsOfTitle (wish_of_message terms point sls m)
+message_wants terms point sls (Cr slr class called credit calling body hop importance) = tt
+message_wants terms point sls _ = tt
+
+arrived_wants : (terms : Terms) (e : Event) → ((q : Request) (ssn : ℕ) → e ≡ Requested ssn q → ⊥) → IsOfTitle (wish_of terms e)
+unfolding wish_of
+arrived_wants terms (Arrived point sls bytes) none = by_reading (reading_of bytes)
+  where
+    by_reading : (read : Result Message ReadFault) → IsOfTitle (wish_of_reading terms point sls read)
+    by_reading (Ok m) = message_wants terms point sls m
+    by_reading (Err fault) = tt
+arrived_wants terms (Requested ssn q) none = absurd (none q ssn refl)
+arrived_wants terms Ticked none = tt
+
+-- a message that waits is no request
+no_request : (own to k ssn : ℕ) (e : Event) (q : Request) (one : NodeState) → slice_get (sent_by own to one) k ≡ Some e → e ≡ Requested ssn q → ⊥
+no_request own to k ssn e q one first is =
+    false≢true (ap (is_from own) (sym is) ∙ (waits_from own to k e one first own ∙ eq-eqb own own refl))
+
+at_node_wants : (i j number : ℕ) (e : Event) (node : NodeState) → IsOfTitle (wish_of node.head.terms e) → WantsTitle node (at_node j (meets number e) i)
+at_node_wants i j number e node of = by_test (i == j)
+  where
+    by_test : (b : Bool) → WantsTitle node (if b then meets number e else stays)
+    by_test true = of
+    by_test false = tt
+
+step_wants : (n i : ℕ) (r : RunState) (step : Step) → IsTrue (is_step n step) → WantsTitle (node_at i r.nodes) (change_by r step i)
+step_wants n i r (Ask j request) is =
+    at_node_wants i j (r.taken + 1) (Requested USER request) (node_at i r.nodes)
+    (request_wants (node_at i r.nodes).head.terms request (and_parts (j == 1 || j == n) (is_askable request) is).1)
+step_wants n i r (Tick j) is = at_node_wants i j (r.taken + 1) Ticked (node_at i r.nodes) (arrived_wants (node_at i r.nodes).head.terms Ticked (λ q ssn e. absurd (cc)))
+step_wants n i r (Pass j g) is = by_message (waiting g (node_at j r.nodes)) refl
+  where
+    by_message : (message : Option Event) → waiting g (node_at j r.nodes) ≡ message → WantsTitle (node_at i r.nodes) (passes (r.taken + 1) j g message i)
+    by_message None none = tt
+    by_message (Some e) some = by_test (i == j)
+      where
+        by_test : (b : Bool) → WantsTitle (node_at i r.nodes) (if b then gives g else at_node (neighbour g j) (meets (r.taken + 1) e) i)
+        by_test true = tt
+        by_test false =
+            let own = (node_at j r.nodes).head.terms.own in
+            at_node_wants i (neighbour g j) (r.taken + 1) e (node_at i r.nodes)
+            (arrived_wants (node_at i r.nodes).head.terms e (λ q ssn e_is. no_request own (neighbour g own) (given_of g (node_at j r.nodes)) ssn e q (node_at j r.nodes) some e_is))
+
+on_kept : (n : ℕ) → 2 ≤ n → (r : RunState) (step : Step) → IsTrue (is_step n step) → GoOn n r → GoOn n (after_step r step)
+on_kept n two r step is go = record {
+  nodes = nodes_kept n two r step is go.nodes;
+  on = λ i least most.
+      subst (λ (node : NodeState). AllByRecursion (λ (c : Connection). IsOnward (i + 1) c.that) (firsts_of node))
+      (sym (node_changed n i r step two is least (subst (λ k. i ≤ k) (sym go.nodes.long) most)))
+      (changed_on n i (change_by r step i) (node_at i r.nodes) (go.nodes.each i least most).routing (step_wants n i r step is) (go.on i least most));
+}
+
+on_begins : (n : ℕ) → GoOn n (start n)
+on_begins n = record {
+  nodes = nodes_begin n;
+  on = λ i least most. subst (λ (node : NodeState). AllByRecursion (λ (c : Connection). IsOnward (i + 1) c.that) (firsts_of node)) (sym (first_is n i least most)) tt;
+}
+
+pub all_go_on : AllGoOn
+all_go_on n i steps are two least most = (kept_along n (GoOn n) (on_kept n two) (start n) steps are (on_begins n)).on i least most
