@@ -1,0 +1,202 @@
+-- Two legs, one after the other: the section of the far one was asked for by that of the near one, and no other end is a section to the other node.
+use Rattle.std.proofs.Common.{◌≡◌, inl, inr, ℕ, ◌≤◌, ◌<◌, ◌+◌, ◌-◌, true, false, List, [], ◌∷◌, map, Some, IfSome, Result, Ok, Err, IfOk, refl, sym, ◌∙◌, ap, subst, arith, eq-eqb}
+use Rattle.std.specs.List.{AllByRecursion}
+use Rattle.std.proofs.ByRecursion.{All-take}
+use Rattle.std.proofs.lemmas.List.{map-append}
+use Rattle.relay_base.specs.declared.limits.TheConstants.{REFERENCES}
+use Rattle.relay_base.specs.declared.words.Event.{Event}
+use Rattle.relay_base.specs.declared.words.Event.TheVariants.{Message as Arrived, Asked as Requested, Tick}
+use Rattle.relay_base.specs.declared.words.ReadFault.{ReadFault}
+use Rattle.relay_base.specs.declared.words.Request.{Request}
+use Rattle.relay_base.specs.declared.words.Request.TheVariants as request
+use Rattle.plant_core.specs.declared.entry.Entry.{Entry}
+use Rattle.plant_core.specs.declared.terms.Terms.{Terms}
+use Rattle.q713_codec.specs.Names.{Message}
+use Rattle.q713_codec.specs.declared.message.Message.TheVariants.{Cr}
+use Rattle.q713_codec.specs.Reading.{reading_of}
+use Rattle.section_model.specs.Ends.{End, wire, owner, Section, Connection}
+use Rattle.section_model.specs.Opening.{Wish, by_cr, by_user, no_wish, may_be_wanted, wish_of_message, wish_of_reading, wish_of_request, wish_of, opened}
+use Rattle.section_model.specs.Lane.{Opening, heard, connection_of, reference_of, answer_of}
+use Rattle.connection_law.proofs.Flow.Flowing.{either}
+use Rattle.connection_law.proofs.Reference.Following.{following_stays}
+use Rattle.hop_law.proofs.Lists.{each_filtered}
+use Rattle.chain_step.specs.declared.step.Step.{Step}
+use Rattle.chain_step.specs.Run.{NodeState, head_of, openings_of, node_at, run_of}
+use Rattle.row_law.specs.Nodes.{AreSteps}
+use Rattle.row_law.specs.Links.{is_from}
+use Rattle.row_law.specs.Naming.{StandsOn, AsksFrom, NamesMessage}
+use Rattle.row_law.specs.References.{Firsts, firsts_in, OfOne, IsTo, IsAskedBy, Asks, HasSource, IsCrFrom, IsSection, allowed}
+use Rattle.row_law.specs.Fair.{Has, AreJoined}
+use Rattle.row_law.specs.Ways.{IsOnward}
+use Rattle.row_law.proofs.Linking.{sent_by, Links}
+use Rattle.row_law.proofs.LaneNames.{AllStand}
+use Rattle.row_law.proofs.Referring.{ThisShape, HasShape, opened_shape, IsSentEvent, all_sent, is_referred}
+use Rattle.row_law.proofs.Parting.{stand_back}
+use Rattle.row_law.proofs.Ways.{all_go_on}
+use Rattle.trail_law.specs.Trails.{Leg, IsLeg}
+use Rattle.trail_law.specs.Hops.{AreNeighbours}
+use Rattle.trail_law.proofs.Opening.{StandsWhere}
+use Rattle.trail_law.proofs.Trailing.{references_at, is_legal}
+use Rattle.passage_law.proofs.Asking.{IsAskedBy as IsAskedFrom, asked_by}
+use Rattle.passage_law.proofs.Beginning.{all_parts, all_mapped, Opens, leg_opens, SentCr, sent_cr}
+use Rattle.passage_law.proofs.Openings.{leg_opening, leg_has}
+
+-- CR came from where the connection's section stands.
+
+CameAs : ℕ → Result Message ReadFault → Wish → Type 0
+CameAs point read (by_cr w) = (point ≡ w.point) × HasSource w.slr read
+CameAs point read _ = Unit {0}
+
+WishCame : Event → Wish → Type 0
+WishCame event (by_cr w) = IsCrFrom w.point w.slr event
+WishCame event _ = Unit {0}
+
+wish_came : (terms : Terms) (event : Event) → WishCame event (wish_of terms event)
+unfolding wish_of WishCame CameAs
+wish_came terms (Arrived point sls bytes) = by_wish (wish_of_reading terms point sls (reading_of bytes)) (by_reading (reading_of bytes))
+  where
+    by_message : (m : Message) → CameAs point (Ok m) (wish_of_message terms point sls m)
+    by_message (Cr slr class called credit calling body hop importance) = (refl, refl)
+    by_message _ = tt
+
+    by_reading : (read : Result Message ReadFault) → CameAs point read (wish_of_reading terms point sls read)
+    by_reading (Ok m) = by_message m
+    by_reading (Err fault) = tt
+
+    by_wish : (wish : Wish) → CameAs point (reading_of bytes) wish → WishCame (Arrived point sls bytes) wish
+    by_wish (by_cr w) came = came
+    by_wish (by_user ssn tag w) came = tt
+    by_wish no_wish came = tt
+wish_came terms (Requested ssn r) = by_request r
+  where
+    by_request : (r : Request) → WishCame (Requested ssn r) (wish_of_request terms ssn r)
+    by_request (request.Conn tag class credit called body) = either (WishCame (Requested ssn (request.Conn tag class credit called body))) (may_be_wanted class credit called body) _ _ (λ _. tt) (λ _. tt)
+    by_request _ = tt
+wish_came terms Tick = tt
+
+-- the section of this opening
+came_as : (wish : Wish) (event : Event) (x : Section) → ThisShape wish (wire x) → WishCame event wish → IsCrFrom x.head.point x.head.other event
+unfolding WishCame
+came_as (by_cr w) event x shape came = subst (λ slr. IsCrFrom x.head.point slr event) (sym shape.1) (subst (λ p. IsCrFrom p w.slr event) (sym shape.0) came)
+came_as (by_user ssn tag w) event x shape came = absurd shape
+came_as no_wish event x shape came = absurd shape
+
+pub leg_came : (i : ℕ) (node : NodeState) (leg : Leg) (x : Section) → IsLeg i node leg → leg.first.this ≡ wire x → IsCrFrom x.head.point x.head.other leg.by.event
+leg_came i node leg x at is = came_as wish leg.by.event x (subst (ThisShape wish) is (shape leg.first at.opens).0) (wish_came (head_of i).terms leg.by.event)
+  where
+    wish : Wish
+    wish = wish_of (head_of i).terms leg.by.event
+
+    shape : (c : Connection) → (opened (head_of i).terms wish (answer_of leg.by) (references_at i leg)).connection ≡ Some c → HasShape wish c
+    shape c opens = subst (λ connection. IfSome connection (HasShape wish)) opens (opened_shape (head_of i).terms wish (answer_of leg.by) (references_at i leg))
+
+-- What a node sends as CR has the reference of a section that asks.
+
+pub sent_asks : (f : Firsts) (own to point slr : ℕ) (event : Event) → IsSentEvent f own to event → IsCrFrom point slr event → Asks f own to slr
+sent_asks f own to point slr (Arrived from sls bytes) sent cr = by_reading (reading_of bytes) cr.1 sent.1.1
+  where
+    by_message : (m : Message) → HasSource slr (Ok m) → AsksFrom (allowed f own sent.1.0) to m → Asks f own to slr
+    by_message (Cr source class called credit calling body hop importance) same asks = subst (Asks f own to) same asks.2
+    by_message _ same asks = absurd same
+
+    by_reading : (read : Result Message ReadFault) → HasSource slr read → IfOk read (NamesMessage (allowed f own sent.1.0) to) → Asks f own to slr
+    by_reading (Ok m) same names = by_message m same names.1
+    by_reading (Err fault) same names = absurd same
+sent_asks f own to point slr (Requested ssn r) sent cr = absurd sent
+sent_asks f own to point slr Tick sent cr = absurd sent
+
+-- none asks the node before
+none_back : (next point slr : ℕ) (cs : List Connection) → (point ≡ next → ⊥) → AllByRecursion (λ (c : Connection). IsOnward next c.that) cs → OfOne (λ (c : Connection). IsTo point slr c.that) cs → ⊥
+none_back next point slr [] differ all asks = asks
+none_back next point slr (c ∷ cs) differ all (inl to) = by_end c.that all.0 to
+  where
+    by_end : (e : End) → IsOnward next e → IsTo point slr e → ⊥
+    by_end (wire x) onward to = differ (sym to.0 ∙ onward)
+    by_end (owner u) onward to = to
+none_back next point slr (c ∷ cs) differ all (inr more) = none_back next point slr cs differ all.1 more
+
+is_from_cr : (point slr : ℕ) (event : Event) → IsCrFrom point slr event → is_from point event ≡ true
+is_from_cr point slr (Arrived from sls bytes) cr = eq-eqb from point cr.0
+is_from_cr point slr (Requested ssn r) cr = absurd cr
+is_from_cr point slr Tick cr = absurd cr
+
+no_cr_back : (n i : ℕ) (steps : List Step) (leg : Leg) → AreSteps n steps → 2 ≤ n → 1 ≤ i → i < n → (let r = run_of n steps in
+    Links (i + 1) false (node_at (i + 1) r.nodes) (node_at i r.nodes) → IsLeg i (node_at i r.nodes) leg → (slr : ℕ) → IsCrFrom (i + 1) slr leg.by.event → ⊥)
+no_cr_back n i steps leg are two least most link at slr cr =
+    let r = run_of n steps in
+    let f = firsts_in r in
+    let j = i + 1 in
+    let to = i + 1 - 1 in
+    let near = node_at i r.nodes in
+    let far = node_at j r.nodes in
+    let P : Event → Type 0 = IsSentEvent f j to in
+    let names = (is_referred n steps two are).names j (omega arith) (omega (arith, most)) in
+    let came = subst (AllByRecursion P) (sym link.first) (All-take P far.back (sent_by j to far) (all_sent f j to far names.1)) in
+    let each = all_mapped (λ event. is_from j event ≡ true → P event) (λ (e : Entry). e.event) near.journal (each_filtered P (is_from j) (map (λ (e : Entry). e.event) near.journal) came) in
+    let here = (all_parts (λ (e : Entry). is_from j e.event ≡ true → P e.event) leg.before (leg.by ∷ leg.since)
+    (subst (AllByRecursion (λ (e : Entry). is_from j e.event ≡ true → P e.event)) at.journal each)).1.0 in
+    none_back (j + 1) to slr (f j) (λ same. omega (arith, same)) (all_go_on n j steps are two (omega arith) (omega (arith, most)))
+    (sent_asks f j to j slr leg.by.event (here (is_from_cr j slr leg.by.event cr)) cr)
+
+-- The other ends.
+
+pub onward_of : (n i : ℕ) (steps : List Step) (leg : Leg) → AreSteps n steps → 2 ≤ n → 1 ≤ i → i ≤ n → Has (node_at i (run_of n steps).nodes) (leg_opening leg)
+    → IsOnward (i + 1) leg.first.that
+onward_of n i steps leg are two least most has =
+    let P : Connection → Type 0 = λ c. IsOnward (i + 1) c.that in
+    let all = subst (AllByRecursion P) (ap (map (λ (o : Opening). o.first)) has.are ∙ map-append (λ (o : Opening). o.first) has.before (leg_opening leg ∷ has.after)) (all_go_on n i steps are two least most) in
+    (all_parts P (map (λ (o : Opening). o.first) has.before) (leg.first ∷ map (λ (o : Opening). o.first) has.after) all).1.0
+
+not_to : (point next : ℕ) (e : End) → (point ≡ next → ⊥) → IsOnward next e → (mine : ℕ) → IsTo point mine e → ⊥
+not_to point next (wire x) differ onward mine to = differ (sym to.0 ∙ onward)
+not_to point next (owner u) differ onward mine to = to
+
+-- References have 24 bits.
+pub reference_fits : (f : Firsts) (i : ℕ) (node : NodeState) (o : Opening) → AllStand (IsSection f i) node.head.terms.ticks (openings_of node) → Has node o
+    → IfSome (reference_of o.first.this) (λ mine. mine < REFERENCES) × IfSome (reference_of o.first.that) (λ mine. mine < REFERENCES)
+reference_fits f i node o all has =
+    let ticks = node.head.terms.ticks in
+    let both = (stand_back (IsSection f i) ticks has.before (o ∷ has.after) (subst (AllStand (IsSection f i) ticks) has.are all)).0 in
+    let stay = following_stays ticks o.first (heard ticks o.first o.since) in (
+      subst (λ reference. IfSome reference (λ mine. mine < REFERENCES)) stay.this.reference (by_end (connection_of ticks o).this both.0),
+      subst (λ reference. IfSome reference (λ mine. mine < REFERENCES)) stay.that.reference (by_end (connection_of ticks o).that both.1),
+    )
+  where
+    by_end : (e : End) → StandsOn (IsSection f i) e → IfSome (reference_of e) (λ mine. mine < REFERENCES)
+    by_end (wire x) stands = stands.1
+    by_end (owner u) stands = tt
+
+-- The two legs.
+pub legs_joined : (n i : ℕ) (steps : List Step) (one next : Leg) → AreSteps n steps → 2 ≤ n → 1 ≤ i → i < n → (let r = run_of n steps in
+    Links (i + 1) false (node_at (i + 1) r.nodes) (node_at i r.nodes) → AreNeighbours r i one next → AreJoined i (i + 1) one.first next.first)
+legs_joined n i steps one next are two least most link at =
+    let r = run_of n steps in
+    let f = firsts_in r in
+    let near = node_at i r.nodes in
+    let far = node_at (i + 1) r.nodes in
+    let referred = is_referred n steps two are in
+    let near_is = referred.row.nodes.each i least (omega (arith, most)) in
+    let far_is = referred.row.nodes.each (i + 1) (omega arith) (omega (arith, most)) in
+    let opens : Opens i one = leg_opens n i near one near_is at.here in
+    let far_opens : Opens (i + 1) next = leg_opens n (i + 1) far next far_is at.there in
+    let sent : SentCr i one next.by.event = sent_cr i one next one.first.that refl opens.asks at.follows in
+    let m = sent.section.head.mine in
+    let below : m < REFERENCES =
+    subst (λ e. IfSome (reference_of e) (λ mine. mine < REFERENCES)) sent.is
+    (reference_fits f i near (leg_opening one) (referred.names i least (omega (arith, most))).0 (leg_has i near one near_is.head at.here)).1 in
+    let asked : IsAskedFrom i m next.first.this = asked_by (head_of (i + 1)).terms i m next.by.event next.first.this below sent.cr far_opens.asked in
+    let stands = subst (λ e. StandsWhere e one.by.outs) sent.is (is_legal n i near one near_is at.here).begun.asking in record {
+      near_reference = m;
+      far_reference = asked.section.head.mine;
+      asks = subst (IsTo (i + 1) m) (sym sent.is) (stands i (i + 1) next.by.event at.follows, refl);
+      asked = subst (IsAskedBy i m asked.section.head.mine) (sym asked.is) (asked.point, asked.other, refl);
+      near_apart = λ mine to. came_back one.first.this refl mine to;
+      far_apart = not_to i (i + 1 + 1) next.first.that (λ same. omega (arith, same))
+          (onward_of n (i + 1) steps next are two (omega arith) (omega (arith, most)) (leg_has (i + 1) far next far_is.head at.there));
+    }
+  where
+    came_back : (e : End) → one.first.this ≡ e → (mine : ℕ) → IsTo (i + 1) mine e → ⊥
+    came_back (wire x) is mine to =
+        no_cr_back n i steps one are two least most link at.here x.head.other
+        (subst (λ p. IsCrFrom p x.head.other one.by.event) to.0 (leg_came i (node_at i (run_of n steps).nodes) one x at.here is))
+    came_back (owner u) is mine to = to

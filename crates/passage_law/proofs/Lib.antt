@@ -1,0 +1,14 @@
+pub mod Fair
+pub mod Queue
+pub mod Meeting
+pub mod Legs
+pub mod Moving
+pub mod Asking
+pub mod Waiting
+pub mod Beginning
+pub mod Crossing
+pub mod Passing
+pub mod Openings
+pub mod Joining
+pub mod Fairness
+pub mod Trails

@@ -1,0 +1,96 @@
+-- A leg is one of the openings of its node.
+use Rattle.std.proofs.Common.{◌≡◌, List, [], ◌∷◌, ◌++◌, map, ℕ, Some, refl, sym, ◌∙◌, ap, subst, append_assoc, append-nil}
+use Rattle.std.proofs.lemmas.List.{map-append}
+use Rattle.relay_base.specs.declared.words.Event.{Event}
+use Rattle.plant_core.specs.declared.entry.Entry.{Entry}
+use Rattle.plant_core.specs.declared.terms.LaneHead.{LaneHead}
+use Rattle.section_model.specs.Ends.{Connection}
+use Rattle.section_model.specs.Opening.{wish_of}
+use Rattle.section_model.specs.Journals.{lane_of}
+use Rattle.section_model.specs.Lane.{Lane, Opening, with_event, opening_of, opening_list, openings_after, answer_of}
+use Rattle.section_model.specs.Laws.{openings_from}
+use Rattle.chain_step.specs.Run.{NodeState, head_of}
+use Rattle.chain_step.proofs.Journals.{openings_more}
+use Rattle.row_law.specs.References.{firsts_of}
+use Rattle.row_law.specs.Fair.{Has}
+use Rattle.trail_law.specs.Trails.{Leg, lane_at, IsLeg}
+
+-- an opening among others
+record IsAmong (openings : List Opening) (o : Opening) : Type 0 where
+  before : List Opening
+  after : List Opening
+  are : openings ≡ before ++ o ∷ after
+
+openings_joined : (lane : Lane) (openings : List Opening) (one other : List Entry) → openings_from lane openings (one ++ other) ≡ openings_from lane (openings_from lane openings one) other
+openings_joined lane openings [] other = refl
+openings_joined lane openings (entry ∷ one) other = openings_joined lane (openings_after lane openings entry.event (answer_of entry)) one other
+
+still_among : (lane : Lane) (openings : List Opening) (o : Opening) (entry : Entry) → IsAmong openings o → IsAmong (openings_after lane openings entry.event (answer_of entry)) (with_event entry.event o)
+unfolding openings_after
+still_among lane openings o entry among =
+    let event = entry.event in
+    let new = opening_list (opening_of lane openings (wish_of lane.terms event) (answer_of entry)).connection in record {
+      before = map (with_event event) among.before;
+      after = map (with_event event) among.after ++ new;
+      are =
+          ap (λ os. map (with_event event) os ++ new) among.are
+          ∙ (ap (λ os. os ++ new) (map-append (with_event event) among.before (o ∷ among.after))
+          ∙ append_assoc (map (with_event event) among.before) (with_event event o ∷ map (with_event event) among.after) new);
+    }
+
+abbrev with_events : List Event → Opening → Opening
+with_events events o = record { first = o.first; since = o.since ++ events }
+
+among_since : (lane : Lane) (entries : List Entry) (openings : List Opening) (o : Opening) → IsAmong openings o → IsAmong (openings_from lane openings entries) (with_events (map (λ (e : Entry). e.event) entries) o)
+among_since lane [] openings o among = subst (λ since. IsAmong openings (record { first = o.first; since = since })) (sym (append-nil o.since)) among
+among_since lane (entry ∷ entries) openings o among =
+    let later = openings_after lane openings entry.event (answer_of entry) in
+    subst (λ since. IsAmong (openings_from lane later entries) (record { first = o.first; since = since })) (append_assoc o.since (entry.event ∷ []) (map (λ (e : Entry). e.event) entries))
+    (among_since lane entries later (with_event entry.event o) (still_among lane openings o entry among))
+
+new_among : (lane : Lane) (openings : List Opening) (by : Entry) (c : Connection) → (opening_of lane openings (wish_of lane.terms by.event) (answer_of by)).connection ≡ Some c
+    → IsAmong (openings_after lane openings by.event (answer_of by)) (record { first = c; since = [] })
+unfolding openings_after
+new_among lane openings by c opens = record {
+  before = map (with_event by.event) openings;
+  after = [];
+  are = ap (λ connection. map (with_event by.event) openings ++ opening_list connection) opens;
+}
+
+abbrev pub leg_opening : Leg → Opening
+leg_opening leg = record { first = leg.first; since = map (λ (e : Entry). e.event) leg.since }
+
+pub leg_has : (i : ℕ) (node : NodeState) (leg : Leg) → node.head ≡ head_of i → IsLeg i node leg → Has node (leg_opening leg)
+leg_has i node leg head at =
+    let lane = lane_at i in
+    let before = openings_from lane [] leg.before in
+    let new = new_among lane before leg.by leg.first at.opens in
+    let among = among_since lane leg.since (openings_after lane before leg.by.event (answer_of leg.by)) (record { first = leg.first; since = [] }) new in record {
+      before = among.before;
+      after = among.after;
+      are =
+          ap (λ (h : LaneHead). openings_from (lane_of h 0) [] node.journal) head
+          ∙ (ap (openings_from lane []) at.journal ∙ (openings_joined lane [] leg.before (leg.by ∷ leg.since) ∙ among.are));
+    }
+
+-- A leg that was just opened is the last of the connections.
+
+same_firsts : (event : Event) (openings : List Opening) → map (λ (o : Opening). o.first) (map (with_event event) openings) ≡ map (λ (o : Opening). o.first) openings
+same_firsts event [] = refl
+same_firsts event (o ∷ openings) = ap (λ more. o.first ∷ more) (same_firsts event openings)
+
+pub firsts_opened : (i : ℕ) (node later : NodeState) (leg : Leg) → node.head ≡ head_of i → later.head ≡ head_of i → IsLeg i later leg → leg.since ≡ [] → leg.before ≡ node.journal
+    → firsts_of later ≡ firsts_of node ++ leg.first ∷ []
+unfolding openings_after
+firsts_opened i node later leg head after at none before =
+    let lane = lane_at i in
+    let first : Opening → Connection = λ o. o.first in
+    let openings = openings_from lane [] leg.before in
+    ap (λ (h : LaneHead). map first (openings_from (lane_of h 0) [] later.journal)) after
+    ∙ (ap (λ journal. map first (openings_from lane [] journal)) (at.journal ∙ ap (λ since. leg.before ++ leg.by ∷ since) none)
+    ∙ (ap (map first) (openings_more lane [] leg.before leg.by)
+    ∙ (map-append first (map (with_event leg.by.event) openings) (opening_list (opening_of lane openings (wish_of lane.terms leg.by.event) (answer_of leg.by)).connection)
+    ∙ (ap (λ connection. map first (map (with_event leg.by.event) openings) ++ map first (opening_list connection)) at.opens
+    ∙ (ap (λ firsts. firsts ++ leg.first ∷ []) (same_firsts leg.by.event openings)
+    ∙ (ap (λ journal. map first (openings_from lane [] journal) ++ leg.first ∷ []) before
+    ∙ ap (λ (h : LaneHead). map first (openings_from (lane_of h 0) [] node.journal) ++ leg.first ∷ []) (sym head)))))))

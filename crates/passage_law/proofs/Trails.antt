@@ -1,0 +1,14 @@
+-- The laws of a trail, of those of one hop.
+use Rattle.trail_law.specs.TrailLaw.{TextsKeepOrder, HopsKeepOrder}
+use Rattle.trail_law.proofs.Ordering.{order_of_hops}
+use Rattle.passage_law.proofs.Fairness.{runs_are_fair}
+use Rattle.passage_law.proofs.Passing.{run_hop, run_rsr}
+
+both : TextsKeepOrder × HopsKeepOrder
+both = order_of_hops (run_hop runs_are_fair) (run_rsr runs_are_fair)
+
+pub texts_keep_order : TextsKeepOrder
+texts_keep_order = both.0
+
+pub hops_keep_order : HopsKeepOrder
+hops_keep_order = both.1

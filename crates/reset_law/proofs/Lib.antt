@@ -1,0 +1,5 @@
+pub mod Sending
+pub mod Answering
+pub mod Opening
+pub mod Typing
+pub mod Coming

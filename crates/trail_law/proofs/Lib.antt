@@ -1,0 +1,11 @@
+pub mod Opening
+pub mod Placing
+pub mod Trailing
+pub mod Resetting
+pub mod Ordering
+pub mod Keeping
+pub mod Users
+pub mod Giving
+pub mod Telling
+pub mod Joining
+pub mod Standing

@@ -1,0 +1,6 @@
+pub mod Trails
+pub mod Hops
+pub mod Resets
+pub mod Texts
+pub mod Users
+pub mod TrailLaw
