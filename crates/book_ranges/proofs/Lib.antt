@@ -1,0 +1,3 @@
+mod Counting
+mod Placing
+pub mod Books

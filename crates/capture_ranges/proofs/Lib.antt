@@ -1,0 +1,6 @@
+mod Words
+mod Requests
+mod Changes
+pub mod Heads
+mod Lines
+pub mod Captures

@@ -1,0 +1,2 @@
+pub mod OctetLaw
+pub mod Ranges

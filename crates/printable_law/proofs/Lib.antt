@@ -1,0 +1,3 @@
+mod Writing
+pub mod Printable
+pub mod Stamping

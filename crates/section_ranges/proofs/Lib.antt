@@ -1,0 +1,4 @@
+mod Sections
+mod Settling
+mod Steps
+pub mod Connections

@@ -1,0 +1,2 @@
+mod Frames
+pub mod Streams

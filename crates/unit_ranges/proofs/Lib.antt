@@ -1,0 +1,3 @@
+pub mod Units
+mod Sending
+pub mod Journals
