@@ -34,7 +34,7 @@ pub struct LaneForm<'a> {
 }
 
 /// Why a text isn't read: a line breaks its form, counted from 1, or memory ran out.
-#[derive(Clone, Copy, Debug, PartialEq, Eq)]
+#[derive(Drop)]
 pub enum FormRefused {
     Fault(u32),
     Memory,
