@@ -1,3 +1,3 @@
+pub mod AskLemmas
 pub mod LineForms
 pub mod StepLemmas
-pub mod TitleLemmas

@@ -1,10 +1,11 @@
 -- The number of nodes and the steps that an input states, or its first fault.
-use Rattle.std.specs.Prelude.{ℕ, ◌+◌, ◌&&◌, nat_lt, nat_le, codes, List, [], ◌∷◌, ◌++◌, length, if◌then◌else◌, Option, Some, None, IsTrue, Ok, Err}
+use Rattle.std.specs.Prelude.{ℕ, ◌+◌, ◌≤◌, ◌&&◌, nat_lt, nat_le, codes, List, [], ◌∷◌, ◌++◌, length, if◌then◌else◌, Option, Some, None, IsTrue, Ok, Err}
 use Rattle.std.specs.List.{AllByRecursion}
 use Rattle.std.specs.declared.result.Result.{Result}
 use Rattle.relay_base.specs.Giving.{◌>>=◌, GivesOrMemory}
 use Rattle.relay_base.specs.Decimal.{number_of}
 use Rattle.relay_base.specs.declared.limits.TheConstants.{MOST_BYTES}
+use Rattle.plant_core.specs.Terms.{IsWithin}
 use Rattle.node_head.specs.Lines.{lines}
 use Rattle.capture_form.specs.Text.{words, same}
 use Rattle.capture_form.specs.Capture.{is_skipped}
@@ -74,3 +75,11 @@ chain_of bytes = if nat_lt MOST_BYTES (length bytes) then Err (refused.TooLong B
 -- each is a step that so many nodes can take
 abbrev pub AreSteps : ℕ → List StepLine → Type 0
 AreSteps nodes steps = AllByRecursion (λ s. IsTrue (is_step nodes s.step)) steps
+
+-- and there are not too many
+abbrev pub AreInputSteps : ℕ → List StepLine → Type 0
+AreInputSteps nodes steps = AreSteps nodes steps × (length steps ≤ MOST_LINES)
+
+-- what is known of an input that was read
+abbrev pub IsInput : ChainInput → Type 0
+IsInput c = IsWithin LEAST_NODES c.nodes MOST_NODES × AreInputSteps c.nodes c.steps

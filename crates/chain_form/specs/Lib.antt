@@ -1,4 +1,3 @@
 pub mod Chain
 pub mod Inner
 pub mod Line
-pub mod Print

@@ -1,21 +1,19 @@
 //! The number of nodes, and their steps.
-ghost use Rattle.std.specs.Prelude.{◌≡◌, ◌≤◌, ◌<◌, ◌+◌, ◌^◌, [], length, IfOk, IsTrue, OnOk};
+ghost use Rattle.std.specs.Prelude.{◌≡◌, ◌<◌, ◌+◌, ◌^◌, [], length, IfOk, IsTrue, OnOk};
 ghost use Rattle.relay_base.specs.Decimal.{number_of};
-ghost use Rattle.capture_form.specs.Capture.{is_skipped};
+ghost use Rattle.capture_form.specs.Inner.Words.{texts};
 ghost use Rattle.capture_form.specs.Text.{words};
-ghost use Rattle.capture_form.specs.declared.steps.TheConstants.{MOST_LINES};
 ghost use Rattle.node_head.specs.Lines.{lines};
-ghost use Rattle.chain_form.specs.Inner.Words.{texts, Takes};
+ghost use Rattle.plant_core.specs.Terms.{IsWithin};
+ghost use Rattle.chain_form.specs.Inner.Reader.{Takes};
 ghost use Rattle.chain_form.specs.Line.{step_of};
 ghost use Rattle.chain_step.specs.Steps.{is_step};
-ghost use Rattle.chain_form.specs.Chain.{AreSteps, Reads, at_line, count_in, nodes_of, counted_step, with_line, with_lines, chain_in, chain_of};
+ghost use Rattle.chain_form.specs.Chain.{AreInputSteps, IsInput, Reads, at_line, count_in, nodes_of, counted_step, with_line, with_lines, chain_in, chain_of};
 
 use crate::fault::ChainFault;
 use crate::line::step_of;
-use crate::refused::StepRefused;
-use crate::words::split_words;
 use bstr::{ByteSlice, Lines};
-use capture_form::{Limit, LineFault, LineKind, MOST_LINES};
+use capture_form::{Limit, LineFault, LineKind, LineRefused, MOST_LINES, is_skipped, split_words};
 use chain_step::Step;
 use relay_base::limits::MOST_BYTES;
 use relay_base::{PlainList, number_of};
@@ -44,17 +42,10 @@ pub struct ChainInput {
     pub steps: StepList,
 }
 
-/// An empty line, or a comment.
-fn is_skipped(line: &[u8]) -> bool
-    ensures { result ≡ is_skipped line.now }
-{
-    line.is_empty() || line[0] == b'#'
-}
-
 /// 2 to 8 nodes.
 fn count_of(word: &[u8]) -> Result<u8, LineKind>
     ensures value { result ≡ count_in (number_of word.now) }
-    ensures nodes { IfOk result (λ n. (LEAST_NODES ≤ n) × (n ≤ MOST_NODES)) }
+    ensures nodes { IfOk result (λ n. IsWithin LEAST_NODES n MOST_NODES) }
 {
     match number_of(word) {
         Some(n) if u64::from(LEAST_NODES) <= n && n <= u64::from(MOST_NODES) => Ok(n as u8),
@@ -65,7 +56,7 @@ fn count_of(word: &[u8]) -> Result<u8, LineKind>
 /// `nodes <n>`
 fn nodes_of(words: &[&[u8]]) -> Result<u8, LineKind>
     ensures value { result ≡ nodes_of (texts words.now) }
-    ensures nodes { IfOk result (λ n. (LEAST_NODES ≤ n) × (n ≤ MOST_NODES)) }
+    ensures nodes { IfOk result (λ n. IsWithin LEAST_NODES n MOST_NODES) }
 {
     if words.len() == 2 && words[0] == b"nodes".as_slice() {
         count_of(words[1])
@@ -77,7 +68,7 @@ fn nodes_of(words: &[&[u8]]) -> Result<u8, LineKind>
 /// The number of nodes that the first line states.
 fn first_line(alloc: Global, line: &[u8]) -> Result<u8, ChainFault>
     ensures value { Reads result (at_line 1 (nodes_of (words line.now))) }
-    ensures nodes { IfOk result (λ n. (LEAST_NODES ≤ n) × (n ≤ MOST_NODES)) }
+    ensures nodes { IfOk result (λ n. IsWithin LEAST_NODES n MOST_NODES) }
 {
     let words = split_words(alloc, line)?;
     match nodes_of(words.as_slice()) {
@@ -94,13 +85,12 @@ fn step_at(alloc: Global, nodes: u8, number: u32, line: &[u8]) -> Result<Step, C
     let words = split_words(alloc, line)?;
     match step_of(alloc, nodes, words.as_slice()) {
         Ok(step) => Ok(step),
-        Err(StepRefused::Kind(kind)) => Err(ChainFault::Line(LineFault { line: number, kind })),
-        Err(StepRefused::Memory) => Err(ChainFault::Memory),
+        Err(LineRefused::Kind(kind)) => Err(ChainFault::Line(LineFault { line: number, kind })),
+        Err(LineRefused::Memory) => Err(ChainFault::Memory),
     }
 }
 
 /// Puts the step of a line that has one behind those above it.
-#[tactic(auto, using(crate::proofs::StepLemmas::steps_pushed))]
 fn take_step(
     alloc: Global,
     nodes: u8,
@@ -108,11 +98,9 @@ fn take_step(
     line: &[u8],
     steps: &mut StepList,
 ) -> Result<(), ChainFault>
-    requires steps { AreSteps nodes steps.old }
-    requires few { length steps.old ≤ MOST_LINES }
+    requires { AreInputSteps nodes steps.old }
     ensures value { Takes steps.new result (counted_step nodes number steps.old (words line.now)) }
-    ensures steps { OnOk result (AreSteps nodes steps.new) }
-    ensures few { OnOk result (length steps.new ≤ MOST_LINES) }
+    ensures steps { OnOk result (AreInputSteps nodes steps.new) }
 {
     if steps.len() >= MOST_LINES as usize {
         return Err(ChainFault::TooLong(Limit::Lines));
@@ -130,11 +118,9 @@ fn take_line(
     line: &[u8],
     steps: &mut StepList,
 ) -> Result<(), ChainFault>
-    requires steps { AreSteps nodes steps.old }
-    requires few { length steps.old ≤ MOST_LINES }
+    requires { AreInputSteps nodes steps.old }
     ensures value { Takes steps.new result (with_line nodes number steps.old line.now) }
-    ensures steps { OnOk result (AreSteps nodes steps.new) }
-    ensures few { OnOk result (length steps.new ≤ MOST_LINES) }
+    ensures steps { OnOk result (AreInputSteps nodes steps.new) }
 {
     if is_skipped(line) {
         Ok(())
@@ -148,8 +134,7 @@ fn take_line(
 fn take_lines(alloc: Global, nodes: u8, lines: &mut Lines<'_>) -> Result<StepList, ChainFault>
     requires { 2 + length lines.old < 2 ^ 32 }
     ensures value { Reads result (with_lines nodes 2 [] lines.old) }
-    ensures steps { IfOk result (λ steps. AreSteps nodes steps) }
-    ensures few { IfOk result (λ steps. length steps ≤ MOST_LINES) }
+    ensures steps { IfOk result (λ steps. AreInputSteps nodes steps) }
 {
     let mut steps = StepList::new(alloc);
     let mut number = 2u32;
@@ -164,9 +149,7 @@ fn take_lines(alloc: Global, nodes: u8, lines: &mut Lines<'_>) -> Result<StepLis
 fn chain_in(alloc: Global, lines: &mut Lines<'_>) -> Result<ChainInput, ChainFault>
     requires { 2 + length lines.old < 2 ^ 32 }
     ensures value { Reads result (chain_in lines.old) }
-    ensures nodes { IfOk result (λ c. (LEAST_NODES ≤ c.nodes) × (c.nodes ≤ MOST_NODES)) }
-    ensures steps { IfOk result (λ c. AreSteps c.nodes c.steps) }
-    ensures few { IfOk result (λ c. length c.steps ≤ MOST_LINES) }
+    ensures within { IfOk result IsInput }
 {
     let Some(first) = lines.next() else {
         return Err(ChainFault::Line(LineFault {
@@ -185,9 +168,7 @@ fn chain_in(alloc: Global, lines: &mut Lines<'_>) -> Result<ChainInput, ChainFau
 #[tactic(auto, unfolding(crate::specs::Chain::chain_of))]
 pub fn read_chain(alloc: Global, bytes: &[u8]) -> Result<ChainInput, ChainFault>
     ensures value { Reads result (chain_of bytes.now) }
-    ensures nodes { IfOk result (λ c. (LEAST_NODES ≤ c.nodes) × (c.nodes ≤ MOST_NODES)) }
-    ensures steps { IfOk result (λ c. AreSteps c.nodes c.steps) }
-    ensures few { IfOk result (λ c. length c.steps ≤ MOST_LINES) }
+    ensures within { IfOk result IsInput }
 {
     if bytes.len() > MOST_BYTES {
         return Err(ChainFault::TooLong(Limit::Bytes));

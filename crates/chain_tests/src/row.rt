@@ -63,6 +63,11 @@ impl Row {
         self.chain.fresh()
     }
 
+    /// How many messages wait between neighbours.
+    pub fn waiting(&self) -> usize {
+        self.chain.waiting()
+    }
+
     pub fn nodes(&self) -> u8
         ensures { result ≡ self.now }
     {

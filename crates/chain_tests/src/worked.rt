@@ -82,6 +82,28 @@ fn nothing_passes_where_nothing_waits(rt: HostRuntime) -> Result<(), Fail> {
     assert_came(&rt, alloc, "nodes 2\nd 1 f\n", [(2, 1, None)].as_slice())
 }
 
+/// How many messages wait after the steps of an input.
+fn waiting_after(alloc: Global, lines: &str) -> Result<usize, Fail> {
+    let (row, _came) = run_of(alloc, lines)?;
+    Ok(row.waiting())
+}
+
+#[test]
+fn messages_wait_in_both_directions(rt: HostRuntime) -> Result<(), Fail> {
+    let rows = [
+        ("nodes 3\nu 1 conn 5 2 0 -\n", 1),
+        ("nodes 3\nu 1 conn 5 2 0 -\nd 1 f\nd 2 f\n", 0),
+        (
+            "nodes 3\nu 1 conn 5 2 0 -\nd 1 f\nd 2 f\nu 3 accept 16 2 0 -\nu 1 conn 6 2 0 -\n",
+            2,
+        ),
+    ];
+    for (lines, wanted) in rows {
+        assert_same(&rt, &waiting_after(rt.alloc(), lines)?, &wanted);
+    }
+    Ok(())
+}
+
 /// The line fault of an input.
 fn fault_of(alloc: Global, lines: &str) -> Option<LineFault> {
     match read_chain(alloc, lines.as_bytes()) {

@@ -1,4 +1,1 @@
-mod Waiting
-mod Fresh
-mod NodeLemmas
 mod RunLemmas

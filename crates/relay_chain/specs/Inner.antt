@@ -1,6 +1,1 @@
 pub mod Chains
-pub mod Kept
-pub mod Mails
-pub mod Nodes
-pub mod Queues
-pub mod Taking

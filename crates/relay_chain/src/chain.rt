@@ -1,12 +1,13 @@
 //! A chain of nodes.
 ghost use Rattle.std.specs.Prelude.{◌≡◌, ◌≤◌, ◌<◌, ◌++◌, ◌∷◌, [], not, length, IsTrue, IfOk, OnOk, OnErr};
-ghost use Rattle.chain_step.specs.Run.{node_at, tells_by, is_idle};
+ghost use Rattle.chain_step.specs.Run.{node_at, waiting_count, tells_by, is_idle};
 ghost use Rattle.chain_step.specs.Steps.{is_step};
 ghost use Rattle.chain_step.specs.Fresh.{all_fresh};
 ghost use Rattle.chain_step.specs.Chains.{run_in};
+ghost use Rattle.trail_law.specs.TrailLaw.{HopsAlong, TextsAlong};
 
 use crate::nodes::Nodes;
-use crate::tells::TellList;
+use chain_node::TellList;
 use chain_step::Step;
 use mark::Mark;
 use plant_core::EntryList;
@@ -63,6 +64,10 @@ impl Chain {
 
     /// Takes a step, and puts what users are told at the end of a list. False exactly where the step is to pass a message and none waits: such a
     /// step is taken, and nothing else comes of it. After want of memory the chain and the list are as before.
+    ///
+    /// After each step, as long as no node gave a local reference twice, this is known of each connection between the two users whose nodes sent no
+    /// RSR in it (Q.714, 3.5): between every two neighbours what came in at the one begins what left at the other, and the rest waits (`hops`); and
+    /// what one user was told are the first of the texts that the other one gave (`texts`).
     pub fn step(&mut self, step: &Step, tells: &mut TellList) -> Result<bool, Memory>
         requires step { IsTrue (is_step self.old.nodes step.now) }
         requires few { length self.old.steps < 4_294_967_295 }
@@ -71,6 +76,8 @@ impl Chain {
         ensures given { IfOk result (λ given. given ≡ not (is_idle step.now (run_in self.old))) }
         ensures tells { OnOk result
             (tells.new ≡ tells.old ++ tells_by step.now (run_in self.old)) }
+        ensures hops { OnOk result (HopsAlong (run_in self.new)) }
+        ensures texts { OnOk result (TextsAlong (run_in self.new)) }
         ensures err { OnErr result ((self.new ≡ self.old) × (tells.new ≡ tells.old)) }
     {
         let steps = self.steps_with(step);
@@ -86,6 +93,13 @@ impl Chain {
         ensures { result.now ≡ (node_at node (run_in self.now).nodes).journal }
     {
         self.nodes.journal(node)
+    }
+
+    /// How many messages wait in all queues.
+    pub fn waiting(&self) -> usize
+        ensures { result ≡ waiting_count (run_in self.now) }
+    {
+        self.nodes.waiting_count()
     }
 
     /// Whether no node's journal gave a local reference twice.

@@ -2,13 +2,7 @@
 #![tactic(auto)]
 
 mod chain;
-mod mail;
-mod node;
 mod nodes;
-mod queue;
-mod references;
-mod start;
-mod tells;
 
 pub use chain::Chain;
-pub use tells::TellList;
+pub use chain_node::TellList;

@@ -1,13 +1,13 @@
 //! The nodes of a chain.
-ghost use Rattle.std.specs.Prelude.{◌≡◌, ◌≤◌, ◌<◌, ◌++◌, true, not, is_some, None, length, IsTrue, IfOk, OnOk, OnErr};
-ghost use Rattle.chain_step.specs.Run.{start, neighbour, waiting, node_at, with_node, after_giving, taking, passing, after_step, tells_at, tells_by_pass, tells_by, has_none, is_idle};
+ghost use Rattle.std.specs.Prelude.{◌≡◌, ◌≤◌, ◌<◌, ◌*◌, ◌++◌, true, not, is_some, None, length, sum_by, IsTrue, IfOk, OnOk, OnErr};
+ghost use Rattle.chain_step.specs.Run.{start, neighbour, waiting, queue_length, waiting_count, node_at, with_node, after_giving, taking, passing, after_step, tells_at, tells_by_pass, tells_by, has_none, is_idle};
 ghost use Rattle.relay_base.specs.declared.words.Event.TheVariants.{Asked};
 ghost use Rattle.chain_step.specs.declared.terms.TheConstants.{USER};
 ghost use Rattle.chain_step.specs.Steps.{is_step};
 ghost use Rattle.chain_step.specs.Fresh.{all_fresh};
+ghost use Rattle.chain_node.specs.declared.queue.TheConstants.{MOST_WAITING};
 
-use crate::node::Node;
-use crate::tells::TellList;
+use chain_node::{Node, TellList};
 use chain_step::{Step, USER};
 use plant_core::EntryList;
 use relay_base::{Event, Memory, Request, Ssn};
@@ -23,7 +23,7 @@ pub struct Nodes {
 
 impl Model for Nodes {
     ghost use Rattle.chain_step.specs.Run.{RunState};
-    ghost use Rattle.relay_chain.specs.Inner.Kept.{AreShort};
+    ghost use Rattle.relay_chain.specs.Inner.Chains.{AreShort};
 
     ghost Value = { RunState };
 
@@ -49,6 +49,19 @@ fn asked(request: &Request) -> Result<Event, Memory>
         ssn: Ssn::from(USER),
         request: request.clone()?,
     })
+}
+
+/// How many messages wait from these nodes to the next ones, or to the ones before.
+fn waiting_from(nodes: &[Node], forward: bool) -> usize
+    requires { length nodes.now ≤ 7 }
+    ensures value { result ≡ sum_by (queue_length forward) nodes.now }
+    ensures most { result ≤ 7 * MOST_WAITING }
+{
+    let mut count = 0;
+    for node in nodes {
+        count += node.queue_len(forward);
+    }
+    count
 }
 
 impl Nodes {
@@ -179,6 +192,16 @@ impl Nodes {
         ensures { result.now ≡ (node_at number self.now.nodes).journal }
     {
         self.nodes[usize::from(number - 1)].journal()
+    }
+
+    /// How many messages wait in all queues.
+    pub fn waiting_count(&self) -> usize
+        requires least { 1 ≤ length self.now.nodes }
+        requires most { length self.now.nodes ≤ 8 }
+        ensures { result ≡ waiting_count self.now }
+    {
+        let last = self.nodes.len() - 1;
+        waiting_from(&self.nodes[..last], true) + waiting_from(&self.nodes[1..], false)
     }
 
     /// Whether no node's journal gave a reference twice.

@@ -1,6 +1,5 @@
-use Rattle.std.proofs.Common.{◌≡◌, ◌+◌, ◌<◌, ◌≤◌, ◌^◌, [], length}
-use Rattle.capture_form.specs.declared.steps.TheConstants.{MOST_LINES}
-use Rattle.chain_form.specs.Chain.{AreSteps, with_lines}
+use Rattle.std.proofs.Common.{◌≡◌, ◌+◌, ◌<◌, ◌^◌, [], length}
+use Rattle.chain_form.specs.Chain.{AreInputSteps, with_lines}
 use Rattle.chain_form.proofs.reading.take_lines.Given as goal
 
 -- the steps so far, and what the lines to come make of them
@@ -8,8 +7,7 @@ abbrev pub invariant-loop-line : goal.invariant-loop-line
 invariant-loop-line l = record {
   taken : with_lines l.nodes l.number l.steps l.lines ≡ with_lines l.nodes 2 [] l.initial.lines;
   few : l.number + length l.lines < 2 ^ 32;
-  steps : AreSteps l.nodes l.steps;
-  most : length l.steps ≤ MOST_LINES;
+  steps : AreInputSteps l.nodes l.steps;
 }
 
 abbrev pub decreases-loop-line : goal.decreases-loop-line

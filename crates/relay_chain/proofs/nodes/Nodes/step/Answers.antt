@@ -1,5 +1,5 @@
 use Rattle.std.proofs.Common.{length}
-use Rattle.relay_chain.proofs.RunLemmas.{asker_exists, passer_exists, neighbour_exists, ticker_exists}
+use Rattle.chain_step.proofs.Running.{asker_exists, passer_exists, neighbour_exists, ticker_exists}
 use Rattle.relay_chain.proofs.nodes.Nodes.step.Goals as goal
 
 pub ask-requires-clause-least : goal.ask-requires-clause-least

@@ -1,0 +1,5 @@
+pub mod Coming
+pub mod Kept
+pub mod Mails
+pub mod Queues
+pub mod Taking

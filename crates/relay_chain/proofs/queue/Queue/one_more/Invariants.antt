@@ -1,5 +1,0 @@
-use Rattle.std.specs.Prelude.{◌+◌}
-use Rattle.relay_chain.proofs.queue.Queue.one_more.Given as goal
-
-abbrev pub ghost-after : goal.ghost-after
-ghost-after a = a.seen.now.given + 1

@@ -1,4 +1,0 @@
-use Rattle.relay_chain.proofs.queue.none_given.Given as goal
-
-abbrev pub ghost-after : goal.ghost-after
-ghost-after a = 0
