@@ -1,6 +1,8 @@
--- Why a run stops, and the status and the note of each reason.
+-- Why a command stops, and the status and the note of each reason.
 use Rattle.std.specs.Prelude.{◌≡◌, ℕ, codes, List, Some, Err}
 use Rattle.capture_form.specs.declared.fault.CaptureFault.TheVariants as refused
+use Rattle.journal_text.specs.declared.writing.WriteFault.{WriteFault}
+use Rattle.journal_text.specs.declared.writing.WriteFault.TheVariants as write_fault
 use Rattle.m3ua_capture.specs.Note.{stream_note}
 use Rattle.m3ua_capture.specs.Streams.{fault_in}
 use Rattle.m3ua_capture.specs.declared.fault.StreamFault.{StreamFault}
@@ -9,6 +11,11 @@ use Rattle.capture_input.specs.declared.input.Form.{Form}
 use Rattle.capture_input.specs.declared.stop.Stop.{Stop}
 use Rattle.capture_input.specs.declared.stop.Stop.TheVariants as stop
 use Rattle.capture_input.specs.Input.{Bytes, ReadAs, ReadTooMuch}
+
+-- the stop for an output that was not written to its end
+abbrev pub stop_of : WriteFault → Stop
+stop_of write_fault.Sink = stop.WriteFault
+stop_of write_fault.Memory = stop.Memory
 
 -- the stop for a refusal, unless memory ran out
 abbrev pub StopsFor : StreamFault → Stop → Type 0
@@ -20,7 +27,7 @@ StopsFor fault _ = ⊥
 abbrev pub NotedAs : Form → Bytes → StreamFault → List ℕ → Type 0
 NotedAs form read fault note = ReadAs form read (λ parts. parts ≡ Err fault) × (note ≡ stream_note fault)
 
--- why no capture was taken
+-- why no input was taken
 abbrev pub TakesNone : Form → Bytes → Stop → Type 0
 TakesNone form read stop.Usage = ⊥
 TakesNone form read (stop.Refused fault note) = NotedAs form read fault note

@@ -1,15 +1,14 @@
-//! The input of a run.
-ghost use Rattle.std.specs.Prelude.{◌≡◌, ◌≢◌, ◌≤◌, length, IfOk, IfErr, Ok, Err};
+//! The input of a command.
+ghost use Rattle.std.specs.Prelude.{◌≡◌, ◌≢◌, IfOk, IfErr, Ok, Err};
 ghost use Rattle.relay_base.specs.Causes.{Rose};
-ghost use Rattle.node_head.specs.Ranges.{IsHead};
-ghost use Rattle.capture_form.specs.Events.{all_events, IsStamped};
-ghost use Rattle.capture_form.specs.declared.steps.TheConstants.{MOST_LINES};
+ghost use Rattle.chain_form.specs.Chain.{chain_of};
 ghost use Rattle.m3ua_capture.specs.Streams.{Reads};
-ghost use Rattle.capture_input.specs.Input.{bytes, input_of, ReadAs};
+ghost use Rattle.capture_input.specs.Input.{bytes, chain_refusal, of_chain, input_of, IsReady, ReadAs};
 ghost use Rattle.capture_input.specs.Stops.{TakesNone};
 
 use crate::stop::{Stop, refusal};
-use capture_form::{Capture, read_capture};
+use capture_form::{Capture, CaptureFault, read_capture};
+use chain_form::{ChainFault, ChainInput, read_chain};
 use m3ua_capture::{StreamFault, read_stream};
 use relay_base::limits::MOST_BYTES;
 use relay_base::{ReadAllFault, Source, read_all};
@@ -22,28 +21,59 @@ pub enum Form {
     Lines,
     /// A head, and a stream of M3UA messages.
     Stream,
+    /// A number of nodes, and their steps.
+    Steps,
 }
 
-/// The capture that an input is.
-fn capture_in(alloc: Global, form: Form, bytes: &[u8]) -> Result<Capture, StreamFault>
-    ensures value { Reads result (input_of form bytes.now) }
-    ensures head { IfOk result (λ capture. IsHead capture.head) }
-    ensures stamped { IfOk result (λ capture. IsStamped capture.head capture.phases) }
-    ensures few { IfOk result (λ capture. length (all_events capture.phases) ≤ MOST_LINES) }
+/// What an input states.
+#[derive(Drop)]
+pub enum Input {
+    /// What a node hears.
+    Capture(Capture),
+    /// What nodes in a row do.
+    Chain(ChainInput),
+}
+
+/// The fault of steps as that of any input.
+fn chain_refusal(fault: ChainFault) -> StreamFault
+    ensures { result ≡ chain_refusal fault }
 {
-    match form {
-        Form::Lines => Ok(read_capture(alloc, bytes)?),
-        Form::Stream => read_stream(alloc, bytes),
+    let fault = match fault {
+        ChainFault::Line(fault) => CaptureFault::Line(fault),
+        ChainFault::TooLong(limit) => CaptureFault::TooLong(limit),
+        ChainFault::Memory => CaptureFault::Memory,
+    };
+    StreamFault::Capture(fault)
+}
+
+/// The steps that an input states.
+fn chain_in(alloc: Global, bytes: &[u8]) -> Result<Input, StreamFault>
+    ensures value { Reads result (of_chain (chain_of bytes.now)) }
+    ensures ready { IfOk result IsReady }
+{
+    match read_chain(alloc, bytes) {
+        Ok(chain) => Ok(Input::Chain(chain)),
+        Err(fault) => Err(chain_refusal(fault)),
     }
 }
 
-/// The capture that a source gives, which is read to its end.
-pub fn take_input<S: Source>(alloc: Global, form: Form, source: &mut S) -> Result<Capture, Stop>
+/// What an input states.
+fn input_in(alloc: Global, form: Form, bytes: &[u8]) -> Result<Input, StreamFault>
+    ensures value { Reads result (input_of form bytes.now) }
+    ensures ready { IfOk result IsReady }
+{
+    match form {
+        Form::Lines => Ok(Input::Capture(read_capture(alloc, bytes)?)),
+        Form::Stream => Ok(Input::Capture(read_stream(alloc, bytes)?)),
+        Form::Steps => chain_in(alloc, bytes),
+    }
+}
+
+/// What a source states, which is read to its end.
+pub fn take_input<S: Source>(alloc: Global, form: Form, source: &mut S) -> Result<Input, Stop>
     ensures ok { let read = bytes (S.left source.old) (S.left source.new) in
-        IfOk result (λ capture. ReadAs form read (λ parts. parts ≡ Ok capture)) }
-    ensures head { IfOk result (λ capture. IsHead capture.head) }
-    ensures stamped { IfOk result (λ capture. IsStamped capture.head capture.phases) }
-    ensures few { IfOk result (λ capture. length (all_events capture.phases) ≤ MOST_LINES) }
+        IfOk result (λ input. ReadAs form read (λ stated. stated ≡ Ok input)) }
+    ensures ready { IfOk result IsReady }
     ensures refused { let read = bytes (S.left source.old) (S.left source.new) in
         IfErr result (TakesNone form read) }
     ensures fault { result ≡ Err Stop.ReadFault → Rose (S.faults source.old) (S.faults source.new) }
@@ -55,8 +85,8 @@ pub fn take_input<S: Source>(alloc: Global, form: Form, source: &mut S) -> Resul
         Err(ReadAllFault::Fault) => return Err(Stop::ReadFault),
         Err(ReadAllFault::Memory) => return Err(Stop::Memory),
     };
-    match capture_in(alloc, form, bytes.as_slice()) {
-        Ok(capture) => Ok(capture),
+    match input_in(alloc, form, bytes.as_slice()) {
+        Ok(input) => Ok(input),
         Err(fault) => Err(refusal(alloc, fault)),
     }
 }

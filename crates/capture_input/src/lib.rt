@@ -1,8 +1,8 @@
-//! The capture that a source gives, or why a run stops.
+//! What a source states, or why a command stops.
 #![tactic(auto)]
 
 mod input;
 mod stop;
 
-pub use input::{Form, take_input};
+pub use input::{Form, Input, take_input};
 pub use stop::{Stop, note_of, status_of};

@@ -1,13 +1,13 @@
-//! Why a run stops, with the status and the note of each reason.
+//! Why a command stops, with the status and the note of each reason.
 ghost use Rattle.std.specs.Prelude.{◌≡◌};
 ghost use Rattle.capture_input.specs.Stops.{StopsFor, note_of, refusal_status, status_of};
 
-use capture_form::CaptureFault;
+use capture_form::{CaptureFault, WriteFault};
 use m3ua_capture::{StreamFault, stream_note};
 use relay_base::Octets;
 use std::alloc::Global;
 
-/// Why a run stops. A refusal of the input has its note.
+/// Why a command stops. A refusal of the input has its note.
 #[derive(Drop)]
 pub enum Stop {
     Usage,
@@ -16,6 +16,19 @@ pub enum Stop {
     ReadFault,
     WriteFault,
     Memory,
+}
+
+impl From<WriteFault> for Stop {
+    ghost use Rattle.capture_input.specs.Stops.{stop_of};
+
+    ghost from_gives = { λ fault stop. stop ≡ stop_of fault };
+
+    fn from(fault: WriteFault) -> Stop {
+        match fault {
+            WriteFault::Sink => Stop::WriteFault,
+            WriteFault::Memory => Stop::Memory,
+        }
+    }
 }
 
 /// The stop for an input that is refused.
@@ -58,7 +71,7 @@ fn refusal_status(fault: &StreamFault) -> u8
     }
 }
 
-/// The status that a run which stops ends with.
+/// The status that a command which stops ends with.
 pub fn status_of(stop: &Stop) -> u8
     ensures { result ≡ status_of stop.now }
 {

@@ -15,7 +15,7 @@ use Rattle.relay_base.specs.Decimal.{is_number, digits_value, number_of}
 use Rattle.command_words.specs.Commands.{same, within, number_in, generate_of, generate_in, stream_in, command_of_word, command_in}
 use Rattle.command_words.specs.Inner.Parser.{texts, generate_app, relay_app, command_found, command_of_rows, is_refused}
 use Rattle.command_words.specs.declared.command.Command.{Command}
-use Rattle.command_words.specs.declared.command.Command.TheVariants.{Run, Stream, Frames}
+use Rattle.command_words.specs.declared.command.Command.TheVariants.{Run, Stream, Frames, Chain}
 
 -- ---- what the parser makes of the words of a command
 
@@ -53,6 +53,14 @@ frames_taken = refl
 frames_found : given_in (subcommand_of relay_app (codes "m3ua" ∷ codes "frames" ∷ [])) ≡ Some (codes "m3ua", None, None, Some (codes "frames"))
 unfolding clap_on_literals
 frames_found = refl
+
+chain_taken : takes relay_app (codes "chain" ∷ []) ≡ true
+unfolding clap_on_literals
+chain_taken = refl
+
+chain_found : given_in (subcommand_of relay_app (codes "chain" ∷ [])) ≡ Some (codes "chain", None, None, None)
+unfolding clap_on_literals
+chain_found = refl
 
 -- ---- a word that no dash begins, after a subcommand
 
@@ -188,28 +196,26 @@ record Holds (ws : List Text) : Type 0 where
   free : is_refused ws ≡ false
   found : command_of_rows (subcommand_of relay_app ws) ws ≡ command_in ws
 
-run-holds : Holds (codes "run" ∷ [])
-run-holds = record {
-  taken = run_taken;
-  free = refl;
-  found = rows-given (subcommand_of relay_app (codes "run" ∷ [])) (codes "run" ∷ []) ∙ ap (λ g. of_given g (codes "run" ∷ [])) run_found;
+-- these words, of which the parser finds this
+holds-by : (ws : List Text) (g : Given) → takes relay_app ws ≡ true → is_refused ws ≡ false → given_in (subcommand_of relay_app ws) ≡ Some g → of_given (Some g) ws ≡ command_in ws
+    → Holds ws
+holds-by ws g taken free found command = record {
+  taken = taken;
+  free = free;
+  found = rows-given (subcommand_of relay_app ws) ws ∙ ap (λ g. of_given g ws) found ∙ command;
 }
+
+run-holds : Holds (codes "run" ∷ [])
+run-holds = holds-by (codes "run" ∷ []) (codes "run", None, None, None) run_taken refl run_found refl
 
 stream-holds : Holds (codes "m3ua" ∷ [])
-stream-holds = record {
-  taken = stream_taken;
-  free = refl;
-  found = rows-given (subcommand_of relay_app (codes "m3ua" ∷ [])) (codes "m3ua" ∷ []) ∙ ap (λ g. of_given g (codes "m3ua" ∷ [])) stream_found;
-}
+stream-holds = holds-by (codes "m3ua" ∷ []) (codes "m3ua", None, None, None) stream_taken refl stream_found refl
 
 frames-holds : Holds (codes "m3ua" ∷ codes "frames" ∷ [])
-frames-holds = record {
-  taken = frames_taken;
-  free = refl;
-  found =
-      rows-given (subcommand_of relay_app (codes "m3ua" ∷ codes "frames" ∷ [])) (codes "m3ua" ∷ codes "frames" ∷ [])
-      ∙ ap (λ g. of_given g (codes "m3ua" ∷ codes "frames" ∷ [])) frames_found;
-}
+frames-holds = holds-by (codes "m3ua" ∷ codes "frames" ∷ []) (codes "m3ua", None, None, Some (codes "frames")) frames_taken refl frames_found refl
+
+chain-holds : Holds (codes "chain" ∷ [])
+chain-holds = holds-by (codes "chain" ∷ []) (codes "chain", None, None, None) chain_taken refl chain_found refl
 
 gen-found : (a b : ℕ) (xs ys : List ℕ) → (a == 45) ≡ false → (b == 45) ≡ false
     → command_of_rows (subcommand_of relay_app (gen_words a xs b ys)) (gen_words a xs b ys) ≡ generate_in (a ∷ xs) (b ∷ ys)
@@ -238,12 +244,14 @@ of-text : (P : Text → Type 0) (word text : Text) → same word text ≡ true �
 of-text P word text e p = subst P (sym (same_text word text (sym e))) p
 
 word-holds : (word : Text) (c : Command) → command_of_word word ≡ Some c → Holds (word ∷ [])
-word-holds word c h = by (same word (codes "run")) (same word (codes "m3ua")) refl refl h
+word-holds word c h = by (same word (codes "run")) (same word (codes "m3ua")) (same word (codes "chain")) refl refl refl h
   where
-    by : (run stream : Bool) → same word (codes "run") ≡ run → same word (codes "m3ua") ≡ stream → cond run (Some Run) (cond stream (Some Stream) None) ≡ Some c → Holds (word ∷ [])
-    by true stream e f g = of-text (λ w. Holds (w ∷ [])) word (codes "run") e run-holds
-    by false true e f g = of-text (λ w. Holds (w ∷ [])) word (codes "m3ua") f stream-holds
-    by false false e f g = cc
+    by : (run stream chain : Bool) → same word (codes "run") ≡ run → same word (codes "m3ua") ≡ stream → same word (codes "chain") ≡ chain
+        → cond run (Some Run) (cond stream (Some Stream) (cond chain (Some Chain) None)) ≡ Some c → Holds (word ∷ [])
+    by true stream chain e f i g = of-text (λ w. Holds (w ∷ [])) word (codes "run") e run-holds
+    by false true chain e f i g = of-text (λ w. Holds (w ∷ [])) word (codes "m3ua") f stream-holds
+    by false false true e f i g = of-text (λ w. Holds (w ∷ [])) word (codes "chain") i chain-holds
+    by false false false e f i g = cc
 
 words-hold : (word output : Text) (c : Command) → cond (same word (codes "m3ua")) (stream_in output) None ≡ Some c → Holds (word ∷ output ∷ [])
 words-hold word output c h =

@@ -11,4 +11,6 @@ pub enum Command {
     Stream,
     /// Run the M3UA messages that are read, and write those that the node sends.
     Frames,
+    /// Take the steps of nodes in a row that are read.
+    Chain,
 }

@@ -2,7 +2,7 @@
 ghost use Rattle.std.specs.Prelude.{◌≡◌, false, IfOk};
 ghost use Rattle.clap.specs.Words.{app_of, rule_of};
 ghost use Rattle.clap.specs.declared.builder.Command.TheViews.{out-Command};
-ghost use Rattle.command_words.specs.Inner.Parser.{required_rule, generate_app, stream_app, top_app, relay_app};
+ghost use Rattle.command_words.specs.Inner.Parser.{required_rule, generate_app, stream_app, top_app, plain_app, relay_app};
 
 use clap::{Arg, Command};
 use std::alloc::{AllocError, Global};
@@ -42,12 +42,20 @@ fn top_parser<'a>(alloc: Global) -> Command<'a>
         .subcommand_required(true)
 }
 
-/// The parser of `run`, `gen` and `m3ua`.
-pub fn parser<'a>(alloc: Global) -> Result<Command<'a>, AllocError>
-    ensures { IfOk result (λ r. app_of r ≡ relay_app) }
+/// The parser of the subcommands without arguments, `run` and `chain`.
+fn plain_parser<'a>(alloc: Global) -> Result<Command<'a>, AllocError>
+    ensures { IfOk result (λ r. app_of r ≡ plain_app) }
 {
     top_parser(alloc)
         .subcommand(Command::new(alloc, "run"))?
+        .subcommand(Command::new(alloc, "chain"))
+}
+
+/// The parser of `run`, `chain`, `gen` and `m3ua`.
+pub fn parser<'a>(alloc: Global) -> Result<Command<'a>, AllocError>
+    ensures { IfOk result (λ r. app_of r ≡ relay_app) }
+{
+    plain_parser(alloc)?
         .subcommand(generate_parser(alloc)?)?
         .subcommand(stream_parser(alloc)?)
 }

@@ -71,6 +71,8 @@ fn command_of_word(word: &str) -> Option<Command>
         Some(Command::Run)
     } else if word == "m3ua" {
         Some(Command::Stream)
+    } else if word == "chain" {
+        Some(Command::Chain)
     } else {
         None
     }
@@ -149,7 +151,7 @@ fn parsed(alloc: Global, words: &[String]) -> Result<Option<Command>, Memory>
 }
 
 /// The command that the words state. There is one exactly where they are `run`; or `gen`, a number, 0 to 4,294,967,295, and
-/// lines, 1 to 199,000, each in 1 to 10 decimal digits; or `m3ua`; or `m3ua frames`.
+/// lines, 1 to 199,000, each in 1 to 10 decimal digits; or `m3ua`; or `m3ua frames`; or `chain`.
 ///
 /// Words of which one begins with a dash, or the first is `help`, are refused before they are parsed.
 pub fn command_of(alloc: Global, words: &[String]) -> Result<Option<Command>, Memory>

@@ -1,24 +1,27 @@
 //! What each command does, up to the reason why it stops.
-ghost use Rattle.std.specs.Prelude.{◌≡◌, ◌≢◌, ◌<◌, ◌≤◌, ◌^◌, ◌⊎◌, ℕ, IfOk, IfErr, OnOk, OnErr, Ok, Err, Some, None, map, string_bytes, length};
+ghost use Rattle.std.specs.Prelude.{◌≡◌, ◌≢◌, ◌≤◌, ◌⊎◌, ℕ, IfOk, IfErr, OnOk, OnErr, Ok, Err, Some, None, map, string_bytes};
 ghost use Rattle.relay_base.specs.Causes.{Rose};
 ghost use Rattle.relay_base.specs.declared.limits.TheConstants.{MOST_GENERATED_LINES};
 ghost use Rattle.journal_text.specs.Book.{IsEmpty};
-ghost use Rattle.node_head.specs.Ranges.{IsHead};
-ghost use Rattle.capture_form.specs.Events.{all_events, IsStamped};
 ghost use Rattle.right_book.specs.Right.{IsRight};
+ghost use Rattle.chain_text.specs.Print.{run_text};
 ghost use Rattle.command_words.specs.Commands.{command_in};
 ghost use Rattle.command_words.specs.declared.command.Command.TheVariants.{Generate};
 ghost use Rattle.capture_generator.specs.Generator.{generated_capture};
-ghost use Rattle.capture_input.specs.Input.{bytes};
+ghost use Rattle.chain_form.specs.Chain.{IsInput};
+ghost use Rattle.capture_input.specs.Input.{bytes, IsRunnable, IsReady};
+ghost use Rattle.capture_input.specs.declared.input.Input.TheVariants as input;
 ghost use Rattle.book_output.specs.Report.{report_text};
 ghost use Rattle.relay_call.specs.Outcome.{GivesAs, Wrote, WrotePart, Filled, FilledBy, IsDone};
 ghost use Rattle.relay_call.specs.Inner.Reports.{report_of};
-ghost use Rattle.relay_call.specs.Inner.Stops.{LacksCapture, StoppedLate, Stopped};
+ghost use Rattle.relay_call.specs.Inner.Stops.{LacksInput, StoppedLate, Stopped};
 
 use book_output::{Report, write_report};
-use capture_form::{Book, Capture, WriteFault};
+use capture_form::{Book, Capture};
 use capture_generator::generated;
-use capture_input::{Form, Stop, take_input};
+use capture_input::{Form, Input, Stop, take_input};
+use chain_form::ChainInput;
+use chain_text::run_chain;
 use command_words::{Command, command_of};
 use node_engine::run_capture;
 use node_head::Head;
@@ -28,30 +31,26 @@ use std::sync::Wait;
 use std::thread::Threads;
 
 /// The capture that is made of a number and a count of lines.
-fn made(alloc: Global, number: u32, lines: u32) -> Result<Capture, Stop>
+fn made(alloc: Global, number: u32, lines: u32) -> Result<Input, Stop>
     requires { lines ≤ MOST_GENERATED_LINES }
-    ensures value { IfOk result (λ capture. capture ≡ generated_capture number lines) }
-    ensures head { IfOk result (λ capture. IsHead capture.head) }
-    ensures stamped { IfOk result (λ capture. IsStamped capture.head capture.phases) }
-    ensures few { IfOk result (λ capture. length (all_events capture.phases) < 2 ^ 32) }
+    ensures value { IfOk result (λ given. given ≡ input.Capture (generated_capture number lines)) }
+    ensures ready { IfOk result IsReady }
     ensures stopped { IfErr result (λ stop. stop ≡ Stop.Memory) }
 {
     match generated(alloc, number, lines) {
-        Ok(capture) => Ok(capture),
+        Ok(capture) => Ok(Input::Capture(capture)),
         Err(_) => Err(Stop::Memory),
     }
 }
 
-/// The capture of a command: `gen` makes it, and the others read it.
-fn take_capture<S: Source>(alloc: Global, command: Command, source: &mut S) -> Result<Capture, Stop>
+/// The input of a command: `gen` makes it, and the others read it.
+fn input_of<S: Source>(alloc: Global, command: Command, source: &mut S) -> Result<Input, Stop>
     requires { (number lines : ℕ) → command ≡ Generate number lines → lines ≤ MOST_GENERATED_LINES }
     ensures ok { let read = bytes (S.left source.old) (S.left source.new) in
-        IfOk result (λ capture. GivesAs command read (λ parts. parts ≡ Ok capture)) }
-    ensures head { IfOk result (λ capture. IsHead capture.head) }
-    ensures stamped { IfOk result (λ capture. IsStamped capture.head capture.phases) }
-    ensures few { IfOk result (λ capture. length (all_events capture.phases) < 2 ^ 32) }
+        IfOk result (λ given. GivesAs command read (λ parts. parts ≡ Ok given)) }
+    ensures ready { IfOk result IsReady }
     ensures refused { let read = bytes (S.left source.old) (S.left source.new) in
-        IfErr result (LacksCapture (Some command) read) }
+        IfErr result (LacksInput (Some command) read) }
     ensures made { (number lines : ℕ) → command ≡ Generate number lines
         → S.left source.new ≡ S.left source.old }
     ensures fault { result ≡ Err Stop.ReadFault → Rose (S.faults source.old) (S.faults source.new) }
@@ -62,6 +61,7 @@ fn take_capture<S: Source>(alloc: Global, command: Command, source: &mut S) -> R
         Command::Generate { number, lines } => made(alloc, number, lines),
         Command::Stream => take_input(alloc, Form::Stream, source),
         Command::Frames => take_input(alloc, Form::Stream, source),
+        Command::Chain => take_input(alloc, Form::Steps, source),
     }
 }
 
@@ -73,9 +73,7 @@ fn fill<R: Threads + Wait + Sync, P: Pace>(
     pace: &P,
     book: &mut Book,
 ) -> Result<(), Stop>
-    requires head { IsHead capture.now.head }
-    requires stamped { IsStamped capture.now.head capture.now.phases }
-    requires few { length (all_events capture.now.phases) < 2 ^ 32 }
+    requires ready { IsRunnable capture.now }
     requires empty { IsEmpty book.old }
     ensures ok { OnOk result (IsRight capture.now.head capture.now.phases book.new) }
     ensures stopped { IfErr result (λ stop. (stop ≡ Stop.Memory) × IsEmpty book.new) }
@@ -91,10 +89,9 @@ fn report_of(command: Command, head: &Head) -> Report
     ensures { result ≡ report_of command head.now }
 {
     match command {
-        Command::Run => Report::Print,
         Command::Generate { lines, .. } => Report::Counts { lines },
-        Command::Stream => Report::Print,
         Command::Frames => Report::Frames { own: head.point },
+        Command::Run | Command::Stream | Command::Chain => Report::Print,
     }
 }
 
@@ -108,11 +105,8 @@ fn write<K: Sink>(alloc: Global, report: Report, book: &Book, out: &mut K) -> Re
     ensures fault { result ≡ Err Stop.WriteFault → Rose (K.faults out.old) (K.faults out.new) }
     ensures kept { result ≢ Err Stop.WriteFault → K.faults out.new ≡ K.faults out.old }
 {
-    match write_report(alloc, report, book, out) {
-        Ok(()) => Ok(()),
-        Err(WriteFault::Sink) => Err(Stop::WriteFault),
-        Err(WriteFault::Memory) => Err(Stop::Memory),
-    }
+    write_report(alloc, report, book, out)?;
+    Ok(())
 }
 
 /// Runs a capture into the book, and writes what a command writes of it.
@@ -125,14 +119,12 @@ fn serve_capture<R: Threads + Wait + Sync, K: Sink, P: Pace>(
     pace: &P,
     book: &mut Book,
 ) -> Result<(), Stop>
-    requires head { IsHead capture.head }
-    requires stamped { IsStamped capture.head capture.phases }
-    requires few { length (all_events capture.phases) < 2 ^ 32 }
+    requires ready { IsRunnable capture }
     requires empty { IsEmpty book.old }
     ensures ok { let written = bytes (K.held out.old) (K.held out.new) in
-        OnOk result (Filled (Wrote written) command capture book.new) }
+        OnOk result (Filled (Wrote written) command (input.Capture capture) book.new) }
     ensures stopped { let written = bytes (K.held out.old) (K.held out.new) in
-        IfErr result (StoppedLate command written capture book.new) }
+        IfErr result (StoppedLate command written (input.Capture capture) book.new) }
     ensures fault { result ≡ Err Stop.WriteFault → Rose (K.faults out.old) (K.faults out.new) }
     ensures kept { result ≢ Err Stop.WriteFault → K.faults out.new ≡ K.faults out.old }
 {
@@ -141,7 +133,47 @@ fn serve_capture<R: Threads + Wait + Sync, K: Sink, P: Pace>(
     write(alloc, report, book, out)
 }
 
-/// Does a command: runs its capture, and writes what it writes of the book.
+/// Takes the steps of nodes in a row, and writes what their users are told.
+fn serve_chain<K: Sink>(alloc: Global, steps: &ChainInput, out: &mut K) -> Result<(), Stop>
+    requires { IsInput steps.now }
+    ensures ok { let written = bytes (K.held out.old) (K.held out.new) in
+        OnOk result (Wrote written (run_text steps.now)) }
+    ensures err { let written = bytes (K.held out.old) (K.held out.new) in
+        OnErr result (WrotePart written (run_text steps.now)) }
+    ensures why { IfErr result (λ stop. (stop ≡ Stop.WriteFault) ⊎ (stop ≡ Stop.Memory)) }
+    ensures fault { result ≡ Err Stop.WriteFault → Rose (K.faults out.old) (K.faults out.new) }
+    ensures kept { result ≢ Err Stop.WriteFault → K.faults out.new ≡ K.faults out.old }
+{
+    run_chain(alloc, steps, out)?;
+    Ok(())
+}
+
+/// Does a command with its input, and writes what it writes.
+fn serve_input<R: Threads + Wait + Sync, K: Sink, P: Pace>(
+    rt: &R,
+    alloc: Global,
+    command: Command,
+    given: Input,
+    out: &mut K,
+    pace: &P,
+    book: &mut Book,
+) -> Result<(), Stop>
+    requires ready { IsReady given }
+    requires empty { IsEmpty book.old }
+    ensures ok { let written = bytes (K.held out.old) (K.held out.new) in
+        OnOk result (Filled (Wrote written) command given book.new) }
+    ensures stopped { let written = bytes (K.held out.old) (K.held out.new) in
+        IfErr result (StoppedLate command written given book.new) }
+    ensures fault { result ≡ Err Stop.WriteFault → Rose (K.faults out.old) (K.faults out.new) }
+    ensures kept { result ≢ Err Stop.WriteFault → K.faults out.new ≡ K.faults out.old }
+{
+    match given {
+        Input::Capture(capture) => serve_capture(rt, alloc, command, capture, out, pace, book),
+        Input::Chain(steps) => serve_chain(alloc, &steps, out),
+    }
+}
+
+/// Does a command: takes its input, and does with it what the command is for.
 fn perform<R: Threads + Wait + Sync, S: Source, K: Sink, P: Pace>(
     rt: &R,
     alloc: Global,
@@ -170,8 +202,8 @@ fn perform<R: Threads + Wait + Sync, S: Source, K: Sink, P: Pace>(
         → S.faults source.new ≡ S.faults source.old }
     ensures out_kept { result ≢ Err Stop.WriteFault → K.faults out.new ≡ K.faults out.old }
 {
-    let capture = take_capture(alloc, command, source)?;
-    serve_capture(rt, alloc, command, capture, out, pace, book)
+    let given = input_of(alloc, command, source)?;
+    serve_input(rt, alloc, command, given, out, pace, book)
 }
 
 /// Does what the words ask.

@@ -17,6 +17,34 @@ const EMPTY: &str = "= control\n= conn 0\n= data 0\n";
 /// A tick stands in every lane.
 const TICK: &str = "= control\n1.0.3\n= conn 0\n1.0.3\n= data 0\n1.0.3\n";
 
+/// A connection of three nodes in a row, and a text along it.
+const ROW: &str =
+    "nodes 3\nu 1 conn 5 2 0 -\nd 1 f\nd 2 f\nu 3 accept 16 2 0 -\nd 3 b\nd 2 b\nu 1 send 16 616263\nd 1 f\nd 2 f\n";
+
+const ROW_PRINTED: &str =
+    "2 1 ref 5 16\n4 3 conn 16 2 0 5208001204947121 4208 -\n7 1 confirm 16 2 0 - -\n10 3 text 16 616263\nwaiting 0\n";
+
+#[test]
+fn nodes_in_a_row(rt: HostRuntime) -> Result<(), Fail> {
+    let alloc = rt.alloc();
+    for (text, status, out, notes) in [
+        (ROW, 0, ROW_PRINTED, ""),
+        ("nodes 2\nd 1 f\n", 0, "2 1 none\nwaiting 0\n", ""),
+        (
+            "nodes 2\nu 1 conn 5 2 0 -\n",
+            0,
+            "2 1 ref 5 16\nwaiting 1\n",
+            "",
+        ),
+        ("nodes 2\nd 2 f\n", 3, "", "line 2 number\n"),
+        ("nodes 9\n", 3, "", "line 1 number\n"),
+        ("", 3, "", "line 1 words\n"),
+    ] {
+        assert_run(&rt, alloc, &["chain"], text, (status, out, notes))?;
+    }
+    Ok(())
+}
+
 #[test]
 fn rows(rt: HostRuntime) -> Result<(), Fail> {
     let alloc = rt.alloc();

@@ -23,9 +23,13 @@ stream_app = with_rule (new_app (codes "m3ua")) (new_rule (codes "output"))
 abbrev pub top_app : App
 top_app = record { top = record (new_app (codes "relay")).top { no_binary_name = true; subcommand_required = true }; subs = [] }
 
--- `run`, or `gen` or `m3ua` with its arguments
+-- `run` or `chain`
+abbrev pub plain_app : App
+plain_app = with_subcommand (with_subcommand top_app (new_app (codes "run")).top) (new_app (codes "chain")).top
+
+-- one of these, or `gen` or `m3ua` with its arguments
 abbrev pub relay_app : App
-relay_app = with_subcommand (with_subcommand (with_subcommand top_app (new_app (codes "run")).top) generate_app.top) stream_app.top
+relay_app = with_subcommand (with_subcommand plain_app generate_app.top) stream_app.top
 
 -- a text that was given, if one was
 abbrev pub given : Option (Bor Text) → Option Text

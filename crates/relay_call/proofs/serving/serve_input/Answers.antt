@@ -1,0 +1,13 @@
+use Rattle.capture_input.specs.Input.{bytes}
+use Rattle.relay_call.proofs.OutcomeLemmas.{chain_wrote, chain_stopped}
+use Rattle.relay_call.proofs.serving.serve_input.Goals as goal
+
+pub returns-in-Chain-clause-ok : goal.returns-in-Chain-clause-ok
+returns-in-Chain-clause-ok g c =
+    let written = bytes (g.K.Sink.held c.args.out.now) (g.K.Sink.held c.serve_chain.new.out) in
+    chain_wrote c.serve_chain.result c.args.command written c.args.given c.in-Chain.steps c.args.book.now c.in-Chain.is c.requires.empty c.serve_chain.ensures.ok
+
+pub returns-in-Chain-clause-stopped : goal.returns-in-Chain-clause-stopped
+returns-in-Chain-clause-stopped g c =
+    let written = bytes (g.K.Sink.held c.args.out.now) (g.K.Sink.held c.serve_chain.new.out) in
+    chain_stopped c.serve_chain.result c.args.command written c.args.given c.in-Chain.steps c.args.book.now c.in-Chain.is c.requires.empty c.serve_chain.ensures.err c.serve_chain.ensures.why
