@@ -1,6 +1,6 @@
 -- How a connection is asked for from node to node: the section that sends CR, and the one that CR opens.
 use Rattle.std.proofs.Common.{ap, ◌≡◌, ◌≢◌, ℕ, ◌<◌, ◌==◌, Bool, true, false, List, [], ◌∷◌, ◌++◌, if◌then◌else◌, Option, Some, None, IfSome, Result, Ok, Err, IfOk, refl, ◌∙◌, subst}
-use Rattle.std.proofs.lemmas.Bool.{ne_eqb}
+use Rattle.std.proofs.lemmas.Bool.{eq-eqb, ne_eqb}
 use Rattle.relay_base.specs.declared.limits.TheConstants.{REFERENCES}
 use Rattle.relay_base.specs.declared.words.Event.{Event}
 use Rattle.relay_base.specs.declared.words.Event.TheVariants.{Message as Arrived}
@@ -32,11 +32,14 @@ pub record IsCr (own mine : ℕ) (event : Event) : Type 0 where
   pub hop : Option ℕ
   pub is : event ≡ Arrived own sls (spelling_of (onward wanted rewrite hop mine))
 
--- If one message goes to a point, it is CR from this end, which asks; and none goes to another point than the end's.
+abbrev pub GoesOne : ℕ → ℕ → List Output → Type 0
+GoesOne own to outs = (event : Event) × (messages_in own to outs ≡ event ∷ [])
+
+-- If one message goes to a point, it is CR from this end, which asks; none goes to another point than the end's, and one to that.
 abbrev pub Asks : End → List Output → Type 0
 Asks (wire x) outs =
     (x.head.state ≡ Asking) × ((own to : ℕ) (event : Event) → messages_in own to outs ≡ event ∷ [] → IsCr own x.head.mine event)
-    × ((to : ℕ) → x.head.point ≢ to → messages_to to outs ≡ [])
+    × ((to : ℕ) → x.head.point ≢ to → messages_to to outs ≡ []) × ((own : ℕ) → GoesOne own x.head.point outs)
 Asks (owner u) outs = ((own to : ℕ) → messages_in own to outs ≡ []) × ((to : ℕ) → messages_to to outs ≡ [])
 
 -- what CR asks
@@ -64,6 +67,9 @@ sent_else : (point sls to : ℕ) (bytes : List ℕ) → point ≢ to → message
 unfolding messages_to
 sent_else point sls to bytes differ = ap (λ (b : Bool). (if b then record { sls = sls; bytes = bytes } ∷ [] else []) ++ []) (ne_eqb point to differ)
 
+sent_there : (own point sls : ℕ) (bytes : List ℕ) → GoesOne own point (Sent point sls bytes ∷ [])
+sent_there own point sls bytes = (Arrived own sls bytes, ap (λ (b : Bool). (if b then Arrived own sls bytes ∷ [] else []) ++ []) (eq-eqb point point refl))
+
 told_else : (ssn : ℕ) (told : Tell) (to : ℕ) (outs : List Output) → messages_to to outs ≡ [] → messages_to to (Told ssn told ∷ outs) ≡ []
 unfolding messages_to
 told_else ssn told to outs none = none
@@ -76,7 +82,7 @@ through_as : (terms : Terms) (w : Wanted) (point : ℕ) (rewrite : Rewrite) (hop
 through_as terms w point rewrite hop [] = tt
 through_as terms w point rewrite hop (mine ∷ []) = tt
 through_as terms w point rewrite hop (mine ∷ next ∷ references) =
-    ((refl, (λ own to event e. sent_cr own point w.sls to next w rewrite hop event e), λ to differ. sent_else point w.sls to _ differ), (refl, refl, refl))
+    ((refl, (λ own to event e. sent_cr own point w.sls to next w rewrite hop event e), (λ to differ. sent_else point w.sls to _ differ), λ own. sent_there own point w.sls _), (refl, refl, refl))
 
 by_cr_as : (terms : Terms) (w : Wanted) (answer : Answer) (references : List ℕ) → IsOpenedAs (by_cr w) (opened_by_cr terms w answer references)
 unfolding opened_by_cr
@@ -92,7 +98,7 @@ by_user_as terms ssn tag w (Refused cause local) references = tt
 by_user_as terms ssn tag w (Local other) references = tt
 by_user_as terms ssn tag w (Forward point rewrite hop) [] = tt
 by_user_as terms ssn tag w (Forward point rewrite hop) (mine ∷ references) =
-    ((refl, (λ own to event e. sent_cr own point w.sls to mine w rewrite w.hop event e), λ to differ. told_else ssn _ to _ (sent_else point w.sls to _ differ)), tt)
+    ((refl, (λ own to event e. sent_cr own point w.sls to mine w rewrite w.hop event e), (λ to differ. told_else ssn _ to _ (sent_else point w.sls to _ differ)), λ own. sent_there own point w.sls _), tt)
 
 opened_as : (terms : Terms) (wish : Wish) (answer : Option Answer) (references : List ℕ) → IsOpenedAs wish (opened terms wish answer references)
 unfolding opened

@@ -1,5 +1,5 @@
 -- Where the hop of two legs begins: CR just came to the far node.
-use Rattle.std.proofs.Common.{◌≡◌, ◌≢◌, ◌⊎◌, inl, inr, ℕ, ◌<◌, ◌+◌, ◌-◌, Bool, true, false, List, [], ◌∷◌, ◌++◌, map, filter, Some, refl, sym, ◌∙◌, ap, ap₂, subst, arith, append-nil}
+use Rattle.std.proofs.Common.{◌≡◌, ◌≢◌, ◌⊎◌, inl, inr, ℕ, ◌<◌, ◌+◌, ◌-◌, Bool, true, false, List, [], ◌∷◌, ◌++◌, map, Some, refl, sym, ◌∙◌, ap, ap₂, subst, arith, append-nil}
 use Rattle.std.specs.Prelude.{flat_map}
 use Rattle.std.specs.List.{AllByRecursion}
 use Rattle.std.proofs.ByRecursion.{All-take, All-drop}
@@ -57,6 +57,18 @@ map_all : {A B : Type 0} (P : B → Type 0) (f : A → B) (xs : List A) → AllB
 map_all P f [] all = tt
 map_all P f (x ∷ xs) all = (all.0, map_all P f xs all.1)
 
+-- and of what stands in the journal of a leg's node: of the entry that opened it, and of those since
+pub leg_parts : (P : Entry → Type 0) (i : ℕ) (node : NodeState) (leg : Leg) → IsLeg i node leg → AllByRecursion P node.journal → P leg.by × AllByRecursion P leg.since
+leg_parts P i node leg at all = (all_parts P leg.before (leg.by ∷ leg.since) (subst (AllByRecursion P) at.journal all)).1
+
+-- What holds of all that a node sent to a neighbour holds of each message that arrived there from it.
+pub all_came : (P : Event → Type 0) (i : ℕ) (forward : Bool) (one other : NodeState) → Links i forward one other → AllByRecursion P (sent_by i (neighbour forward i) one)
+    → AllByRecursion (λ (e : Entry). is_from i e.event ≡ true → P e.event) other.journal
+all_came P i forward one other link all =
+    all_mapped (λ event. is_from i event ≡ true → P event) (λ (e : Entry). e.event) other.journal
+    (each_filtered P (is_from i) (map (λ (e : Entry). e.event) other.journal)
+    (subst (AllByRecursion P) (sym link.first) (All-take P (given_of forward one) (sent_by i (neighbour forward i) one) all)))
+
 -- Strange messages, as events.
 
 abbrev pub IsStrangeEvent : Connection → Event → Type 0
@@ -96,15 +108,12 @@ queue_strange c forward own to node is there strange =
 
 -- Of what came to the near node since its leg was opened, nothing answers.
 
-since_strange : (c : Connection) (i : ℕ) (near far : NodeState) (before since : List Entry) (by : Entry) → Links (i + 1) false far near → near.journal ≡ before ++ by ∷ since → AllStrange c (sent_to i far.journal)
-    → AllByRecursion (λ (e : Entry). is_from (i + 1) e.event ≡ true → IsStrangeEvent c e.event) since
-since_strange c i near far before since by link is strange =
-    let P : Event → Type 0 = IsStrangeEvent c in
+since_strange : (c : Connection) (i : ℕ) (near far : NodeState) (leg : Leg) → Links (i + 1) false far near → IsLeg i near leg → AllStrange c (sent_to i far.journal)
+    → AllByRecursion (λ (e : Entry). is_from (i + 1) e.event ≡ true → IsStrangeEvent c e.event) leg.since
+since_strange c i near far leg link at strange =
     let here : i + 1 - 1 ≡ i = omega arith in
     let sent : AreStrangeEvents c (sent_by (i + 1) (i + 1 - 1) far) = sent_strange c (i + 1) (i + 1 - 1) far.journal (subst (λ k. AllStrange c (sent_to k far.journal)) (sym here) strange) in
-    let came : AllByRecursion P (filter (is_from (i + 1)) (map (λ (e : Entry). e.event) near.journal)) = subst (AllByRecursion P) (sym link.first) (All-take P far.back (sent_by (i + 1) (i + 1 - 1) far) sent) in
-    let each = all_mapped (λ event. is_from (i + 1) event ≡ true → P event) (λ (e : Entry). e.event) near.journal (each_filtered P (is_from (i + 1)) (map (λ (e : Entry). e.event) near.journal) came) in
-    (all_parts (λ (e : Entry). is_from (i + 1) e.event ≡ true → P e.event) before (by ∷ since) (subst (AllByRecursion (λ (e : Entry). is_from (i + 1) e.event ≡ true → P e.event)) is each)).1.1
+    (leg_parts (λ (e : Entry). is_from (i + 1) e.event ≡ true → IsStrangeEvent c e.event) i near leg at (all_came (IsStrangeEvent c) (i + 1) false far near link sent)).1
 
 no_answer : (point : ℕ) (c : Connection) (event : Event) → (is_from point event ≡ false → IsElsewhere point c.that event) → (is_from point event ≡ true → IsStrangeEvent c event) → IsNoAnswer point c event
 no_answer point c (Arrived from sls bytes) elsewhere strange = by_test (is_from point (Arrived from sls bytes)) refl
@@ -213,7 +222,7 @@ near_unanswered : (i : ℕ) (r : RunState) (one next : Leg) → Links (i + 1) fa
     → AllByRecursion (IsNoAnswer (i + 1) one.first) (met_on one)
 near_unanswered i r one next link at begins =
     no_answers (i + 1) one.first one.since begins.elsewhere
-    (since_strange one.first i (node_at i r.nodes) (node_at (i + 1) r.nodes) one.before one.since one.by link at.journal begins.back)
+    (since_strange one.first i (node_at i r.nodes) (node_at (i + 1) r.nodes) one link at begins.back)
 
 near_waits : (n i : ℕ) (r : RunState) (one next : Leg) (sent : SentCr i one next.by.event) → Opens i one → Links (i + 1) false (node_at (i + 1) r.nodes) (node_at i r.nodes) → IsLeg i (node_at i r.nodes) one
     → IsBeginning i r one next → WaitsAfter (record sent.section.head { point = i + 1 }) one.first (now_on one) (outs_along USUAL_TICKS one.first (heard_on one))

@@ -46,7 +46,7 @@ use Rattle.passage_law.proofs.Moving.{Moves, rest, near_gives, far_gives, near_a
 use Rattle.passage_law.proofs.Asking.{Asks as AsksAt}
 use Rattle.passage_law.proofs.Beginning.{leg_opens}
 use Rattle.passage_law.proofs.Openings.{leg_opening, leg_has, firsts_opened}
-use Rattle.passage_law.proofs.Joining.{leg_came, sent_asks, reference_fits, legs_joined}
+use Rattle.passage_law.proofs.Joining.{asked_came, sent_asks, reference_fits, legs_joined}
 
 -- What a node meets at a step: an event that is no message, or the first message that waits for it at a neighbour.
 
@@ -190,7 +190,7 @@ as_meeting to end node leg there event ticks s elsewhere = record {
 }
 
 module _ (n i : ℕ) (two : 2 ≤ n) (least : 1 ≤ i) (most : i < n) where
-  behind : (steps : List Step) → AreSteps n steps → Links (i + 1) false (node_at (i + 1) (run_of n steps).nodes) (node_at i (run_of n steps).nodes)
+  pub behind : (steps : List Step) → AreSteps n steps → Links (i + 1) false (node_at (i + 1) (run_of n steps).nodes) (node_at i (run_of n steps).nodes)
   behind steps are =
       let here : i + 1 - 1 ≡ i = omega arith in
       subst (λ k. Links (i + 1) false (node_at (i + 1) (run_of n steps).nodes) (node_at k (run_of n steps).nodes)) here
@@ -252,7 +252,7 @@ module _ (n i : ℕ) (two : 2 ≤ n) (least : 1 ≤ i) (most : i < n) where
 
   -- Of all that came to the near node since the leg was opened.
 
-  abbrev AllElsewhere : RunState → Type 0
+  abbrev pub AllElsewhere : RunState → Type 0
   AllElsewhere r =
       all_fresh r ≡ true → (leg : Leg) (s : Section) → IsLeg i (node_at i r.nodes) leg → leg.first.that ≡ wire s → s.head.point ≡ i + 1 →
       AllByRecursion (IsOfOthers (i + 1) (wire s)) leg.since
@@ -285,7 +285,7 @@ module _ (n i : ℕ) (two : 2 ≤ n) (least : 1 ≤ i) (most : i < n) where
       by_change (gives way) met later = before (was_fresh done step fresh) leg s (as_leg i way near leg (subst (λ node. IsLeg i node leg) later at)) that point
       by_change (meets number event) met later = by_cut number event met (cut_leg i number event near leg (subst (λ node. IsLeg i node leg) later at))
 
-  all_elsewhere : (steps : List Step) → AreSteps n steps → AllElsewhere (run_of n steps)
+  pub all_elsewhere : (steps : List Step) → AreSteps n steps → AllElsewhere (run_of n steps)
   all_elsewhere = along_run n AllElsewhere (λ fresh leg s at that point. absurd (no_leg_yet n i leg least (omega (arith, most)) at)) elsewhere_step
 
 -- The opening of the far leg.
@@ -456,13 +456,7 @@ module _ (n i : ℕ) (two : 2 ≤ n) (least : 1 ≤ i) (most : i < n) where
       joined = legs_joined n i (steps ++ step ∷ []) one next more two least most (behind n i two least most (steps ++ step ∷ []) more) at_later
 
       cr : IsCrFrom i joined.near_reference next.by.event
-      cr = by_end next.first.this refl joined.asked
-        where
-          by_end : (end : End) → next.first.this ≡ end → IsAskedBy i joined.near_reference joined.far_reference end → IsCrFrom i joined.near_reference next.by.event
-          by_end (wire x) same asked =
-              subst (λ p. IsCrFrom p joined.near_reference next.by.event) asked.0
-              (subst (λ slr. IsCrFrom x.head.point slr next.by.event) asked.1 (leg_came (i + 1) (node_at (i + 1) later.nodes) next x at_later.there same))
-          by_end (owner u) same asked = absurd asked
+      cr = asked_came (i + 1) i joined.near_reference joined.far_reference (node_at (i + 1) later.nodes) next at_later.there joined.asked
 
       not_given : Asks (firsts_in r) i (i + 1) joined.near_reference → ⊥
       not_given asks =

@@ -1,7 +1,6 @@
 -- Two legs, one after the other: the section of the far one was asked for by that of the near one, and no other end is a section to the other node.
 use Rattle.std.proofs.Common.{◌≡◌, inl, inr, ℕ, ◌≤◌, ◌<◌, ◌+◌, ◌-◌, true, false, List, [], ◌∷◌, map, Some, IfSome, Result, Ok, Err, IfOk, refl, sym, ◌∙◌, ap, subst, arith, eq-eqb}
 use Rattle.std.specs.List.{AllByRecursion}
-use Rattle.std.proofs.ByRecursion.{All-take}
 use Rattle.std.proofs.lemmas.List.{map-append}
 use Rattle.relay_base.specs.declared.limits.TheConstants.{REFERENCES}
 use Rattle.relay_base.specs.declared.words.Event.{Event}
@@ -19,7 +18,6 @@ use Rattle.section_model.specs.Opening.{Wish, by_cr, by_user, no_wish, may_be_wa
 use Rattle.section_model.specs.Lane.{Opening, heard, connection_of, reference_of, answer_of}
 use Rattle.connection_law.proofs.Flow.Flowing.{either}
 use Rattle.connection_law.proofs.Reference.Following.{following_stays}
-use Rattle.hop_law.proofs.Lists.{each_filtered}
 use Rattle.chain_step.specs.declared.step.Step.{Step}
 use Rattle.chain_step.specs.Run.{NodeState, head_of, openings_of, node_at, run_of}
 use Rattle.row_law.specs.Nodes.{AreSteps}
@@ -28,7 +26,7 @@ use Rattle.row_law.specs.Naming.{StandsOn, AsksFrom, NamesMessage}
 use Rattle.row_law.specs.References.{Firsts, firsts_in, OfOne, IsTo, IsAskedBy, Asks, HasSource, IsCrFrom, IsSection, allowed}
 use Rattle.row_law.specs.Fair.{Has, AreJoined}
 use Rattle.row_law.specs.Ways.{IsOnward}
-use Rattle.row_law.proofs.Linking.{sent_by, Links}
+use Rattle.row_law.proofs.Linking.{Links}
 use Rattle.row_law.proofs.LaneNames.{AllStand}
 use Rattle.row_law.proofs.Referring.{ThisShape, HasShape, opened_shape, IsSentEvent, all_sent, is_referred}
 use Rattle.row_law.proofs.Parting.{stand_back}
@@ -38,7 +36,7 @@ use Rattle.trail_law.specs.Hops.{AreNeighbours}
 use Rattle.trail_law.proofs.Opening.{StandsWhere}
 use Rattle.trail_law.proofs.Trailing.{references_at, is_legal}
 use Rattle.passage_law.proofs.Asking.{IsAskedBy as IsAskedFrom, asked_by}
-use Rattle.passage_law.proofs.Beginning.{all_parts, all_mapped, Opens, leg_opens, SentCr, sent_cr}
+use Rattle.passage_law.proofs.Beginning.{all_parts, leg_parts, all_came, Opens, leg_opens, SentCr, sent_cr}
 use Rattle.passage_law.proofs.Openings.{leg_opening, leg_has}
 
 -- CR came from where the connection's section stands.
@@ -90,6 +88,15 @@ leg_came i node leg x at is = came_as wish leg.by.event x (subst (ThisShape wish
     shape : (c : Connection) → (opened (head_of i).terms wish (answer_of leg.by) (references_at i leg)).connection ≡ Some c → HasShape wish c
     shape c opens = subst (λ connection. IfSome connection (HasShape wish)) opens (opened_shape (head_of i).terms wish (answer_of leg.by) (references_at i leg))
 
+-- so of one that was asked for
+pub asked_came : (i p other mine : ℕ) (node : NodeState) (leg : Leg) → IsLeg i node leg → IsAskedBy p other mine leg.first.this → IsCrFrom p other leg.by.event
+asked_came i p other mine node leg at asked = by_end leg.first.this refl asked
+  where
+    by_end : (e : End) → leg.first.this ≡ e → IsAskedBy p other mine e → IsCrFrom p other leg.by.event
+    by_end (wire x) is asked =
+        subst (λ point. IsCrFrom point other leg.by.event) asked.0 (subst (λ slr. IsCrFrom x.head.point slr leg.by.event) asked.1 (leg_came i node leg x at is))
+    by_end (owner u) is asked = absurd asked
+
 -- What a node sends as CR has the reference of a section that asks.
 
 pub sent_asks : (f : Firsts) (own to point slr : ℕ) (event : Event) → IsSentEvent f own to event → IsCrFrom point slr event → Asks f own to slr
@@ -106,16 +113,16 @@ sent_asks f own to point slr (Requested ssn r) sent cr = absurd sent
 sent_asks f own to point slr Tick sent cr = absurd sent
 
 -- none asks the node before
-none_back : (next point slr : ℕ) (cs : List Connection) → (point ≡ next → ⊥) → AllByRecursion (λ (c : Connection). IsOnward next c.that) cs → OfOne (λ (c : Connection). IsTo point slr c.that) cs → ⊥
-none_back next point slr [] differ all asks = asks
-none_back next point slr (c ∷ cs) differ all (inl to) = by_end c.that all.0 to
-  where
-    by_end : (e : End) → IsOnward next e → IsTo point slr e → ⊥
-    by_end (wire x) onward to = differ (sym to.0 ∙ onward)
-    by_end (owner u) onward to = to
-none_back next point slr (c ∷ cs) differ all (inr more) = none_back next point slr cs differ all.1 more
+not_to : (n i point : ℕ) (e : End) → (point ≡ i + 1 → ⊥) → IsOnward n i e → (mine : ℕ) → IsTo point mine e → ⊥
+not_to n i point (wire x) differ onward mine to = differ (sym to.0 ∙ onward.0)
+not_to n i point (owner u) differ onward mine to = to
 
-is_from_cr : (point slr : ℕ) (event : Event) → IsCrFrom point slr event → is_from point event ≡ true
+pub none_back : (n i point slr : ℕ) (cs : List Connection) → (point ≡ i + 1 → ⊥) → AllByRecursion (λ (c : Connection). IsOnward n i c.that) cs → OfOne (λ (c : Connection). IsTo point slr c.that) cs → ⊥
+none_back n i point slr [] differ all asks = asks
+none_back n i point slr (c ∷ cs) differ all (inl to) = not_to n i point c.that differ all.0 slr to
+none_back n i point slr (c ∷ cs) differ all (inr more) = none_back n i point slr cs differ all.1 more
+
+pub is_from_cr : (point slr : ℕ) (event : Event) → IsCrFrom point slr event → is_from point event ≡ true
 is_from_cr point slr (Arrived from sls bytes) cr = eq-eqb from point cr.0
 is_from_cr point slr (Requested ssn r) cr = absurd cr
 is_from_cr point slr Tick cr = absurd cr
@@ -129,27 +136,19 @@ no_cr_back n i steps leg are two least most link at slr cr =
     let to = i + 1 - 1 in
     let near = node_at i r.nodes in
     let far = node_at j r.nodes in
-    let P : Event → Type 0 = IsSentEvent f j to in
     let names = (is_referred n steps two are).names j (omega arith) (omega (arith, most)) in
-    let came = subst (AllByRecursion P) (sym link.first) (All-take P far.back (sent_by j to far) (all_sent f j to far names.1)) in
-    let each = all_mapped (λ event. is_from j event ≡ true → P event) (λ (e : Entry). e.event) near.journal (each_filtered P (is_from j) (map (λ (e : Entry). e.event) near.journal) came) in
-    let here = (all_parts (λ (e : Entry). is_from j e.event ≡ true → P e.event) leg.before (leg.by ∷ leg.since)
-    (subst (AllByRecursion (λ (e : Entry). is_from j e.event ≡ true → P e.event)) at.journal each)).1.0 in
-    none_back (j + 1) to slr (f j) (λ same. omega (arith, same)) (all_go_on n j steps are two (omega arith) (omega (arith, most)))
+    let here = (leg_parts (λ (e : Entry). is_from j e.event ≡ true → IsSentEvent f j to e.event) i near leg at (all_came (IsSentEvent f j to) j false far near link (all_sent f j to far names.1))).0 in
+    none_back n j to slr (f j) (λ same. omega (arith, same)) (all_go_on n j steps are two (omega arith) (omega (arith, most)))
     (sent_asks f j to j slr leg.by.event (here (is_from_cr j slr leg.by.event cr)) cr)
 
 -- The other ends.
 
 pub onward_of : (n i : ℕ) (steps : List Step) (leg : Leg) → AreSteps n steps → 2 ≤ n → 1 ≤ i → i ≤ n → Has (node_at i (run_of n steps).nodes) (leg_opening leg)
-    → IsOnward (i + 1) leg.first.that
+    → IsOnward n i leg.first.that
 onward_of n i steps leg are two least most has =
-    let P : Connection → Type 0 = λ c. IsOnward (i + 1) c.that in
+    let P : Connection → Type 0 = λ c. IsOnward n i c.that in
     let all = subst (AllByRecursion P) (ap (map (λ (o : Opening). o.first)) has.are ∙ map-append (λ (o : Opening). o.first) has.before (leg_opening leg ∷ has.after)) (all_go_on n i steps are two least most) in
     (all_parts P (map (λ (o : Opening). o.first) has.before) (leg.first ∷ map (λ (o : Opening). o.first) has.after) all).1.0
-
-not_to : (point next : ℕ) (e : End) → (point ≡ next → ⊥) → IsOnward next e → (mine : ℕ) → IsTo point mine e → ⊥
-not_to point next (wire x) differ onward mine to = differ (sym to.0 ∙ onward)
-not_to point next (owner u) differ onward mine to = to
 
 -- References have 24 bits.
 pub reference_fits : (f : Firsts) (i : ℕ) (node : NodeState) (o : Opening) → AllStand (IsSection f i) node.head.terms.ticks (openings_of node) → Has node o
@@ -191,7 +190,7 @@ legs_joined n i steps one next are two least most link at =
       asks = subst (IsTo (i + 1) m) (sym sent.is) (stands i (i + 1) next.by.event at.follows, refl);
       asked = subst (IsAskedBy i m asked.section.head.mine) (sym asked.is) (asked.point, asked.other, refl);
       near_apart = λ mine to. came_back one.first.this refl mine to;
-      far_apart = not_to i (i + 1 + 1) next.first.that (λ same. omega (arith, same))
+      far_apart = not_to n (i + 1) i next.first.that (λ same. omega (arith, same))
           (onward_of n (i + 1) steps next are two (omega arith) (omega (arith, most)) (leg_has (i + 1) far next far_is.head at.there));
     }
   where

@@ -11,4 +11,5 @@ pub mod Passing
 pub mod Openings
 pub mod Joining
 pub mod Fairness
+pub mod Ends
 pub mod Trails

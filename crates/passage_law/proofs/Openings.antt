@@ -1,5 +1,5 @@
--- A leg is one of the openings of its node.
-use Rattle.std.proofs.Common.{◌≡◌, List, [], ◌∷◌, ◌++◌, map, ℕ, Some, refl, sym, ◌∙◌, ap, subst, append_assoc, append-nil}
+-- A leg is one of the openings of its node, and each of these is a leg.
+use Rattle.std.proofs.Common.{◌≡◌, ◌⊎◌, inl, inr, List, [], ◌∷◌, ◌++◌, map, ℕ, Option, Some, None, refl, sym, ◌∙◌, ap, subst, append_assoc, append-nil}
 use Rattle.std.proofs.lemmas.List.{map-append}
 use Rattle.relay_base.specs.declared.words.Event.{Event}
 use Rattle.plant_core.specs.declared.entry.Entry.{Entry}
@@ -11,8 +11,9 @@ use Rattle.section_model.specs.Lane.{Lane, Opening, with_event, opening_of, open
 use Rattle.section_model.specs.Laws.{openings_from}
 use Rattle.chain_step.specs.Run.{NodeState, head_of}
 use Rattle.chain_step.proofs.Journals.{openings_more}
-use Rattle.row_law.specs.References.{firsts_of}
+use Rattle.row_law.specs.References.{firsts_of, OfOne}
 use Rattle.row_law.specs.Fair.{Has}
+use Rattle.row_law.proofs.Growing.{openings_joined, same_firsts, opened_at, new_firsts, firsts_after}
 use Rattle.trail_law.specs.Trails.{Leg, lane_at, IsLeg}
 
 -- an opening among others
@@ -20,10 +21,6 @@ record IsAmong (openings : List Opening) (o : Opening) : Type 0 where
   before : List Opening
   after : List Opening
   are : openings ≡ before ++ o ∷ after
-
-openings_joined : (lane : Lane) (openings : List Opening) (one other : List Entry) → openings_from lane openings (one ++ other) ≡ openings_from lane (openings_from lane openings one) other
-openings_joined lane openings [] other = refl
-openings_joined lane openings (entry ∷ one) other = openings_joined lane (openings_after lane openings entry.event (answer_of entry)) one other
 
 still_among : (lane : Lane) (openings : List Opening) (o : Opening) (entry : Entry) → IsAmong openings o → IsAmong (openings_after lane openings entry.event (answer_of entry)) (with_event entry.event o)
 unfolding openings_after
@@ -75,10 +72,6 @@ leg_has i node leg head at =
 
 -- A leg that was just opened is the last of the connections.
 
-same_firsts : (event : Event) (openings : List Opening) → map (λ (o : Opening). o.first) (map (with_event event) openings) ≡ map (λ (o : Opening). o.first) openings
-same_firsts event [] = refl
-same_firsts event (o ∷ openings) = ap (λ more. o.first ∷ more) (same_firsts event openings)
-
 pub firsts_opened : (i : ℕ) (node later : NodeState) (leg : Leg) → node.head ≡ head_of i → later.head ≡ head_of i → IsLeg i later leg → leg.since ≡ [] → leg.before ≡ node.journal
     → firsts_of later ≡ firsts_of node ++ leg.first ∷ []
 unfolding openings_after
@@ -94,3 +87,52 @@ firsts_opened i node later leg head after at none before =
     ∙ (ap (λ firsts. firsts ++ leg.first ∷ []) (same_firsts leg.by.event openings)
     ∙ (ap (λ journal. map first (openings_from lane [] journal) ++ leg.first ∷ []) before
     ∙ ap (λ (h : LaneHead). map first (openings_from (lane_of h 0) [] node.journal) ++ leg.first ∷ []) (sym head)))))))
+
+-- Each connection that a node opened is a leg.
+
+of_parts : {A : Type 0} (P : A → Type 0) (xs ys : List A) → OfOne P (xs ++ ys) → OfOne P xs ⊎ OfOne P ys
+of_parts P [] ys one = inr one
+of_parts P (x ∷ xs) ys (inl p) = inl (inl p)
+of_parts P (x ∷ xs) ys (inr one) = by_rest (of_parts P xs ys one)
+  where
+    by_rest : OfOne P xs ⊎ OfOne P ys → OfOne P (x ∷ xs) ⊎ OfOne P ys
+    by_rest (inl here) = inl (inr here)
+    by_rest (inr there) = inr there
+
+-- one that entries opened, for which it holds
+record IsOpened (P : Connection → Type 0) (lane : Lane) (openings : List Opening) (entries : List Entry) : Type 0 where
+  leg : Leg
+  journal : entries ≡ leg.before ++ leg.by ∷ leg.since
+  opens : opened_at lane (openings_from lane openings leg.before) leg.by ≡ Some leg.first
+  holds : P leg.first
+
+opened_among : (P : Connection → Type 0) (lane : Lane) (entries : List Entry) (openings : List Opening) → OfOne P (map (λ (o : Opening). o.first) (openings_from lane openings entries))
+    → OfOne P (map (λ (o : Opening). o.first) openings) ⊎ IsOpened P lane openings entries
+opened_among P lane [] openings one = inl one
+opened_among P lane (entry ∷ entries) openings one = by_rest (opened_among P lane entries later one)
+  where
+    later : List Opening
+    later = openings_after lane openings entry.event (answer_of entry)
+
+    by_new : (connection : Option Connection) → opened_at lane openings entry ≡ connection → OfOne P (new_firsts connection) → IsOpened P lane openings (entry ∷ entries)
+    by_new None is one = absurd one
+    by_new (Some c) is (inl p) = record { leg = record { before = []; by = entry; first = c; since = entries }; journal = refl; opens = is; holds = p }
+    by_new (Some c) is (inr none) = absurd none
+
+    by_part : OfOne P (map (λ (o : Opening). o.first) openings) ⊎ OfOne P (new_firsts (opened_at lane openings entry))
+        → OfOne P (map (λ (o : Opening). o.first) openings) ⊎ IsOpened P lane openings (entry ∷ entries)
+    by_part (inl old) = inl old
+    by_part (inr new) = inr (by_new (opened_at lane openings entry) refl new)
+
+    by_rest : OfOne P (map (λ (o : Opening). o.first) later) ⊎ IsOpened P lane later entries → OfOne P (map (λ (o : Opening). o.first) openings) ⊎ IsOpened P lane openings (entry ∷ entries)
+    by_rest (inl one) = by_part (of_parts P (map (λ (o : Opening). o.first) openings) (new_firsts (opened_at lane openings entry)) (subst (OfOne P) (firsts_after lane openings entry) one))
+    by_rest (inr opened) =
+        inr (record { leg = record opened.leg { before = entry ∷ opened.leg.before }; journal = ap (λ more. entry ∷ more) opened.journal; opens = opened.opens; holds = opened.holds })
+
+pub opened_leg : (P : Connection → Type 0) (i : ℕ) (node : NodeState) → node.head ≡ head_of i → OfOne P (firsts_of node) → (leg : Leg) × IsLeg i node leg × P leg.first
+opened_leg P i node head one =
+    by_opened (opened_among P (lane_at i) node.journal [] (subst (λ (h : LaneHead). OfOne P (map (λ (o : Opening). o.first) (openings_from (lane_of h 0) [] node.journal))) head one))
+  where
+    by_opened : OfOne P [] ⊎ IsOpened P (lane_at i) [] node.journal → (leg : Leg) × IsLeg i node leg × P leg.first
+    by_opened (inl none) = absurd none
+    by_opened (inr opened) = (opened.leg, record { journal = opened.journal; opens = opened.opens }, opened.holds)

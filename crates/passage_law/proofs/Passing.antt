@@ -1,7 +1,6 @@
 -- From its beginning on, the run of two legs is a course of their hop.
-use Rattle.std.proofs.Common.{◌≡◌, ◌≢◌, ℕ, ◌≤◌, ◌<◌, ◌+◌, ◌-◌, Bool, true, false, List, [], ◌∷◌, ◌++◌, length, map, filter, take, Some, refl, sym, ◌∙◌, ap, subst, arith, append-nil, append_assoc, eq-eqb, IsTrue}
+use Rattle.std.proofs.Common.{◌≡◌, ◌≢◌, ℕ, ◌≤◌, ◌<◌, ◌+◌, ◌-◌, Bool, true, false, List, [], ◌∷◌, ◌++◌, length, Some, refl, sym, ◌∙◌, ap, subst, arith, append-nil, append_assoc, eq-eqb, IsTrue}
 use Rattle.std.specs.List.{AllByRecursion, list_any}
-use Rattle.std.proofs.ByRecursion.{All-take}
 use Rattle.std.proofs.lemmas.List.Folds.{list_any-append}
 use Rattle.relay_base.specs.declared.words.Event.{Event}
 use Rattle.relay_base.specs.declared.words.Event.TheVariants.{Message as Arrived, Asked as Requested, Tick}
@@ -20,7 +19,6 @@ use Rattle.passing_law.specs.ClearingLaw.{is_reset}
 use Rattle.hop_law.specs.Waiting.{Waiting, messages_to}
 use Rattle.hop_law.specs.Hop.{Hop, Course, begun, IsElsewhere, IsBegun, IsCarried}
 use Rattle.hop_law.proofs.Along.{neither}
-use Rattle.hop_law.proofs.Lists.{each_filtered}
 use Rattle.reset_law.specs.Answering.{is_rsr}
 use Rattle.reset_law.specs.Coming.{SendsNoRsr, NoRsrWaits}
 use Rattle.reset_law.proofs.Answering.{brings_as}
@@ -44,7 +42,7 @@ use Rattle.passage_law.proofs.Meeting.{Leads, leads_then, leads_nowhere, near_af
 use Rattle.passage_law.proofs.Legs.{leg_more, LegCut, opened_now, was_before, cut_leg, as_leg, no_leg_yet, along_run, now_more, outs_on_more}
 use Rattle.passage_law.proofs.Crossing.{begun_crosses, near_crosses, far_crosses, comes_without}
 use Rattle.passage_law.proofs.Moving.{Moves, rest, near_gives, far_gives, near_alone, far_alone, forward, back, moves}
-use Rattle.passage_law.proofs.Beginning.{all_parts, all_mapped, all_as, neighbours, hop_of, HasBegun, has_begun}
+use Rattle.passage_law.proofs.Beginning.{leg_parts, all_came, all_as, neighbours, hop_of, HasBegun, has_begun}
 
 -- outputs but for the first of them, which carry no unit
 pub record IsRest (outs later : List Output) : Type 0 where
@@ -228,14 +226,9 @@ far_aside i near far one next p = record {
 
 -- The near leg was opened before CR came to the far node.
 
-not_itself : (i : ℕ) (far : NodeState) (next : Leg) (sent : List Event) → far.journal ≡ next.before ++ next.by ∷ next.since → is_from i next.by.event ≡ true
-    → filter (is_from i) (map (λ (e : Entry). e.event) far.journal) ≡ sent → AllByRecursion (λ event. event ≢ next.by.event) sent → ⊥
-not_itself i far next sent is from came none =
-    let P : Event → Type 0 = λ event. event ≢ next.by.event in
-    let each = all_mapped (λ event. is_from i event ≡ true → P event) (λ (e : Entry). e.event) far.journal
-    (each_filtered P (is_from i) (map (λ (e : Entry). e.event) far.journal) (subst (AllByRecursion P) (sym came) none)) in
-    (all_parts (λ (e : Entry). is_from i e.event ≡ true → P e.event) next.before (next.by ∷ next.since)
-    (subst (AllByRecursion (λ (e : Entry). is_from i e.event ≡ true → P e.event)) is each)).1.0 from refl
+not_itself : (i : ℕ) (far : NodeState) (next : Leg) → IsLeg (i + 1) far next → is_from i next.by.event ≡ true
+    → AllByRecursion (λ (e : Entry). is_from i e.event ≡ true → e.event ≢ next.by.event) far.journal → ⊥
+not_itself i far next at from none = (leg_parts (λ (e : Entry). is_from i e.event ≡ true → e.event ≢ next.by.event) (i + 1) far next at none).0 from refl
 
 module _ (n i : ℕ) (two : 2 ≤ n) (least : 1 ≤ i) (most : i < n) (fair : IsFairRun n i) where
   abbrev AllPass : RunState → Type 0
@@ -303,8 +296,8 @@ module _ (n i : ℕ) (two : 2 ≤ n) (least : 1 ≤ i) (most : i < n) (fair : Is
 
       no_new_near : (number : ℕ) (event : Event) → change_by r step i ≡ meets number event → IsLeg (i + 1) far next → one.before ≡ near.journal → one.since ≡ [] → ⊥
       no_new_near number event met leg new none =
-          not_itself i far next (take near.ahead (sent_by i (i + 1) near)) leg.journal from_near ahead.first
-          (All-take (λ event. event ≢ next.by.event) near.ahead (sent_by i (i + 1) near) (fair.once done step one next number event are is fresh at new none met))
+          not_itself i far next leg from_near
+          (all_came (λ event. event ≢ next.by.event) i true near far ahead (fair.once done step one next number event are is fresh at new none met))
 
       closes : (a b : NodeState) → node_at i after.nodes ≡ a → node_at (i + 1) after.nodes ≡ b → Passes i a b one next → Passes i (node_at i after.nodes) (node_at (i + 1) after.nodes) one next
       closes a b near_is far_is p = subst (λ x. Passes i x (node_at (i + 1) after.nodes) one next) (sym near_is) (subst (λ x. Passes i a x one next) (sym far_is) p)

@@ -4,4 +4,4 @@
 
 mod laws;
 
-pub use laws::{hops_keep_order, run_hop, run_rsr, texts_keep_order};
+pub use laws::{hops_keep_order, run_ends, run_hop, run_rsr, texts_keep_order, users_end_trails};

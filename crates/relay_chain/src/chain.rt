@@ -65,9 +65,10 @@ impl Chain {
     /// Takes a step, and puts what users are told at the end of a list. False exactly where the step is to pass a message and none waits: such a
     /// step is taken, and nothing else comes of it. After want of memory the chain and the list are as before.
     ///
-    /// After each step, as long as no node gave a local reference twice, this is known of each connection between the two users whose nodes sent no
-    /// RSR in it (Q.714, 3.5): between every two neighbours what came in at the one begins what left at the other, and the rest waits (`hops`); and
-    /// what one user was told are the first of the texts that the other one gave (`texts`).
+    /// After each step, as long as no node gave a local reference twice, this is known of each connection that the user at the first node asked for
+    /// and whose nodes sent no RSR in it (Q.714, 3.5): between every two neighbours, as far as it went, what came in at the one begins what left at
+    /// the other, and the rest waits (`hops`); and if it goes to the user at the last node, what one user was told are the first of the texts that
+    /// the other one gave (`texts`).
     pub fn step(&mut self, step: &Step, tells: &mut TellList) -> Result<bool, Memory>
         requires step { IsTrue (is_step self.old.nodes step.now) }
         requires few { length self.old.steps < 4_294_967_295 }

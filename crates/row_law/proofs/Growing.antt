@@ -7,6 +7,7 @@ use Rattle.relay_base.specs.declared.words.Event.TheVariants.{Asked as Requested
 use Rattle.relay_base.specs.declared.words.Output.{Output}
 use Rattle.relay_base.specs.declared.words.Output.TheVariants.{Sent, Told, Lost}
 use Rattle.relay_base.specs.declared.words.ReadFault.{ReadFault}
+use Rattle.plant_core.specs.declared.entry.Entry.{Entry}
 use Rattle.q713_codec.specs.Names.{Message}
 use Rattle.q713_codec.specs.declared.message.Message.TheVariants.{Cr}
 use Rattle.q713_codec.specs.Reading.{reading_of}
@@ -16,7 +17,8 @@ use Rattle.section_model.specs.Parameters.{Arrival, arrival_of}
 use Rattle.section_model.specs.Ends.{End, wire, owner, Connection}
 use Rattle.section_model.specs.Opening.{wish_of}
 use Rattle.section_model.specs.Journals.{lane_of}
-use Rattle.section_model.specs.Lane.{Opening, with_event, opening_of, opening_list, openings_after, answer_of}
+use Rattle.section_model.specs.Lane.{Lane, Opening, with_event, opening_of, opening_list, openings_after, answer_of}
+use Rattle.section_model.specs.Laws.{openings_from}
 use Rattle.chain_step.specs.declared.step.Step.{Step}
 use Rattle.chain_step.specs.declared.step.Step.TheVariants.{Ask, Pass, Tick}
 use Rattle.chain_step.specs.declared.terms.TheConstants.{USER}
@@ -118,27 +120,39 @@ allowed_more f g grows i e = record {
   asks = λ p mine s. (s.0, s.1, asks_more f g grows i p mine s.2);
 }
 
--- The connections of a node after one more event.
+-- The connections that entries open, one after another.
 
-with_events : (event : Event) (openings : List Opening) → map (λ (o : Opening). o.first) (map (with_event event) openings) ≡ map (λ (o : Opening). o.first) openings
-with_events event [] = refl
-with_events event (o ∷ openings) = ap (λ more. o.first ∷ more) (with_events event openings)
+pub openings_joined : (lane : Lane) (openings : List Opening) (one other : List Entry) → openings_from lane openings (one ++ other) ≡ openings_from lane (openings_from lane openings one) other
+openings_joined lane openings [] other = refl
+openings_joined lane openings (entry ∷ one) other = openings_joined lane (openings_after lane openings entry.event (answer_of entry)) one other
 
-abbrev pub opened_by : Event → NodeState → Option Connection
-opened_by e node = let lane = lane_of node.head 0 in (opening_of lane (openings_of node) (wish_of node.head.terms e) (answer_of (entry_of 0 e node))).connection
+pub same_firsts : (event : Event) (openings : List Opening) → map (λ (o : Opening). o.first) (map (with_event event) openings) ≡ map (λ (o : Opening). o.first) openings
+same_firsts event [] = refl
+same_firsts event (o ∷ openings) = ap (λ more. o.first ∷ more) (same_firsts event openings)
+
+abbrev pub opened_at : Lane → List Opening → Entry → Option Connection
+opened_at lane openings entry = (opening_of lane openings (wish_of lane.terms entry.event) (answer_of entry)).connection
 
 abbrev pub new_firsts : Option Connection → List Connection
 new_firsts connection = map (λ (o : Opening). o.first) (opening_list connection)
+
+pub firsts_after : (lane : Lane) (openings : List Opening) (entry : Entry)
+    → map (λ (o : Opening). o.first) (openings_after lane openings entry.event (answer_of entry)) ≡ map (λ (o : Opening). o.first) openings ++ new_firsts (opened_at lane openings entry)
+unfolding openings_after
+firsts_after lane openings entry =
+    map-append (λ (o : Opening). o.first) (map (with_event entry.event) openings) (opening_list (opened_at lane openings entry))
+    ∙ ap (λ xs. xs ++ new_firsts (opened_at lane openings entry)) (same_firsts entry.event openings)
+
+-- The connections of a node after one more event.
+
+abbrev pub opened_by : Event → NodeState → Option Connection
+opened_by e node = let lane = lane_of node.head 0 in (opening_of lane (openings_of node) (wish_of node.head.terms e) (answer_of (entry_of 0 e node))).connection
 
 pub openings_are : (number : ℕ) (e : Event) (node : NodeState) → openings_of (after_event number e node) ≡ openings_after (lane_of node.head 0) (openings_of node) e (answer_of (entry_of number e node))
 openings_are number e node = openings_more (lane_of node.head 0) [] node.journal (entry_of number e node)
 
 pub firsts_met : (number : ℕ) (e : Event) (node : NodeState) → firsts_of (after_event number e node) ≡ firsts_of node ++ new_firsts (opened_by e node)
-unfolding openings_after
-firsts_met number e node =
-    ap (map (λ (o : Opening). o.first)) (openings_are number e node)
-    ∙ (map-append (λ (o : Opening). o.first) (map (with_event e) (openings_of node)) (opening_list (opened_by e node))
-    ∙ ap (λ xs. xs ++ new_firsts (opened_by e node)) (with_events e (openings_of node)))
+firsts_met number e node = ap (map (λ (o : Opening). o.first)) (openings_are number e node) ∙ firsts_after (lane_of node.head 0) (openings_of node) (entry_of number e node)
 
 -- All nodes after a step.
 

@@ -1,8 +1,8 @@
 -- CR comes once.
-use Rattle.std.proofs.Common.{◌≡◌, ℕ, ◌<◌, ◌≤◌, ◌+◌, ◌==◌, ◌&&◌, Bool, true, false, cond, List, [], ◌∷◌, ◌++◌, map, filter, take, drop, if◌then◌else◌, Option, Some, None, IfSome, Result, Ok, Err, IfOk, IsTrue, refl, sym, subst, ap, ap₂, ◌∙◌, arith, eqb-true, eq-eqb, take-append-drop, append-nil}
+use Rattle.std.proofs.Common.{◌≡◌, ℕ, ◌<◌, ◌≤◌, ◌+◌, ◌==◌, ◌&&◌, Bool, true, false, cond, List, [], ◌∷◌, ◌++◌, map, filter, take, drop, if◌then◌else◌, Option, Some, None, IfSome, Result, Ok, Err, IfOk, IsTrue, refl, sym, subst, ap, ap₂, ◌∙◌, arith, eqb-true, eq-eqb, take-append-drop}
 use Rattle.std.specs.Prelude.{count_by, flat_map}
+use Rattle.std.specs.List.{AllByRecursion}
 use Rattle.std.proofs.lemmas.Bool.{false≢true, false_from_ne_true, and_parts}
-use Rattle.std.proofs.lemmas.List.Concat.{flat_map-append}
 use Rattle.std.proofs.lemmas.List.Sums.{sum_by-cons, sum_by-append}
 use Rattle.relay_base.specs.declared.limits.TheConstants.{REFERENCES}
 use Rattle.relay_base.specs.declared.words.Event.{Event}
@@ -21,12 +21,13 @@ use Rattle.q713_codec.specs.Reading.{reading_of}
 use Rattle.section_model.specs.Ends.{End, wire, owner, Connection}
 use Rattle.section_model.specs.Opening.{Wanted, Wish, by_cr, by_user, no_wish, wish_of, fits, opened_through, opened_by_cr, opened_by_user, opened, Opened, slots_needed}
 use Rattle.section_model.specs.Journals.{lane_of}
-use Rattle.section_model.specs.Lane.{Lane, Opening, reference_of, lowest_free, opening_of, outputs_by, legal_outputs, answer_of}
+use Rattle.section_model.specs.Lane.{Lane, Opening, reference_of, lowest_free, opening_of, outputs_by, openings_after, legal_outputs, answer_of}
+use Rattle.section_model.specs.Laws.{openings_from}
 use Rattle.connection_law.proofs.Flow.Flowing.{either}
 use Rattle.chain_step.specs.declared.step.Step.{Step}
 use Rattle.chain_step.specs.Run.{NodeState, RunState, arrives, messages_in, neighbour, given_of, node_at, openings_of, outputs_of, entry_of, start, run_of, after_event, after_step}
 use Rattle.chain_step.specs.Steps.{is_step}
-use Rattle.chain_step.specs.Fresh.{is_among}
+use Rattle.chain_step.specs.Fresh.{is_among, all_fresh}
 use Rattle.row_law.specs.Nodes.{AreSteps}
 use Rattle.row_law.specs.Links.{is_from}
 use Rattle.row_law.specs.Naming.{Allowed, NamesMessage, Names, AllName, AreReferences}
@@ -36,7 +37,7 @@ use Rattle.row_law.proofs.Changing.{Change, stays, meets, gives, changed, change
 use Rattle.row_law.proofs.Standing.{first_is}
 use Rattle.row_law.proofs.Linking.{sent_by, there_is}
 use Rattle.row_law.proofs.LaneNames.{MayAsk, MayOpen, legal_names}
-use Rattle.row_law.proofs.Growing.{opened_by, new_firsts, firsts_met, step_grows}
+use Rattle.row_law.proofs.Growing.{openings_joined, opened_at, opened_by, new_firsts, firsts_after, firsts_met, step_grows}
 use Rattle.row_law.proofs.Referring.{NodeNames, Makes, MeetsSo, IsReferred, fit, wish_makes, opened_may, names_more, step_so, referred_begins, referred_kept}
 use Rattle.row_law.proofs.Freshness.{ends_of, given_by, AreFresh, among_left, among_right, among_ends, in_one_part, later_part, run_fresh}
 
@@ -208,49 +209,77 @@ event_asks f i slr e node last makes names = by_connection (opened_by e node) re
                   (named asks (subst (λ x. IfSome x (MayOpen (asked_by_end f i e asks))) (sym is) (may.0, asking_end c.that may.1))),
             )
 
+-- Along a journal, the CR of each entry is that of a section that it opened.
+
+abbrev EachAsks : Lane → List Opening → List Entry → Type 0
+EachAsks lane openings [] = Unit {0}
+EachAsks lane openings (entry ∷ journal) =
+    ((slr : ℕ) → count_by (cr_out slr) entry.outs ≤ count_by (asks_with slr) (new_firsts (opened_at lane openings entry)))
+    × EachAsks lane (openings_after lane openings entry.event (answer_of entry)) journal
+
+each_more : (lane : Lane) (openings : List Opening) (journal : List Entry) (entry : Entry) → EachAsks lane openings journal
+    → ((slr : ℕ) → count_by (cr_out slr) entry.outs ≤ count_by (asks_with slr) (new_firsts (opened_at lane (openings_from lane openings journal) entry)))
+    → EachAsks lane openings (journal ++ entry ∷ [])
+each_more lane openings [] entry all last = (last, tt)
+each_more lane openings (e ∷ journal) entry all last = (all.0, each_more lane (openings_after lane openings e.event (answer_of e)) journal entry all.1 last)
+
+each_parts : (lane : Lane) (openings : List Opening) (one other : List Entry) → EachAsks lane openings (one ++ other) → EachAsks lane openings one × EachAsks lane (openings_from lane openings one) other
+each_parts lane openings [] other all = (tt, all)
+each_parts lane openings (e ∷ one) other all =
+    let rest = each_parts lane (openings_after lane openings e.event (answer_of e)) one other all.1 in ((all.0, rest.0), rest.1)
+
+abbrev all_outs : List Entry → List Output
+all_outs journal = flat_map (λ (e : Entry). e.outs) journal
+
+abbrev all_firsts : List Opening → List Connection
+all_firsts openings = map (λ (o : Opening). o.first) openings
+
+-- so there are no more of them than of sections that ask
+asks_along : (slr : ℕ) (lane : Lane) (openings : List Opening) (journal : List Entry) → EachAsks lane openings journal
+    → count_by (cr_out slr) (all_outs journal) + count_by (asks_with slr) (all_firsts openings) ≤ count_by (asks_with slr) (all_firsts (openings_from lane openings journal))
+asks_along slr lane openings [] all = omega arith
+asks_along slr lane openings (entry ∷ journal) all =
+    let later = openings_after lane openings entry.event (answer_of entry) in
+    let new = new_firsts (opened_at lane openings entry) in
+    let one : count_by (cr_out slr) (all_outs (entry ∷ journal)) ≡ count_by (cr_out slr) entry.outs + count_by (cr_out slr) (all_outs journal) = count_joined (cr_out slr) entry.outs (all_outs journal) in
+    let two : count_by (asks_with slr) (all_firsts later) ≡ count_by (asks_with slr) (all_firsts openings) + count_by (asks_with slr) new =
+    ap (count_by (asks_with slr)) (firsts_after lane openings entry) ∙ count_joined (asks_with slr) (all_firsts openings) new in
+    omega (arith, one, two, all.0 slr, asks_along slr lane later journal all.1)
+
 -- Along the run.
 
-abbrev all_outs : NodeState → List Output
-all_outs node = flat_map (λ (e : Entry). e.outs) node.journal
+abbrev AsksSo : NodeState → Type 0
+AsksSo node = EachAsks (lane_of node.head 0) [] node.journal
 
-abbrev AsksWithin : NodeState → Type 0
-AsksWithin node = (slr : ℕ) → count_by (cr_out slr) (all_outs node) ≤ count_by (asks_with slr) (firsts_of node)
+meets_so : (f : Firsts) (i number : ℕ) (e : Event) (node : NodeState) → f i ≡ firsts_of (after_event number e node) → Makes f i node e → NodeNames f i node → AsksSo node → AsksSo (after_event number e node)
+meets_so f i number e node is makes names so =
+    each_more (lane_of node.head 0) [] node.journal (entry_of number e node) so (λ slr. event_asks f i slr e node (is ∙ firsts_met number e node) makes names)
 
-meets_within : (f : Firsts) (i number : ℕ) (e : Event) (node : NodeState) → f i ≡ firsts_of (after_event number e node) → Makes f i node e → NodeNames f i node → AsksWithin node → AsksWithin (after_event number e node)
-meets_within f i number e node is makes names within slr =
-    let outs : all_outs (after_event number e node) ≡ all_outs node ++ outputs_of e node =
-    flat_map-append (λ (x : Entry). x.outs) node.journal (entry_of number e node ∷ []) ∙ ap (λ more. all_outs node ++ more) (append-nil (outputs_of e node)) in
-    let one : count_by (cr_out slr) (all_outs (after_event number e node)) ≡ count_by (cr_out slr) (all_outs node) + count_by (cr_out slr) (outputs_of e node) =
-    ap (count_by (cr_out slr)) outs ∙ count_joined (cr_out slr) (all_outs node) (outputs_of e node) in
-    let two : count_by (asks_with slr) (firsts_of (after_event number e node)) ≡ count_by (asks_with slr) (firsts_of node) + count_by (asks_with slr) (new_firsts (opened_by e node)) =
-    ap (count_by (asks_with slr)) (firsts_met number e node) ∙ count_joined (asks_with slr) (firsts_of node) (new_firsts (opened_by e node)) in
-    omega (arith, one, two, within slr, event_asks f i slr e node (is ∙ firsts_met number e node) makes names)
-
-changed_within : (f : Firsts) (i : ℕ) (change : Change) (node : NodeState) → f i ≡ firsts_of (changed change node) → MeetsSo f i node change → NodeNames f i node → AsksWithin node → AsksWithin (changed change node)
-changed_within f i stays node is so names within = within
-changed_within f i (meets number e) node is so names within = meets_within f i number e node is so names within
-changed_within f i (gives true) node is so names within = within
-changed_within f i (gives false) node is so names within = within
+changed_so : (f : Firsts) (i : ℕ) (change : Change) (node : NodeState) → f i ≡ firsts_of (changed change node) → MeetsSo f i node change → NodeNames f i node → AsksSo node → AsksSo (changed change node)
+changed_so f i stays node is makes names so = so
+changed_so f i (meets number e) node is makes names so = meets_so f i number e node is makes names so
+changed_so f i (gives true) node is makes names so = so
+changed_so f i (gives false) node is makes names so = so
 
 record IsAsking (n : ℕ) (r : RunState) : Type 0 where
   referred : IsReferred n r
-  within : (i : ℕ) → 1 ≤ i → i ≤ n → AsksWithin (node_at i r.nodes)
+  each : (i : ℕ) → 1 ≤ i → i ≤ n → AsksSo (node_at i r.nodes)
 
 asking_kept : (n : ℕ) → 2 ≤ n → (r : RunState) (step : Step) → IsTrue (is_step n step) → IsAsking n r → IsAsking n (after_step r step)
 asking_kept n two r step is asking = record {
   referred = referred_kept n two r step is asking.referred;
-  within = λ i least most.
+  each = λ i least most.
       let g = firsts_in (after_step r step) in
       let after = node_changed n i r step two is least (subst (λ k. i ≤ k) (sym asking.referred.row.nodes.long) most) in
-      subst AsksWithin (sym after)
-      (changed_within g i (change_by r step i) (node_at i r.nodes) (ap firsts_of after) (step_so n i r step two is asking.referred)
-      (names_more (firsts_in r) g i (step_grows r step) (node_at i r.nodes) (asking.referred.names i least most)) (asking.within i least most));
+      subst AsksSo (sym after)
+      (changed_so g i (change_by r step i) (node_at i r.nodes) (ap firsts_of after) (step_so n i r step two is asking.referred)
+      (names_more (firsts_in r) g i (step_grows r step) (node_at i r.nodes) (asking.referred.names i least most)) (asking.each i least most));
 }
 
 asking_begins : (n : ℕ) → IsAsking n (start n)
 asking_begins n = record {
   referred = referred_begins n;
-  within = λ i least most. subst AsksWithin (sym (first_is n i least most)) (λ slr. omega arith);
+  each = λ i least most. subst AsksSo (sym (first_is n i least most)) tt;
 }
 
 is_asking : (n : ℕ) (steps : List Step) → 2 ≤ n → AreSteps n steps → IsAsking n (run_of n steps)
@@ -342,12 +371,63 @@ cr_comes_once n i slr forward steps are two least most t fresh =
     let sent : List Event = sent_by i (neighbour forward i) one in
     let arrived : count_by (is_cr_from i slr) events ≡ count_by (is_cr_from i slr) (take (given_of forward one) sent) =
     count_kept (is_from i) (is_cr_from i slr) events (cr_is_from i slr) ∙ ap (count_by (is_cr_from i slr)) link.first in
+    let asks : count_by (cr_out slr) (all_outs one.journal) + 0 ≤ count_by (asks_with slr) (firsts_of one) = asks_along slr (lane_of one.head 0) [] one.journal (asking.each i least most) in
     omega (
       arith,
       arrived,
       count_first (is_cr_from i slr) (given_of forward one) sent,
       all_fewer i slr sent,
       journal_count slr i (neighbour forward i) one.journal,
-      asking.within i least most slr,
+      asks,
       asks_once slr (firsts_of one) (run_fresh r i least (subst (λ k. i ≤ k) (sym asking.referred.row.nodes.long) most) fresh),
+    )
+
+-- The entry that opened a section sends its CR alone.
+
+none_counted : {A : Type 0} (p : A → Bool) (xs : List A) → count_by p xs ≡ 0 → AllByRecursion (λ x. p x ≡ true → ⊥) xs
+none_counted p [] none = tt
+none_counted p (x ∷ xs) none =
+    let all : one_if (p x) + count_by p xs ≡ 0 = sym (count_cons p x xs) ∙ none in
+    (λ is. one_at_least (count_by p xs) (subst (λ b. one_if b + count_by p xs ≡ 0) is all), none_counted p xs (omega (arith, all)))
+  where
+    one_at_least : (k : ℕ) → 1 + k ≡ 0 → ⊥
+    one_at_least k none = omega (arith, none)
+
+-- none of these messages is CR with this source
+abbrev pub IsNoCr : ℕ → ℕ → Event → Type 0
+IsNoCr i slr event = is_cr_from i slr event ≡ true → ⊥
+
+abbrev pub sent_among : ℕ → ℕ → List Entry → List Event
+sent_among own to journal = flat_map (λ (e : Entry). messages_in own to e.outs) journal
+
+no_cr_among : (i to slr : ℕ) (journal : List Entry) → count_by (cr_out slr) (all_outs journal) ≡ 0 → AllByRecursion (IsNoCr i slr) (sent_among i to journal)
+no_cr_among i to slr journal none =
+    none_counted (is_cr_from i slr) (sent_among i to journal) (omega (arith, none, all_fewer i slr (sent_among i to journal), journal_count slr i to journal))
+
+pub cr_is_of_opening : (n i to p slr : ℕ) (steps : List Step) (before since : List Entry) (by : Entry) (c : Connection) → AreSteps n steps → 2 ≤ n → 1 ≤ i → i ≤ n → (let r = run_of n steps in
+    let node = node_at i r.nodes in
+    let lane = lane_of node.head 0 in
+    all_fresh r ≡ true → node.journal ≡ before ++ by ∷ since → opened_at lane (openings_from lane [] before) by ≡ Some c → IsTo p slr c.that →
+    AllByRecursion (IsNoCr i slr) (sent_among i to before) × AllByRecursion (IsNoCr i slr) (sent_among i to since))
+cr_is_of_opening n i to p slr steps before since by c are two least most fresh journal opens asks =
+    let r = run_of n steps in
+    let node = node_at i r.nodes in
+    let lane = lane_of node.head 0 in
+    let asking = is_asking n steps two are in
+    let early = openings_from lane [] before in
+    let later = openings_after lane early by.event (answer_of by) in
+    let last = openings_from lane later since in
+    let parts = each_parts lane [] before (by ∷ since) (subst (EachAsks lane []) journal (asking.each i least most)) in
+    let first : count_by (cr_out slr) (all_outs before) + 0 ≤ count_by (asks_with slr) (all_firsts early) = asks_along slr lane [] before parts.0 in
+    let rest : count_by (cr_out slr) (all_outs since) + count_by (asks_with slr) (all_firsts later) ≤ count_by (asks_with slr) (all_firsts last) = asks_along slr lane later since parts.1.1 in
+    let new : count_by (asks_with slr) (all_firsts later) ≡ count_by (asks_with slr) (all_firsts early) + 1 =
+    ap (count_by (asks_with slr)) (firsts_after lane early by)
+    ∙ (count_joined (asks_with slr) (all_firsts early) (new_firsts (opened_at lane early by))
+    ∙ (ap (λ o. count_by (asks_with slr) (all_firsts early) + count_by (asks_with slr) (new_firsts o)) opens
+    ∙ ap (λ b. count_by (asks_with slr) (all_firsts early) + (0 + one_if b)) (asking_to p slr c asks))) in
+    let whole : firsts_of node ≡ all_firsts last = ap (λ entries. all_firsts (openings_from lane [] entries)) journal ∙ ap all_firsts (openings_joined lane [] before (by ∷ since)) in
+    let once : count_by (asks_with slr) (all_firsts last) ≤ 1 =
+    subst (λ firsts. count_by (asks_with slr) firsts ≤ 1) whole (asks_once slr (firsts_of node) (run_fresh r i least (subst (λ k. i ≤ k) (sym asking.referred.row.nodes.long) most) fresh)) in (
+      no_cr_among i to slr before (omega (arith, first, rest, new, once)),
+      no_cr_among i to slr since (omega (arith, rest, new, once)),
     )

@@ -1,5 +1,5 @@
 -- CR goes to the next node.
-use Rattle.std.proofs.Common.{◌≡◌, ℕ, ◌≤◌, ◌+◌, ◌-◌, ◌/◌, ◌%◌, ◌==◌, ◌||◌, not, nat_lt, Bool, true, false, List, [], ◌∷◌, length, if◌then◌else◌, Option, Some, None, IfSome, Result, Ok, Err, IfOk, IsTrue, refl, sym, subst, ap, ◌∙◌, eq-eqb}
+use Rattle.std.proofs.Common.{◌≡◌, ℕ, ◌≤◌, ◌<◌, ◌+◌, ◌-◌, ◌/◌, ◌%◌, ◌==◌, ◌||◌, not, nat_lt, Bool, true, false, List, [], ◌∷◌, length, if◌then◌else◌, Option, Some, None, IfSome, Result, Ok, Err, IfOk, IsTrue, refl, sym, subst, ap, ◌∙◌, eq-eqb, ltb-true}
 use Rattle.std.specs.Prelude.{nat_eq, slice_index, slice_get, drop}
 use Rattle.std.specs.List.{AllByRecursion}
 use Rattle.std.proofs.lemmas.Bool.{false≢true, and_parts}
@@ -53,69 +53,70 @@ use Rattle.row_law.proofs.Growing.{opened_by, new_firsts, firsts_met}
 
 -- Routing leads on.
 
-abbrev LeadsTo : ℕ → Answer → Type 0
-LeadsTo next (Local ssn) = Unit {0}
-LeadsTo next (Forward point rewrite hop) = point ≡ next
-LeadsTo next (Refused cause local) = Unit {0}
+-- from node i of n to the next node
+abbrev LeadsOn : ℕ → ℕ → Answer → Type 0
+LeadsOn n i (Local ssn) = Unit {0}
+LeadsOn n i (Forward point rewrite hop) = (point ≡ i + 1) × (i < n)
+LeadsOn n i (Refused cause local) = Unit {0}
 
-entity_leads : (p : RoutingData) (hop : Option ℕ) (e : Entity) (next : ℕ) → e.point ≡ next → LeadsTo next (entity_answer p hop e)
+entity_leads : (n i : ℕ) (p : RoutingData) (hop : Option ℕ) (e : Entity) → e.point ≡ i + 1 → i < n → LeadsOn n i (entity_answer p hop e)
 unfolding entity_answer
-entity_leads p hop e next same = by_available (availability_of p e) refl
+entity_leads n i p hop e same less = by_available (availability_of p e) refl
   where
-    by_available : (r : Result (Unit {0}) RouteCause) → availability_of p e ≡ r → LeadsTo next (entity_answer p hop e)
-    by_available (Ok available) is = rw is (either (LeadsTo next) (e.point == p.own) _ _ (λ _. tt) (λ _. same))
+    by_available : (r : Result (Unit {0}) RouteCause) → availability_of p e ≡ r → LeadsOn n i (entity_answer p hop e)
+    by_available (Ok available) is = rw is (either (LeadsOn n i) (e.point == p.own) _ _ (λ _. tt) (λ _. (same, less)))
     by_available (Err cause) is = rw is tt
 
-row_leads : (p : RoutingData) (hop : Option ℕ) (next : ℕ) (n : ℕ) → LeadsTo next (row_answer p hop (row_to n next))
-row_leads p None next n = entity_leads p None (row_to n next).first next refl
-row_leads p (Some hop) next n =
-    either (LeadsTo next) (nat_lt hop 2 || nat_lt MOST_HOPS hop) _ _ (λ _. tt) (λ _. entity_leads p (Some (hop - 1)) (row_to n next).first next refl)
+row_leads : (n i : ℕ) (p : RoutingData) (hop : Option ℕ) → i < n → LeadsOn n i (row_answer p hop (row_to n (i + 1)))
+row_leads n i p None less = entity_leads n i p None (row_to n (i + 1)).first refl less
+row_leads n i p (Some hop) less =
+    either (LeadsOn n i) (nat_lt hop 2 || nat_lt MOST_HOPS hop) _ _ (λ _. tt) (λ _. entity_leads n i p (Some (hop - 1)) (row_to n (i + 1)).first refl less)
 
-abbrev IsRowTo : ℕ → ℕ → Found → Type 0
-IsRowTo n next no_selector = Unit {0}
-IsRowTo n next no_prefix = Unit {0}
-IsRowTo n next (found row) = row ≡ row_to n next
+abbrev IsRowOn : ℕ → ℕ → Found → Type 0
+IsRowOn n i no_selector = Unit {0}
+IsRowOn n i no_prefix = Unit {0}
+IsRowOn n i (found row) = (row ≡ row_to n (i + 1)) × (i < n)
 
-one_row : (n next : ℕ) (s : Selector) (digits : List ℕ) → IsRowTo n next (translation_of (row_to n next ∷ []) s digits)
+one_row : (n i : ℕ) (s : Selector) (digits : List ℕ) → i < n → IsRowOn n i (translation_of (row_to n (i + 1) ∷ []) s digits)
 unfolding translation_of
-one_row n next s digits = either (IsRowTo n next) (has_selector s (row_to n next ∷ [])) _ _ (λ _. by_match (is_match s digits (row_to n next))) (λ _. tt)
+one_row n i s digits less = either (IsRowOn n i) (has_selector s (row_to n (i + 1) ∷ [])) _ _ (λ _. by_match (is_match s digits (row_to n (i + 1)))) (λ _. tt)
   where
-    by_match : (b : Bool) → IsRowTo n next (found_row (longer (if b then Some (row_to n next) else None) None))
-    by_match true = refl
+    by_match : (b : Bool) → IsRowOn n i (found_row (longer (if b then Some (row_to n (i + 1)) else None) None))
+    by_match true = (refl, less)
     by_match false = tt
 
-no_row : (n next : ℕ) (s : Selector) (digits : List ℕ) → IsRowTo n next (translation_of [] s digits)
+no_row : (n i : ℕ) (s : Selector) (digits : List ℕ) → IsRowOn n i (translation_of [] s digits)
 unfolding translation_of
-no_row n next s digits = tt
+no_row n i s digits = tt
 
-found_leads : (p : RoutingData) (hop : Option ℕ) (n next : ℕ) (f : Found) → IsRowTo n next f → LeadsTo next (found_answer p hop f)
-found_leads p hop n next no_selector is = tt
-found_leads p hop n next no_prefix is = tt
-found_leads p hop n next (found row) is = subst (λ r. LeadsTo next (row_answer p hop r)) (sym is) (row_leads p hop next n)
+found_leads : (n i : ℕ) (p : RoutingData) (hop : Option ℕ) (f : Found) → IsRowOn n i f → LeadsOn n i (found_answer p hop f)
+found_leads n i p hop no_selector is = tt
+found_leads n i p hop no_prefix is = tt
+found_leads n i p hop (found row) is = subst (λ r. LeadsOn n i (row_answer p hop r)) (sym is.0) (row_leads n i p hop is.1)
 
-title_leads : (n i : ℕ) (title : TitleForm) (hop : Option ℕ) → LeadsTo (i + 1) (title_answer (routing_of n i) title hop)
+title_leads : (n i : ℕ) (title : TitleForm) (hop : Option ℕ) → LeadsOn n i (title_answer (routing_of n i) title hop)
 unfolding title_answer
 title_leads n i title hop = by_dialled (dialled_of title) refl
   where
-    rows : (s : Selector) (digits : List ℕ) → IsRowTo n (i + 1) (translation_of (rows_of n i) s digits)
-    rows s digits = either (λ (rows : List Row). IsRowTo n (i + 1) (translation_of rows s digits)) (nat_lt i n) _ _ (λ _. one_row n (i + 1) s digits) (λ _. no_row n (i + 1) s digits)
+    rows : (s : Selector) (digits : List ℕ) → IsRowOn n i (translation_of (rows_of n i) s digits)
+    rows s digits = either (λ (rows : List Row). IsRowOn n i (translation_of rows s digits)) (nat_lt i n) _ _ (λ less. one_row n i s digits (ltb-true i n less)) (λ _. no_row n i s digits)
 
-    by_dialled : (d : Option (Selector × List ℕ)) → dialled_of title ≡ d → LeadsTo (i + 1) (title_answer (routing_of n i) title hop)
+    by_dialled : (d : Option (Selector × List ℕ)) → dialled_of title ≡ d → LeadsOn n i (title_answer (routing_of n i) title hop)
     by_dialled None is = rw is tt
-    by_dialled (Some d) is = rw is (found_leads (routing_of n i) hop n (i + 1) (translation_of (rows_of n i) d.0 d.1) (rows d.0 d.1))
+    by_dialled (Some d) is = rw is (found_leads n i (routing_of n i) hop (translation_of (rows_of n i) d.0 d.1) (rows d.0 d.1))
 
-local_leads : (p : RoutingData) (ssn next : ℕ) → LeadsTo next (local_answer p ssn)
+local_leads : (n i : ℕ) (p : RoutingData) (ssn : ℕ) → LeadsOn n i (local_answer p ssn)
 unfolding local_answer
-local_leads p ssn next = either (LeadsTo next) (not (is_among ssn p.users)) _ _ (λ _. tt) (λ _. either (LeadsTo next) (is_among ssn p.out_of_service) _ _ (λ _. tt) (λ _. tt))
+local_leads n i p ssn = either (LeadsOn n i) (not (is_among ssn p.users)) _ _ (λ _. tt) (λ _. either (LeadsOn n i) (is_among ssn p.out_of_service) _ _ (λ _. tt) (λ _. tt))
 
-network_leads : (n i : ℕ) (a : Form) (hop : Option ℕ) → LeadsTo (i + 1) (route_of (routing_of n i) a hop Network)
+network_leads : (n i : ℕ) (a : Form) (hop : Option ℕ) → LeadsOn n i (route_of (routing_of n i) a hop Network)
 unfolding route_of ssn_answer
-network_leads n i a hop = either (LeadsTo (i + 1)) a.on_ssn _ _ (λ _. local_leads (routing_of n i) _ (i + 1)) (λ _. title_leads n i a.title hop)
+network_leads n i a hop = either (LeadsOn n i) a.on_ssn _ _ (λ _. local_leads n i (routing_of n i) _) (λ _. title_leads n i a.title hop)
 
-user_leads : (n i : ℕ) (a : Form) → a.on_ssn ≡ false → LeadsTo (i + 1) (route_of (routing_of n i) a None FromUser)
+user_leads : (n i : ℕ) (a : Form) → a.on_ssn ≡ false → LeadsOn n i (route_of (routing_of n i) a None FromUser)
 unfolding route_of
 user_leads n i a off =
-    either (LeadsTo (i + 1)) a.on_ssn _ _ (λ on. absurd (false≢true (sym off ∙ on))) (λ _. title_leads n i a.title None)
+    either (LeadsOn n i) a.on_ssn _ _ (λ on. absurd (false≢true (sym off ∙ on))) (λ _. title_leads n i a.title None)
 
 -- The titles that users call.
 
@@ -152,65 +153,66 @@ IsOfTitle (by_cr w) = Unit {0}
 IsOfTitle (by_user ssn tag w) = w.called ≡ title_address
 IsOfTitle no_wish = Unit {0}
 
-abbrev AnswerLeads : ℕ → Option Answer → Type 0
-AnswerLeads next answer = IfSome answer (LeadsTo next)
+abbrev AnswerLeads : ℕ → ℕ → Option Answer → Type 0
+AnswerLeads n i answer = IfSome answer (LeadsOn n i)
 
-wish_leads : (n i : ℕ) (wish : Wish) → IsOfTitle wish → AnswerLeads (i + 1) (answer_in (asked_at 0 (routing_of n i) (question_of wish)))
+wish_leads : (n i : ℕ) (wish : Wish) → IsOfTitle wish → AnswerLeads n i (answer_in (asked_at 0 (routing_of n i) (question_of wish)))
 unfolding question_of
-wish_leads n i (by_cr w) of = either (λ (q : Option Question). AnswerLeads (i + 1) (answer_in (asked_at 0 (routing_of n i) q))) (w.class == 2 || w.class == 3) _ _ (λ _. by_address (address_of w.called)) (λ _. tt)
+wish_leads n i (by_cr w) of = either (λ (q : Option Question). AnswerLeads n i (answer_in (asked_at 0 (routing_of n i) q))) (w.class == 2 || w.class == 3) _ _ (λ _. by_address (address_of w.called)) (λ _. tt)
   where
-    by_address : (r : Result Form AddressFault) → AnswerLeads (i + 1) (answer_in (asked_at 0 (routing_of n i) (asked_for w.hop Network r)))
+    by_address : (r : Result Form AddressFault) → AnswerLeads n i (answer_in (asked_at 0 (routing_of n i) (asked_for w.hop Network r)))
     by_address (Ok a) = network_leads n i a w.hop
     by_address (Err fault) = tt
 wish_leads n i (by_user ssn tag w) of = by_address (address_of w.called) (subst (λ octets. IsByTitle octets (address_of w.called)) of (on_ssn_read w.called))
   where
-    by_address : (r : Result Form AddressFault) → IsByTitle title_address r → AnswerLeads (i + 1) (answer_in (asked_at 0 (routing_of n i) (asked_for None FromUser r)))
+    by_address : (r : Result Form AddressFault) → IsByTitle title_address r → AnswerLeads n i (answer_in (asked_at 0 (routing_of n i) (asked_for None FromUser r)))
     by_address (Ok a) is = user_leads n i a is
     by_address (Err fault) is = tt
 wish_leads n i no_wish of = tt
 
 -- What is opened goes where the answer leads.
 
-abbrev OpensOn : ℕ → Opened → Type 0
-OpensOn next o = IfSome o.connection (λ c. IsOnward next c.that)
+abbrev OpensOn : ℕ → ℕ → Opened → Type 0
+OpensOn n i o = IfSome o.connection (λ c. IsOnward n i c.that)
 
-through_on : (next : ℕ) (terms : Terms) (w : Wanted) (rewrite : Rewrite) (hop : Option ℕ) (refs : List ℕ) → OpensOn next (opened_through terms w next rewrite hop refs)
-through_on next terms w rewrite hop [] = tt
-through_on next terms w rewrite hop (mine ∷ []) = tt
-through_on next terms w rewrite hop (mine ∷ other ∷ refs) = refl
+through_on : (n i : ℕ) (terms : Terms) (w : Wanted) (rewrite : Rewrite) (hop : Option ℕ) (refs : List ℕ) → i < n → OpensOn n i (opened_through terms w (i + 1) rewrite hop refs)
+through_on n i terms w rewrite hop [] less = tt
+through_on n i terms w rewrite hop (mine ∷ []) less = tt
+through_on n i terms w rewrite hop (mine ∷ other ∷ refs) less = (refl, less)
 
-by_cr_on : (next : ℕ) (terms : Terms) (w : Wanted) (answer : Answer) (refs : List ℕ) → LeadsTo next answer → OpensOn next (opened_by_cr terms w answer refs)
+by_cr_on : (n i : ℕ) (terms : Terms) (w : Wanted) (answer : Answer) (refs : List ℕ) → LeadsOn n i answer → OpensOn n i (opened_by_cr terms w answer refs)
 unfolding opened_by_cr
-by_cr_on next terms w (Refused cause local) refs leads = tt
-by_cr_on next terms w (Local ssn) [] leads = tt
-by_cr_on next terms w (Local ssn) (mine ∷ refs) leads = tt
-by_cr_on next terms w (Forward point rewrite hop) refs leads =
-    either (OpensOn next) (fits w rewrite hop) _ _ (λ _. subst (λ p. OpensOn p (opened_through terms w point rewrite hop refs)) leads (through_on point terms w rewrite hop refs)) (λ _. tt)
+by_cr_on n i terms w (Refused cause local) refs leads = tt
+by_cr_on n i terms w (Local ssn) [] leads = tt
+by_cr_on n i terms w (Local ssn) (mine ∷ refs) leads = tt
+by_cr_on n i terms w (Forward point rewrite hop) refs leads =
+    either (OpensOn n i) (fits w rewrite hop) _ _
+    (λ _. subst (λ p. OpensOn n i (opened_through terms w p rewrite hop refs)) (sym leads.0) (through_on n i terms w rewrite hop refs leads.1)) (λ _. tt)
 
-by_user_on : (next : ℕ) (terms : Terms) (ssn tag : ℕ) (w : Wanted) (answer : Answer) (refs : List ℕ) → LeadsTo next answer → OpensOn next (opened_by_user terms ssn tag w answer refs)
+by_user_on : (n i : ℕ) (terms : Terms) (ssn tag : ℕ) (w : Wanted) (answer : Answer) (refs : List ℕ) → LeadsOn n i answer → OpensOn n i (opened_by_user terms ssn tag w answer refs)
 unfolding opened_by_user
-by_user_on next terms ssn tag w (Refused cause local) refs leads = tt
-by_user_on next terms ssn tag w (Local other) refs leads = tt
-by_user_on next terms ssn tag w (Forward point rewrite hop) [] leads = tt
-by_user_on next terms ssn tag w (Forward point rewrite hop) (mine ∷ refs) leads = leads
+by_user_on n i terms ssn tag w (Refused cause local) refs leads = tt
+by_user_on n i terms ssn tag w (Local other) refs leads = tt
+by_user_on n i terms ssn tag w (Forward point rewrite hop) [] leads = tt
+by_user_on n i terms ssn tag w (Forward point rewrite hop) (mine ∷ refs) leads = leads
 
-opened_on : (next : ℕ) (terms : Terms) (wish : Wish) (answer : Option Answer) (refs : List ℕ) → AnswerLeads next answer → OpensOn next (opened terms wish answer refs)
+opened_on : (n i : ℕ) (terms : Terms) (wish : Wish) (answer : Option Answer) (refs : List ℕ) → AnswerLeads n i answer → OpensOn n i (opened terms wish answer refs)
 unfolding opened
-opened_on next terms (by_cr w) (Some answer) refs leads = by_cr_on next terms w answer refs leads
-opened_on next terms (by_cr w) None refs leads = tt
-opened_on next terms (by_user ssn tag w) (Some answer) refs leads = by_user_on next terms ssn tag w answer refs leads
-opened_on next terms (by_user ssn tag w) None refs leads = tt
-opened_on next terms no_wish answer refs leads = tt
+opened_on n i terms (by_cr w) (Some answer) refs leads = by_cr_on n i terms w answer refs leads
+opened_on n i terms (by_cr w) None refs leads = tt
+opened_on n i terms (by_user ssn tag w) (Some answer) refs leads = by_user_on n i terms ssn tag w answer refs leads
+opened_on n i terms (by_user ssn tag w) None refs leads = tt
+opened_on n i terms no_wish answer refs leads = tt
 
-new_on : (n i : ℕ) (e : Event) (node : NodeState) → node.routing ≡ routing_of n i → IsOfTitle (wish_of node.head.terms e) → AllByRecursion (λ (c : Connection). IsOnward (i + 1) c.that) (new_firsts (opened_by e node))
+new_on : (n i : ℕ) (e : Event) (node : NodeState) → node.routing ≡ routing_of n i → IsOfTitle (wish_of node.head.terms e) → AllByRecursion (λ (c : Connection). IsOnward n i c.that) (new_firsts (opened_by e node))
 new_on n i e node routing of =
-    by_connection (opened_by e node) (opened_on (i + 1) node.head.terms wish (answer_of (entry_of 0 e node)) (lowest_free (lane_of node.head 0) (openings_of node) (slots_needed wish (answer_of (entry_of 0 e node))))
-    (subst (λ p. AnswerLeads (i + 1) (answer_in (asked_at 0 p (question_of wish)))) (sym routing) (wish_leads n i wish of)))
+    by_connection (opened_by e node) (opened_on n i node.head.terms wish (answer_of (entry_of 0 e node)) (lowest_free (lane_of node.head 0) (openings_of node) (slots_needed wish (answer_of (entry_of 0 e node))))
+    (subst (λ p. AnswerLeads n i (answer_in (asked_at 0 p (question_of wish)))) (sym routing) (wish_leads n i wish of)))
   where
     wish : Wish
     wish = wish_of node.head.terms e
 
-    by_connection : (connection : Option Connection) → IfSome connection (λ c. IsOnward (i + 1) c.that) → AllByRecursion (λ (c : Connection). IsOnward (i + 1) c.that) (new_firsts connection)
+    by_connection : (connection : Option Connection) → IfSome connection (λ c. IsOnward n i c.that) → AllByRecursion (λ (c : Connection). IsOnward n i c.that) (new_firsts connection)
     by_connection None on = tt
     by_connection (Some c) on = (on, tt)
 
@@ -218,19 +220,19 @@ new_on n i e node routing of =
 
 record GoOn (n : ℕ) (r : RunState) : Type 0 where
   nodes : AreNodes n r
-  on : (i : ℕ) → 1 ≤ i → i ≤ n → AllByRecursion (λ (c : Connection). IsOnward (i + 1) c.that) (firsts_of (node_at i r.nodes))
+  on : (i : ℕ) → 1 ≤ i → i ≤ n → AllByRecursion (λ (c : Connection). IsOnward n i c.that) (firsts_of (node_at i r.nodes))
 
 abbrev WantsTitle : NodeState → Change → Type 0
 WantsTitle node stays = Unit {0}
 WantsTitle node (meets number e) = IsOfTitle (wish_of node.head.terms e)
 WantsTitle node (gives forward) = Unit {0}
 
-changed_on : (n i : ℕ) (change : Change) (node : NodeState) → node.routing ≡ routing_of n i → WantsTitle node change → AllByRecursion (λ (c : Connection). IsOnward (i + 1) c.that) (firsts_of node)
-    → AllByRecursion (λ (c : Connection). IsOnward (i + 1) c.that) (firsts_of (changed change node))
+changed_on : (n i : ℕ) (change : Change) (node : NodeState) → node.routing ≡ routing_of n i → WantsTitle node change → AllByRecursion (λ (c : Connection). IsOnward n i c.that) (firsts_of node)
+    → AllByRecursion (λ (c : Connection). IsOnward n i c.that) (firsts_of (changed change node))
 changed_on n i stays node routing wants on = on
 changed_on n i (meets number e) node routing wants on =
-    subst (AllByRecursion (λ (c : Connection). IsOnward (i + 1) c.that)) (sym (firsts_met number e node))
-    (all_joined (λ (c : Connection). IsOnward (i + 1) c.that) (firsts_of node) (new_firsts (opened_by e node)) on (new_on n i e node routing wants))
+    subst (AllByRecursion (λ (c : Connection). IsOnward n i c.that)) (sym (firsts_met number e node))
+    (all_joined (λ (c : Connection). IsOnward n i c.that) (firsts_of node) (new_firsts (opened_by e node)) on (new_on n i e node routing wants))
 changed_on n i (gives true) node routing wants on = on
 changed_on n i (gives false) node routing wants on = on
 
@@ -289,7 +291,7 @@ on_kept : (n : ℕ) → 2 ≤ n → (r : RunState) (step : Step) → IsTrue (is_
 on_kept n two r step is go = record {
   nodes = nodes_kept n two r step is go.nodes;
   on = λ i least most.
-      subst (λ (node : NodeState). AllByRecursion (λ (c : Connection). IsOnward (i + 1) c.that) (firsts_of node))
+      subst (λ (node : NodeState). AllByRecursion (λ (c : Connection). IsOnward n i c.that) (firsts_of node))
       (sym (node_changed n i r step two is least (subst (λ k. i ≤ k) (sym go.nodes.long) most)))
       (changed_on n i (change_by r step i) (node_at i r.nodes) (go.nodes.each i least most).routing (step_wants n i r step is) (go.on i least most));
 }
@@ -297,7 +299,7 @@ on_kept n two r step is go = record {
 on_begins : (n : ℕ) → GoOn n (start n)
 on_begins n = record {
   nodes = nodes_begin n;
-  on = λ i least most. subst (λ (node : NodeState). AllByRecursion (λ (c : Connection). IsOnward (i + 1) c.that) (firsts_of node)) (sym (first_is n i least most)) tt;
+  on = λ i least most. subst (λ (node : NodeState). AllByRecursion (λ (c : Connection). IsOnward n i c.that) (firsts_of node)) (sym (first_is n i least most)) tt;
 }
 
 pub all_go_on : AllGoOn

@@ -44,7 +44,7 @@ pub fn cr_comes_once()
     ensures { CrComesOnce }
 {}
 
-/// Each connection of a node goes on to the next node, or to a user: CR is never sent back.
+/// Each connection of a node goes on to the next node, or to a user: CR is never sent back, nor beyond the last node.
 #[tactic(auto, using(crate::proofs::Ways::all_go_on))]
 pub fn all_go_on()
     ensures { AllGoOn }

@@ -26,17 +26,18 @@ use Rattle.passing_law.proofs.Placing.{along_place}
 use Rattle.passing_law.proofs.Passing.{first_true}
 use Rattle.hop_law.specs.LeftAlong.{outs_along}
 use Rattle.hop_law.proofs.Along.{AllHear, all_hear}
+use Rattle.reset_law.specs.Answering.{NoneBringsRsr}
 use Rattle.chain_step.specs.declared.step.Step.{Step}
 use Rattle.chain_step.specs.Fresh.{all_fresh}
 use Rattle.chain_step.specs.Run.{RunState, head_of, node_at, run_of}
 use Rattle.row_law.specs.Nodes.{AreSteps, IsNode}
 use Rattle.hop_law.proofs.Lists.{all_joined}
 use Rattle.row_law.proofs.Standing.{are_nodes}
-use Rattle.trail_law.specs.Trails.{Leg, IsLeg, heard_on, now_on, outs_on, AreLegs, is_user, last_of, IsTrail}
+use Rattle.trail_law.specs.Trails.{Leg, IsLeg, heard_on, now_on, outs_on, AreLegs, is_user, IsTrail, IsWhole, last_of}
 use Rattle.trail_law.specs.Hops.{AreNeighbours, RunHop, RunPlaces}
 use Rattle.trail_law.specs.Texts.{is_refusal, given_by, text_told, given_along, texts_among, given_on, told_on}
 use Rattle.trail_law.specs.Users.{AreToldOf, TextsCome, UnitsAreTold}
-use Rattle.trail_law.specs.Resets.{met_on, RunRsr}
+use Rattle.trail_law.specs.Resets.{met_on, RunRsr, RunEnds}
 use Rattle.trail_law.specs.TrailLaw.{TextsKeepOrder, OrderOfHops, NoneSendsRsr, CarryAlong, HopsKeepOrder}
 use Rattle.trail_law.proofs.Placing.{Stands}
 use Rattle.trail_law.proofs.Users.{is_owner}
@@ -144,18 +145,24 @@ crosses rsr n steps are two fresh =
       crosses = λ i one next least hop. rsr n i steps one next are two least (below n steps are two i one next hop) fresh hop;
     }
 
--- so no connection of a trail that reaches the other user sends RSC
+-- so no connection of a trail sends RSC, if no RSR comes to its last one from beyond
 trail_resets_none : RunRsr → (n : ℕ) (steps : List Step) (leg : Leg) (more : List Leg) → AreSteps n steps → 2 ≤ n → all_fresh (run_of n steps) ≡ true → IsTrail (run_of n steps) leg more
-    → is_user (last_of leg more).first.that ≡ true → NoneSendsRsr (leg ∷ more) → NoneResets (leg ∷ more)
-trail_resets_none rsr n steps leg more are two fresh trail user none =
-    none_resets (run_of n steps) (crosses rsr n steps are two fresh) 1 leg more (omega arith) trail.1 none (user_brings_none leg.first.this (met_on leg) trail.0) user
+    → (let last = last_of leg more in NoneBringsRsr last.first.that (met_on last)) → NoneSendsRsr (leg ∷ more) → NoneResets (leg ∷ more)
+trail_resets_none rsr n steps leg more are two fresh trail other none =
+    none_resets (run_of n steps) (crosses rsr n steps are two fresh) 1 leg more (omega arith) trail.1 none (user_brings_none leg.first.this (met_on leg) trail.0) other
+
+-- and none does to that of a whole trail
+last_brings_none : RunEnds → (n : ℕ) (steps : List Step) → AreSteps n steps → 2 ≤ n → all_fresh (run_of n steps) ≡ true → (i : ℕ) (leg : Leg) (more : List Leg) → 1 ≤ i → AreLegs (run_of n steps) i leg more
+    → IsWhole (run_of n steps) i leg more → (let last = last_of leg more in NoneBringsRsr last.first.that (met_on last))
+last_brings_none ends n steps are two fresh i leg [] least legs whole = ends n i steps leg are two least fresh legs whole
+last_brings_none ends n steps are two fresh i leg (next ∷ more) least legs whole = last_brings_none ends n steps are two fresh (i + 1) next more (omega arith) legs.2 whole
 
 pub texts_keep_order : RunHop → RunPlaces → RunRsr → TextsCome → UnitsAreTold → TextsKeepOrder
 texts_keep_order hops places rsr come told n steps are two leg more fresh trail user no_rsr =
     let r = run_of n steps in
-    let none : NoneResets (leg ∷ more) = trail_resets_none rsr n steps leg more are two fresh trail user no_rsr in
-    let k = carries hops places n steps are two fresh in
     let last = last_of leg more in
+    let none : NoneResets (leg ∷ more) = trail_resets_none rsr n steps leg more are two fresh trail (user_brings_none last.first.that (met_on last) user) no_rsr in
+    let k = carries hops places n steps are two fresh in
     let first_is : IsAt r leg = record { node = 1; least = omega arith; leg_at = first_leg r 1 leg more trail.1; none = none.0 } in
     let last_is = last_at r 1 leg more (omega arith) trail.1 none in
     let put = along_place USUAL_TICKS leg.first (heard_on leg) in
@@ -172,9 +179,10 @@ carry_along r k i leg (next ∷ more) least legs none =
     let hop : AreNeighbours r i leg next = record { here = legs.0; there = first_leg r (i + 1) next more legs.2; follows = legs.1 } in
     (k.hops i leg next least hop none.0 none.1.0, carry_along r k (i + 1) next more (omega arith) legs.2 none.1)
 
-hops_keep_order : RunHop → RunPlaces → RunRsr → HopsKeepOrder
-hops_keep_order hops places rsr n steps are two leg more fresh trail user no_rsr =
-    carry_along (run_of n steps) (carries hops places n steps are two fresh) 1 leg more (omega arith) trail.1 (trail_resets_none rsr n steps leg more are two fresh trail user no_rsr)
+hops_keep_order : RunHop → RunPlaces → RunRsr → RunEnds → HopsKeepOrder
+hops_keep_order hops places rsr ends n steps are two leg more fresh trail whole no_rsr =
+    carry_along (run_of n steps) (carries hops places n steps are two fresh) 1 leg more (omega arith) trail.1
+    (trail_resets_none rsr n steps leg more are two fresh trail (last_brings_none ends n steps are two fresh 1 leg more (omega arith) trail.1 whole) no_rsr)
 
 pub order_of_hops : OrderOfHops
-order_of_hops hops rsr = (texts_keep_order hops run_places rsr texts_come units_are_told, hops_keep_order hops run_places rsr)
+order_of_hops hops rsr ends = (texts_keep_order hops run_places rsr texts_come units_are_told, hops_keep_order hops run_places rsr ends)

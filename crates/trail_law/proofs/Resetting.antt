@@ -89,14 +89,13 @@ pub record Crosses (r : RunState) : Type 0 where
   pub opens : (i : ℕ) (leg : Leg) → 1 ≤ i → IsLeg i (node_at i r.nodes) leg → list_any is_reset leg.by.outs ≡ false
   pub crosses : (i : ℕ) (one next : Leg) → 1 ≤ i → AreNeighbours r i one next → RsrCrosses one next
 
--- From a leg on, for whose asked end no RSR comes, to the leg of the other user.
+-- From a leg on, for whose asked end no RSR comes, to the last one, for whose other end none comes.
 pub none_resets : (r : RunState) → Crosses r → (i : ℕ) (leg : Leg) (more : List Leg) → 1 ≤ i → AreLegs r i leg more → NoneSendsRsr (leg ∷ more) → NoneBringsRsr leg.first.this (met_on leg)
-    → is_user (last_of leg more).first.that ≡ true → NoneResets (leg ∷ more)
-none_resets r k i leg [] least legs none asked user =
-    (leg_resets_none leg (k.opens i leg least legs) none.0 asked (user_brings_none leg.first.that (met_on leg) user), tt)
-none_resets r k i leg (next ∷ more) least legs none asked user =
+    → NoneBringsRsr (last_of leg more).first.that (met_on (last_of leg more)) → NoneResets (leg ∷ more)
+none_resets r k i leg [] least legs none asked other = (leg_resets_none leg (k.opens i leg least legs) none.0 asked other, tt)
+none_resets r k i leg (next ∷ more) least legs none asked other =
     let there = first_leg r (i + 1) next more legs.2 in
     let both = k.crosses i leg next least (record { here = legs.0; there = there; follows = legs.1 }) in (
       leg_resets_none leg (k.opens i leg least legs.0) none.0 asked (both.1 none.1.0),
-      none_resets r k (i + 1) next more (omega arith) legs.2 none.1 (both.0 none.0) user,
+      none_resets r k (i + 1) next more (omega arith) legs.2 none.1 (both.0 none.0) other,
     )

@@ -37,6 +37,7 @@ use Rattle.row_law.proofs.Freshness.{AreFresh, one_point, run_fresh}
 use Rattle.row_law.proofs.Ways.{all_go_on}
 use Rattle.trail_law.specs.Trails.{Leg, lane_at, IsLeg, now_on, heard_on}
 use Rattle.trail_law.specs.Hops.{StandsTo, RunPlaces}
+use Rattle.trail_law.proofs.Placing.{Stands}
 use Rattle.trail_law.proofs.Trailing.{references_at}
 
 -- What holds of each opening of a node holds of a leg at it.
@@ -141,7 +142,7 @@ wish_from terms point sls bytes = by_reading (reading_of bytes)
     by_reading (Err fault) = tt
 
 OpensFrom : ℕ → Opened → Type 0
-OpensFrom point o = IfSome o.connection (λ c. IsOnward point c.this)
+OpensFrom point o = IfSome o.connection (λ c. Stands point c.this)
 
 cr_from : (terms : Terms) (point : ℕ) (w : Wanted) (answer : Answer) (references : List ℕ) → w.point ≡ point → OpensFrom point (opened_by_cr terms w answer references)
 unfolding opened_by_cr OpensFrom
@@ -160,29 +161,33 @@ opened_from terms point (by_user ssn tag w) answer references from = absurd from
 opened_from terms point no_wish answer references from = tt
 
 asked_from : (terms : Terms) (point : ℕ) (event : Event) (answer : Option Answer) (references : List ℕ) (c : Connection) → IsFromPoint point event
-    → (opened terms (wish_of terms event) answer references).connection ≡ Some c → IsOnward point c.this
+    → (opened terms (wish_of terms event) answer references).connection ≡ Some c → Stands point c.this
 unfolding IsFromPoint OpensFrom
 asked_from terms point (Arrived from sls bytes) answer references c is opens =
-    subst (λ p. IsOnward p c.this) is
-    (subst (λ connection. IfSome connection (λ (d : Connection). IsOnward from d.this)) opens
+    subst (λ p. Stands p c.this) is
+    (subst (λ connection. IfSome connection (λ (d : Connection). Stands from d.this)) opens
     (opened_from terms from (wish_of terms (Arrived from sls bytes)) answer references (wish_from terms from sls bytes)))
 asked_from terms point (Requested ssn r) answer references c is opens = absurd is
 asked_from terms point Ticked answer references c is opens = absurd is
 
 -- An end now, and as it was opened.
 
-to_end : (point : ℕ) (e : End) (mine : ℕ) → IsOnward point e → reference_of e ≡ Some mine → IsTo point mine e
-to_end point (wire x) mine onward named = let same : x.head.mine ≡ mine = cc in (onward, same)
-to_end point (owner u) mine onward named = absurd (nothing named)
+to_end : (point : ℕ) (e : End) (mine : ℕ) → Stands point e → reference_of e ≡ Some mine → IsTo point mine e
+to_end point (wire x) mine stands named = let same : x.head.mine ≡ mine = cc in (stands, same)
+to_end point (owner u) mine stands named = absurd (nothing named)
   where
     nothing : None ≡ Some mine → ⊥
     nothing e = cc
 
-stands_to : (f : Firsts) (i point : ℕ) (first now : End) → AreFresh (f i) → ((mine : ℕ) → IsTo point mine first → Gave f i point mine) → StandsOn (IsSection f i) now → IsOnward point first
+stands_to : (f : Firsts) (i point : ℕ) (first now : End) → AreFresh (f i) → ((mine : ℕ) → IsTo point mine first → Gave f i point mine) → StandsOn (IsSection f i) now → Stands point first
     → reference_of now ≡ reference_of first → StandsTo point now
-stands_to f i point first (owner u) fresh gave stands onward same = tt
-stands_to f i point first (wire x) fresh gave stands onward same =
-    (one_point f i x.head.point point x.head.mine fresh stands.3 (gave x.head.mine (to_end point first x.head.mine onward (sym same))), stands.0)
+stands_to f i point first (owner u) fresh gave stands stood same = tt
+stands_to f i point first (wire x) fresh gave stands stood same =
+    (one_point f i x.head.point point x.head.mine fresh stands.3 (gave x.head.mine (to_end point first x.head.mine stood (sym same))), stands.0)
+
+onward_stands : (n i : ℕ) (e : End) → IsOnward n i e → Stands (i + 1) e
+onward_stands n i (wire x) onward = onward.0
+onward_stands n i (owner u) onward = tt
 
 -- A leg, at a node of a run in which no reference was given twice.
 record IsKnown (r : RunState) (i : ℕ) (leg : Leg) : Type 0 where
@@ -212,7 +217,7 @@ run_places n i steps one next are two least less fresh hop =
     let far = known n (i + 1) steps next are two (omega arith) (omega (arith, less)) fresh hop.there in
     let near_stays = following_stays USUAL_TICKS one.first (heard_on one) in
     let far_stays = following_stays USUAL_TICKS next.first (heard_on next) in
-    let onward = of_all (λ c. IsOnward (i + 1) c.that) one.first (f i) (all_go_on n i steps are two least (omega (arith, less))) near.among in
+    let onward = onward_stands n i one.first.that (of_all (λ c. IsOnward n i c.that) one.first (f i) (all_go_on n i steps are two least (omega (arith, less))) near.among) in
     let asked = asked_from (head_of (i + 1)).terms i next.by.event (answer_of next.by) (references_at (i + 1) next) next.first (sent_from i (i + 1) one.by.outs next.by.event [] hop.follows) hop.there.opens in (
       stands_to f i (i + 1) one.first.that (now_on one).that near.fresh (λ mine to. of_one (λ c. IsTo (i + 1) mine c.this ⊎ IsTo (i + 1) mine c.that) one.first (f i) (inr to) near.among) near.stand.1 onward
           near_stays.that.reference,

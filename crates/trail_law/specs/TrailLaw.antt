@@ -8,9 +8,9 @@ use Rattle.chain_step.specs.declared.step.Step.{Step}
 use Rattle.chain_step.specs.Fresh.{all_fresh}
 use Rattle.chain_step.specs.Run.{RunState, run_of}
 use Rattle.row_law.specs.Nodes.{AreSteps}
-use Rattle.trail_law.specs.Trails.{Leg, outs_on, is_user, IsTrail, last_of}
+use Rattle.trail_law.specs.Trails.{Leg, outs_on, is_user, IsTrail, IsWhole, last_of}
 use Rattle.trail_law.specs.Hops.{HopCarries, RunHop}
-use Rattle.trail_law.specs.Resets.{RunRsr}
+use Rattle.trail_law.specs.Resets.{RunRsr, RunEnds}
 use Rattle.trail_law.specs.Texts.{given_on, told_on}
 
 -- no connection of the trail sent RSR (Q.714, 3.7)
@@ -34,16 +34,20 @@ abbrev pub CarryAlong : RunState → ℕ → Leg → List Leg → Type 0
 CarryAlong r i leg [] = Unit {0}
 CarryAlong r i leg (next ∷ more) = HopCarries r i leg next × CarryAlong r (i + 1) next more
 
--- Of the same trails.
+-- Of each whole trail, as far as it goes.
 abbrev pub HopsAlong : RunState → Type 0
-HopsAlong r =
-    (leg : Leg) (more : List Leg) → all_fresh r ≡ true → IsTrail r leg more → is_user (last_of leg more).first.that ≡ true → NoneSendsRsr (leg ∷ more) →
-    CarryAlong r 1 leg more
+HopsAlong r = (leg : Leg) (more : List Leg) → all_fresh r ≡ true → IsTrail r leg more → IsWhole r 1 leg more → NoneSendsRsr (leg ∷ more) → CarryAlong r 1 leg more
 
 -- The law, of each run.
 abbrev pub HopsKeepOrder : Type 0
 HopsKeepOrder = (n : ℕ) (steps : List Step) → AreSteps n steps → 2 ≤ n → HopsAlong (run_of n steps)
 
--- Both follow from the law of one hop, and from where RSR comes from.
+-- A trail that reaches the other user is whole.
+abbrev pub UsersEndTrails : Type 0
+UsersEndTrails =
+    (n : ℕ) (steps : List Step) (leg : Leg) (more : List Leg) → AreSteps n steps → 2 ≤ n →
+    (let r = run_of n steps in IsTrail r leg more → is_user (last_of leg more).first.that ≡ true → IsWhole r 1 leg more)
+
+-- Both laws of order follow from the law of one hop, and from where RSR comes from.
 abbrev pub OrderOfHops : Type 0
-OrderOfHops = RunHop → RunRsr → TextsKeepOrder × HopsKeepOrder
+OrderOfHops = RunHop → RunRsr → RunEnds → TextsKeepOrder × HopsKeepOrder

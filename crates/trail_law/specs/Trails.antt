@@ -58,6 +58,11 @@ is_user (owner u) = true
 abbrev pub IsTrail : RunState → Leg → List Leg → Type 0
 IsTrail r leg more = (is_user leg.first.this ≡ true) × AreLegs r 1 leg more
 
+-- The trail goes no further than these legs: none at the next node follows the last of them.
+abbrev pub IsWhole : RunState → ℕ → Leg → List Leg → Type 0
+IsWhole r i leg [] = (next : Leg) → IsLeg (i + 1) (node_at (i + 1) r.nodes) next → IsNext i leg next → ⊥
+IsWhole r i leg (next ∷ more) = IsWhole r (i + 1) next more
+
 -- the leg at the last of these nodes
 abbrev pub last_of : Leg → List Leg → Leg
 last_of leg [] = leg

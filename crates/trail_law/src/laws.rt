@@ -19,7 +19,7 @@ pub fn run_places()
 {}
 
 /// Of the law of one hop, and of where RSR comes from, it follows that what a user is told along a trail are the first of the texts that the other user gave,
-/// and that what comes in at one node of it is what left at its neighbour.
+/// and that what comes in at one node of a whole trail is what left at its neighbour.
 pub fn order_of_hops()
     ensures { OrderOfHops }
 {}
