@@ -32,13 +32,14 @@ use Rattle.hop_law.proofs.Lists.{all_joined, each_filtered}
 use Rattle.chain_step.specs.Run.{NodeState, RunState, head_of, messages_in, neighbour, given_of, node_at}
 use Rattle.row_law.specs.Nodes.{IsNode}
 use Rattle.row_law.specs.Links.{is_from}
+use Rattle.row_law.specs.Fair.{AreStrange}
 use Rattle.row_law.proofs.Linking.{sent_by, Links}
 use Rattle.trail_law.specs.Trails.{Leg, lane_at, IsLeg, heard_on, now_on, outs_on, IsNext}
 use Rattle.trail_law.specs.Hops.{as_waiting, queue_of}
 use Rattle.trail_law.specs.Resets.{met_on}
 use Rattle.trail_law.proofs.Opening.{opens_outs}
 use Rattle.trail_law.proofs.Trailing.{references_at, is_legal}
-use Rattle.passage_law.proofs.Fair.{AllStrange, IsOfOthers, IsNotTo, ReferenceFits, sent_to, IsBeginning}
+use Rattle.passage_law.proofs.Fair.{IsOfOthers, IsNotTo, ReferenceFits, sent_to, IsBeginning}
 use Rattle.passage_law.proofs.Queue.{waiting_in}
 use Rattle.passage_law.proofs.Asking.{IsCr, Asks, IsAskedAs, opening_as, IsAskedBy, asked_by}
 use Rattle.passage_law.proofs.Waiting.{IsNoAnswer, IsWaiting, WaitsAfter, strange_as, waits_along}
@@ -79,40 +80,40 @@ IsStrangeEvent c Tick = Unit {0}
 abbrev AreStrangeEvents : Connection → List Event → Type 0
 AreStrangeEvents c events = AllByRecursion (IsStrangeEvent c) events
 
-as_events : (c : Connection) (events : List Event) → AllStrange c (flat_map as_waiting events) → AreStrangeEvents c events
+as_events : (c : Connection) (events : List Event) → AreStrange c (flat_map as_waiting events) → AreStrangeEvents c events
 as_events c [] strange = tt
 as_events c (Arrived from sls bytes ∷ events) strange = (strange.0, as_events c events strange.1)
 as_events c (Requested ssn r ∷ events) strange = (tt, as_events c events strange)
 as_events c (Tick ∷ events) strange = (tt, as_events c events strange)
 
-of_events : (c : Connection) (events : List Event) → AreStrangeEvents c events → AllStrange c (flat_map as_waiting events)
+of_events : (c : Connection) (events : List Event) → AreStrangeEvents c events → AreStrange c (flat_map as_waiting events)
 of_events c [] strange = tt
 of_events c (Arrived from sls bytes ∷ events) strange = (strange.0, of_events c events strange.1)
 of_events c (Requested ssn r ∷ events) strange = of_events c events strange.1
 of_events c (Tick ∷ events) strange = of_events c events strange.1
 
-sent_strange : (c : Connection) (own to : ℕ) (journal : List Entry) → AllStrange c (sent_to to journal) → AreStrangeEvents c (flat_map (λ (e : Entry). messages_in own to e.outs) journal)
+sent_strange : (c : Connection) (own to : ℕ) (journal : List Entry) → AreStrange c (sent_to to journal) → AreStrangeEvents c (flat_map (λ (e : Entry). messages_in own to e.outs) journal)
 sent_strange c own to [] strange = tt
 sent_strange c own to (entry ∷ journal) strange =
     let both = all_parts (λ (m : Waiting). IsStrange c (arrival_in m.bytes)) (messages_to to entry.outs) (sent_to to journal) strange in
     all_joined (IsStrangeEvent c) (messages_in own to entry.outs) (flat_map (λ (e : Entry). messages_in own to e.outs) journal)
-    (as_events c (messages_in own to entry.outs) (subst (AllStrange c) (sym (waiting_in own to entry.outs)) both.0)) (sent_strange c own to journal both.1)
+    (as_events c (messages_in own to entry.outs) (subst (AreStrange c) (sym (waiting_in own to entry.outs)) both.0)) (sent_strange c own to journal both.1)
 
-queue_strange : (c : Connection) (forward : Bool) (own to : ℕ) (node : NodeState) → node.head.terms.own ≡ own → neighbour forward own ≡ to → AllStrange c (sent_to to node.journal)
-    → AllStrange c (queue_of forward node)
+queue_strange : (c : Connection) (forward : Bool) (own to : ℕ) (node : NodeState) → node.head.terms.own ≡ own → neighbour forward own ≡ to → AreStrange c (sent_to to node.journal)
+    → AreStrange c (queue_of forward node)
 queue_strange c forward own to node is there strange =
     of_events c _
     (All-drop (IsStrangeEvent c) (given_of forward node) _
     (sent_strange c node.head.terms.own (neighbour forward node.head.terms.own) node.journal
-    (subst (λ k. AllStrange c (sent_to k node.journal)) (sym (ap (neighbour forward) is ∙ there)) strange)))
+    (subst (λ k. AreStrange c (sent_to k node.journal)) (sym (ap (neighbour forward) is ∙ there)) strange)))
 
 -- Of what came to the near node since its leg was opened, nothing answers.
 
-since_strange : (c : Connection) (i : ℕ) (near far : NodeState) (leg : Leg) → Links (i + 1) false far near → IsLeg i near leg → AllStrange c (sent_to i far.journal)
+since_strange : (c : Connection) (i : ℕ) (near far : NodeState) (leg : Leg) → Links (i + 1) false far near → IsLeg i near leg → AreStrange c (sent_to i far.journal)
     → AllByRecursion (λ (e : Entry). is_from (i + 1) e.event ≡ true → IsStrangeEvent c e.event) leg.since
 since_strange c i near far leg link at strange =
     let here : i + 1 - 1 ≡ i = omega arith in
-    let sent : AreStrangeEvents c (sent_by (i + 1) (i + 1 - 1) far) = sent_strange c (i + 1) (i + 1 - 1) far.journal (subst (λ k. AllStrange c (sent_to k far.journal)) (sym here) strange) in
+    let sent : AreStrangeEvents c (sent_by (i + 1) (i + 1 - 1) far) = sent_strange c (i + 1) (i + 1 - 1) far.journal (subst (λ k. AreStrange c (sent_to k far.journal)) (sym here) strange) in
     (leg_parts (λ (e : Entry). is_from (i + 1) e.event ≡ true → IsStrangeEvent c e.event) i near leg at (all_came (IsStrangeEvent c) (i + 1) false far near link sent)).1
 
 no_answer : (point : ℕ) (c : Connection) (event : Event) → (is_from point event ≡ false → IsElsewhere point c.that event) → (is_from point event ≡ true → IsStrangeEvent c event) → IsNoAnswer point c event
@@ -183,7 +184,7 @@ reference_below : (e : End) (x : Section) → e ≡ wire x → ReferenceFits e �
 reference_below e x is below = subst ReferenceFits is below
 
 -- strangeness hangs on the references alone
-pub all_as : (c d : Connection) (queue : List Waiting) → reference_of d.this ≡ reference_of c.this → reference_of d.that ≡ reference_of c.that → AllStrange c queue → AllStrange d queue
+pub all_as : (c d : Connection) (queue : List Waiting) → reference_of d.this ≡ reference_of c.this → reference_of d.that ≡ reference_of c.that → AreStrange c queue → AreStrange d queue
 all_as c d [] this that strange = tt
 all_as c d (m ∷ queue) this that strange = (strange_as c d (arrival_in m.bytes) this that strange.0, all_as c d queue this that strange.1)
 
@@ -273,7 +274,7 @@ begun_with n i r one next x near_own far_own begins is w opens asked same =
         subst (λ (c : Connection). IsApart asked.section.head c.that) (sym same)
             (not_to asked.section.head next.first.that (subst (λ k. IsNotTo k next.first.that) (sym asked.point) begins.apart.1)),
       );
-      forward = subst (λ c. AllStrange c (queue_of true near)) (sym same) (queue_strange next.first true i (i + 1) near near_own refl begins.forward);
+      forward = subst (λ c. AreStrange c (queue_of true near)) (sym same) (queue_strange next.first true i (i + 1) near near_own refl begins.forward);
       back = all_as one.first (now_on one) (queue_of false far) w.references.0 w.references.1 (queue_strange one.first false (i + 1) i far far_own (omega arith) begins.back);
     }
 

@@ -45,11 +45,13 @@ use Rattle.trail_law.specs.Resets.{met_on, RunEnds}
 use Rattle.trail_law.specs.TrailLaw.{UsersEndTrails}
 use Rattle.trail_law.proofs.Trailing.{within}
 use Rattle.trail_law.proofs.Resetting.{user_brings_none}
+use Rattle.trail_law.proofs.Openings.{leg_opening, leg_has, opened_leg}
+use Rattle.trail_law.proofs.Coming.{asked_came, is_from_cr}
+use Rattle.trail_law.proofs.Standing.{onward_of}
 use Rattle.passage_law.proofs.Fair.{IsOfOthers}
 use Rattle.passage_law.proofs.Asking.{Asks}
-use Rattle.passage_law.proofs.Openings.{leg_opening, leg_has, opened_leg}
 use Rattle.passage_law.proofs.Beginning.{leg_parts, all_came, leg_opens}
-use Rattle.passage_law.proofs.Joining.{asked_came, is_from_cr, none_back, onward_of}
+use Rattle.passage_law.proofs.Joining.{none_back}
 use Rattle.passage_law.proofs.Fairness.{all_elsewhere, behind}
 
 -- A section of the next node that a leg's section asked for belongs to a leg that follows.

@@ -6,24 +6,20 @@ use Rattle.relay_base.specs.declared.words.Event.{Event}
 use Rattle.relay_base.specs.declared.words.Output.{Output}
 use Rattle.plant_core.specs.declared.entry.Entry.{Entry}
 use Rattle.plant_core.specs.declared.terms.TheConstants.{USUAL_TICKS}
-use Rattle.section_model.specs.Parameters.{arrival_in}
 use Rattle.section_model.specs.Ends.{End, wire, owner, Connection}
 use Rattle.section_model.specs.Lane.{part_by, reference_of}
 use Rattle.hop_law.specs.Waiting.{Waiting, messages_to}
-use Rattle.hop_law.specs.Hop.{IsStrange, IsElsewhere}
+use Rattle.hop_law.specs.Hop.{IsElsewhere}
 use Rattle.chain_step.specs.declared.step.Step.{Step}
 use Rattle.chain_step.specs.Fresh.{all_fresh}
 use Rattle.chain_step.specs.Run.{NodeState, RunState, messages_in, outputs_of, node_at, run_of, after_step}
 use Rattle.chain_step.specs.Steps.{is_step}
 use Rattle.row_law.specs.Nodes.{AreSteps}
 use Rattle.row_law.specs.Links.{is_from}
+use Rattle.row_law.specs.Fair.{AreStrange}
 use Rattle.row_law.proofs.Changing.{meets, change_by}
 use Rattle.trail_law.specs.Trails.{Leg, now_on}
 use Rattle.trail_law.specs.Hops.{AreNeighbours}
-
--- each of these messages names no end of a connection, unless it answers what nobody heard
-abbrev pub AllStrange : Connection → List Waiting → Type 0
-AllStrange c queue = AllByRecursion (λ (m : Waiting). IsStrange c (arrival_in m.bytes)) queue
 
 -- A node meets an event. Of its outputs some are the part of the leg's connection; all others that go to the point of the hop's other node are strange to
 -- the connection there. And a message from elsewhere doesn't name the section to that node.
@@ -31,7 +27,7 @@ pub record IsMeeting (to : ℕ) (end : Connection → End) (node : NodeState) (l
   pub first : List Output
   pub then : List Output
   pub outs : outputs_of event node ≡ first ++ part_by USUAL_TICKS event (now_on leg) ++ then
-  pub strange : AllStrange there (messages_to to first) × AllStrange there (messages_to to then)
+  pub strange : AreStrange there (messages_to to first) × AreStrange there (messages_to to then)
   pub elsewhere : is_from to event ≡ false → IsElsewhere to (end leg.first) event
 
 -- an entry whose event isn't a message from a point is none for an end either
@@ -54,8 +50,8 @@ sent_to point journal = flat_map (λ (e : Entry). messages_to point e.outs) jour
 
 -- The far leg has just been opened, at node i + 1. All messages between the nodes, arrived or not, are strange to the connection at the other one.
 pub record IsBeginning (i : ℕ) (r : RunState) (one next : Leg) : Type 0 where
-  pub forward : AllStrange next.first (sent_to (i + 1) (node_at i r.nodes).journal)
-  pub back : AllStrange one.first (sent_to i (node_at (i + 1) r.nodes).journal)
+  pub forward : AreStrange next.first (sent_to (i + 1) (node_at i r.nodes).journal)
+  pub back : AreStrange one.first (sent_to i (node_at (i + 1) r.nodes).journal)
   pub elsewhere : AllByRecursion (IsOfOthers (i + 1) one.first.that) one.since
   pub apart : IsNotTo (i + 1) one.first.this × IsNotTo i next.first.that
   pub references : ReferenceFits one.first.that × ReferenceFits next.first.this

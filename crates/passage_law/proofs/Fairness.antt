@@ -28,7 +28,7 @@ use Rattle.row_law.specs.Nodes.{AreSteps}
 use Rattle.row_law.specs.Links.{is_from}
 use Rattle.row_law.specs.References.{firsts_of, Firsts, firsts_in, OfOne, IsTo, IsAskedBy, Gave, Asks, IsCrFrom}
 use Rattle.row_law.specs.Own.{NamesOwn}
-use Rattle.row_law.specs.Fair.{Has, AreJoined, HasStrange, IsNewEntry}
+use Rattle.row_law.specs.Fair.{Has, AreJoined, AreStrange, HasStrange, IsNewEntry}
 use Rattle.row_law.proofs.Changing.{Change, stays, meets, gives, changed, at_node, passes, change_by, node_changed}
 use Rattle.row_law.proofs.Standing.{AreNodes}
 use Rattle.row_law.proofs.Linking.{sent_by, all_at, Links, IsRow, is_row}
@@ -39,14 +39,15 @@ use Rattle.row_law.proofs.Fair.{has_first, opening_least, others_are_strange}
 use Rattle.row_law.proofs.Beginning.{nothing_before}
 use Rattle.trail_law.specs.Trails.{Leg, IsLeg, now_on}
 use Rattle.trail_law.specs.Hops.{AreNeighbours}
-use Rattle.passage_law.proofs.Fair.{AllStrange, IsMeeting, IsOfOthers, IsNotTo, ReferenceFits, sent_to, IsBeginning, RunsAreFair}
+use Rattle.trail_law.proofs.Openings.{leg_opening, leg_has, firsts_opened}
+use Rattle.trail_law.proofs.Coming.{asked_came}
+use Rattle.passage_law.proofs.Fair.{IsMeeting, IsOfOthers, IsNotTo, ReferenceFits, sent_to, IsBeginning, RunsAreFair}
 use Rattle.passage_law.proofs.Queue.{IsMessageOf, waits_of_node}
 use Rattle.passage_law.proofs.Legs.{LegCut, opened_now, was_before, cut_leg, as_leg, no_leg_yet, along_run}
 use Rattle.passage_law.proofs.Moving.{Moves, rest, near_gives, far_gives, near_alone, far_alone, forward, back, moves}
 use Rattle.passage_law.proofs.Asking.{Asks as AsksAt}
 use Rattle.passage_law.proofs.Beginning.{leg_opens}
-use Rattle.passage_law.proofs.Openings.{leg_opening, leg_has, firsts_opened}
-use Rattle.passage_law.proofs.Joining.{asked_came, sent_asks, reference_fits, legs_joined}
+use Rattle.passage_law.proofs.Joining.{sent_asks, reference_fits, legs_joined}
 
 -- What a node meets at a step: an event that is no message, or the first message that waits for it at a neighbour.
 
@@ -294,7 +295,7 @@ abbrev is_meeting : Change → Bool
 is_meeting (meets number event) = true
 is_meeting _ = false
 
-flat_strange : (c : Connection) (point : ℕ) (journal : List Entry) → AllByRecursion (λ (e : Entry). AllStrange c (messages_to point e.outs)) journal → AllStrange c (sent_to point journal)
+flat_strange : (c : Connection) (point : ℕ) (journal : List Entry) → AllByRecursion (λ (e : Entry). AreStrange c (messages_to point e.outs)) journal → AreStrange c (sent_to point journal)
 flat_strange c point [] all = tt
 flat_strange c point (e ∷ journal) all = all_joined (λ (m : Waiting). IsStrange c (arrival_in m.bytes)) (messages_to point e.outs) (sent_to point journal) all.0 (flat_strange c point journal all.1)
 
@@ -396,17 +397,17 @@ module _ (n i : ℕ) (two : 2 ≤ n) (least : 1 ≤ i) (most : i < n) where
           let s = section_to j joined.near_reference one.first.that joined.asks in
           let k = section_to i joined.far_reference next.first.this (asked_to i joined.near_reference joined.far_reference next.first.this joined.asked) in
           let opens = leg_opens n j far_later next far_is at_later.there in
-          let own : AllStrange one.first (messages_to i next.by.outs) = subst (AllStrange one.first) (sym (quiet_to i next.first.that next.by.outs opens.asks joined.far_apart)) tt in
+          let own : AreStrange one.first (messages_to i next.by.outs) = subst (AreStrange one.first) (sym (quiet_to i next.first.that next.by.outs opens.asks joined.far_apart)) tt in
           let journal : far_later.journal ≡ far.journal ++ next.by ∷ [] =
           at_later.there.journal ∙ (ap (λ since. next.before ++ next.by ∷ since) none ∙ ap (λ entries. entries ++ next.by ∷ []) new) in
           let long = nodes.long in record {
             forward =
-                subst (λ entries. AllStrange next.first (sent_to j entries)) (sym (ap (λ (after : RunState). (node_at i after.nodes).journal) same_run ∙ before.1))
+                subst (λ entries. AreStrange next.first (sent_to j entries)) (sym (ap (λ (after : RunState). (node_at i after.nodes).journal) same_run ∙ before.1))
                 (flat_strange next.first j near.journal nothing.0);
             back =
-                subst (λ entries. AllStrange one.first (sent_to i entries)) (sym journal)
+                subst (λ entries. AreStrange one.first (sent_to i entries)) (sym journal)
                 (flat_strange one.first i (far.journal ++ next.by ∷ [])
-                (all_joined (λ (x : Entry). AllStrange one.first (messages_to i x.outs)) far.journal (next.by ∷ []) nothing.1 (own, tt)));
+                (all_joined (λ (x : Entry). AreStrange one.first (messages_to i x.outs)) far.journal (next.by ∷ []) nothing.1 (own, tt)));
             elsewhere =
                 subst (λ end. AllByRecursion (IsOfOthers j end) one.since) (sym s.1.0)
                 (all_elsewhere n i two least most (steps ++ step ∷ []) more fresh_later one s.0 at_later.here s.1.0 s.1.1);

@@ -1,22 +1,16 @@
 -- Two legs, one after the other: the section of the far one was asked for by that of the near one, and no other end is a section to the other node.
-use Rattle.std.proofs.Common.{◌≡◌, inl, inr, ℕ, ◌≤◌, ◌<◌, ◌+◌, ◌-◌, true, false, List, [], ◌∷◌, map, Some, IfSome, Result, Ok, Err, IfOk, refl, sym, ◌∙◌, ap, subst, arith, eq-eqb}
+use Rattle.std.proofs.Common.{◌≡◌, inl, inr, ℕ, ◌≤◌, ◌<◌, ◌+◌, ◌-◌, true, false, List, [], ◌∷◌, IfSome, Result, Ok, Err, IfOk, refl, sym, ◌∙◌, subst, arith}
 use Rattle.std.specs.List.{AllByRecursion}
-use Rattle.std.proofs.lemmas.List.{map-append}
 use Rattle.relay_base.specs.declared.limits.TheConstants.{REFERENCES}
 use Rattle.relay_base.specs.declared.words.Event.{Event}
 use Rattle.relay_base.specs.declared.words.Event.TheVariants.{Message as Arrived, Asked as Requested, Tick}
 use Rattle.relay_base.specs.declared.words.ReadFault.{ReadFault}
-use Rattle.relay_base.specs.declared.words.Request.{Request}
-use Rattle.relay_base.specs.declared.words.Request.TheVariants as request
 use Rattle.plant_core.specs.declared.entry.Entry.{Entry}
-use Rattle.plant_core.specs.declared.terms.Terms.{Terms}
 use Rattle.q713_codec.specs.Names.{Message}
 use Rattle.q713_codec.specs.declared.message.Message.TheVariants.{Cr}
 use Rattle.q713_codec.specs.Reading.{reading_of}
-use Rattle.section_model.specs.Ends.{End, wire, owner, Section, Connection}
-use Rattle.section_model.specs.Opening.{Wish, by_cr, by_user, no_wish, may_be_wanted, wish_of_message, wish_of_reading, wish_of_request, wish_of, opened}
-use Rattle.section_model.specs.Lane.{Opening, heard, connection_of, reference_of, answer_of}
-use Rattle.connection_law.proofs.Flow.Flowing.{either}
+use Rattle.section_model.specs.Ends.{End, wire, owner, Connection}
+use Rattle.section_model.specs.Lane.{Opening, heard, connection_of, reference_of}
 use Rattle.connection_law.proofs.Reference.Following.{following_stays}
 use Rattle.chain_step.specs.declared.step.Step.{Step}
 use Rattle.chain_step.specs.Run.{NodeState, head_of, openings_of, node_at, run_of}
@@ -28,74 +22,18 @@ use Rattle.row_law.specs.Fair.{Has, AreJoined}
 use Rattle.row_law.specs.Ways.{IsOnward}
 use Rattle.row_law.proofs.Linking.{Links}
 use Rattle.row_law.proofs.LaneNames.{AllStand}
-use Rattle.row_law.proofs.Referring.{ThisShape, HasShape, opened_shape, IsSentEvent, all_sent, is_referred}
+use Rattle.row_law.proofs.Referring.{IsSentEvent, all_sent, is_referred}
 use Rattle.row_law.proofs.Parting.{stand_back}
 use Rattle.row_law.proofs.Ways.{all_go_on}
 use Rattle.trail_law.specs.Trails.{Leg, IsLeg}
 use Rattle.trail_law.specs.Hops.{AreNeighbours}
 use Rattle.trail_law.proofs.Opening.{StandsWhere}
-use Rattle.trail_law.proofs.Trailing.{references_at, is_legal}
+use Rattle.trail_law.proofs.Trailing.{is_legal}
+use Rattle.trail_law.proofs.Openings.{leg_opening, leg_has}
+use Rattle.trail_law.proofs.Coming.{leg_came, is_from_cr}
+use Rattle.trail_law.proofs.Standing.{onward_of}
 use Rattle.passage_law.proofs.Asking.{IsAskedBy as IsAskedFrom, asked_by}
-use Rattle.passage_law.proofs.Beginning.{all_parts, leg_parts, all_came, Opens, leg_opens, SentCr, sent_cr}
-use Rattle.passage_law.proofs.Openings.{leg_opening, leg_has}
-
--- CR came from where the connection's section stands.
-
-CameAs : ℕ → Result Message ReadFault → Wish → Type 0
-CameAs point read (by_cr w) = (point ≡ w.point) × HasSource w.slr read
-CameAs point read _ = Unit {0}
-
-WishCame : Event → Wish → Type 0
-WishCame event (by_cr w) = IsCrFrom w.point w.slr event
-WishCame event _ = Unit {0}
-
-wish_came : (terms : Terms) (event : Event) → WishCame event (wish_of terms event)
-unfolding wish_of WishCame CameAs
-wish_came terms (Arrived point sls bytes) = by_wish (wish_of_reading terms point sls (reading_of bytes)) (by_reading (reading_of bytes))
-  where
-    by_message : (m : Message) → CameAs point (Ok m) (wish_of_message terms point sls m)
-    by_message (Cr slr class called credit calling body hop importance) = (refl, refl)
-    by_message _ = tt
-
-    by_reading : (read : Result Message ReadFault) → CameAs point read (wish_of_reading terms point sls read)
-    by_reading (Ok m) = by_message m
-    by_reading (Err fault) = tt
-
-    by_wish : (wish : Wish) → CameAs point (reading_of bytes) wish → WishCame (Arrived point sls bytes) wish
-    by_wish (by_cr w) came = came
-    by_wish (by_user ssn tag w) came = tt
-    by_wish no_wish came = tt
-wish_came terms (Requested ssn r) = by_request r
-  where
-    by_request : (r : Request) → WishCame (Requested ssn r) (wish_of_request terms ssn r)
-    by_request (request.Conn tag class credit called body) = either (WishCame (Requested ssn (request.Conn tag class credit called body))) (may_be_wanted class credit called body) _ _ (λ _. tt) (λ _. tt)
-    by_request _ = tt
-wish_came terms Tick = tt
-
--- the section of this opening
-came_as : (wish : Wish) (event : Event) (x : Section) → ThisShape wish (wire x) → WishCame event wish → IsCrFrom x.head.point x.head.other event
-unfolding WishCame
-came_as (by_cr w) event x shape came = subst (λ slr. IsCrFrom x.head.point slr event) (sym shape.1) (subst (λ p. IsCrFrom p w.slr event) (sym shape.0) came)
-came_as (by_user ssn tag w) event x shape came = absurd shape
-came_as no_wish event x shape came = absurd shape
-
-pub leg_came : (i : ℕ) (node : NodeState) (leg : Leg) (x : Section) → IsLeg i node leg → leg.first.this ≡ wire x → IsCrFrom x.head.point x.head.other leg.by.event
-leg_came i node leg x at is = came_as wish leg.by.event x (subst (ThisShape wish) is (shape leg.first at.opens).0) (wish_came (head_of i).terms leg.by.event)
-  where
-    wish : Wish
-    wish = wish_of (head_of i).terms leg.by.event
-
-    shape : (c : Connection) → (opened (head_of i).terms wish (answer_of leg.by) (references_at i leg)).connection ≡ Some c → HasShape wish c
-    shape c opens = subst (λ connection. IfSome connection (HasShape wish)) opens (opened_shape (head_of i).terms wish (answer_of leg.by) (references_at i leg))
-
--- so of one that was asked for
-pub asked_came : (i p other mine : ℕ) (node : NodeState) (leg : Leg) → IsLeg i node leg → IsAskedBy p other mine leg.first.this → IsCrFrom p other leg.by.event
-asked_came i p other mine node leg at asked = by_end leg.first.this refl asked
-  where
-    by_end : (e : End) → leg.first.this ≡ e → IsAskedBy p other mine e → IsCrFrom p other leg.by.event
-    by_end (wire x) is asked =
-        subst (λ point. IsCrFrom point other leg.by.event) asked.0 (subst (λ slr. IsCrFrom x.head.point slr leg.by.event) asked.1 (leg_came i node leg x at is))
-    by_end (owner u) is asked = absurd asked
+use Rattle.passage_law.proofs.Beginning.{leg_parts, all_came, Opens, leg_opens, SentCr, sent_cr}
 
 -- What a node sends as CR has the reference of a section that asks.
 
@@ -122,11 +60,6 @@ none_back n i point slr [] differ all asks = asks
 none_back n i point slr (c ∷ cs) differ all (inl to) = not_to n i point c.that differ all.0 slr to
 none_back n i point slr (c ∷ cs) differ all (inr more) = none_back n i point slr cs differ all.1 more
 
-pub is_from_cr : (point slr : ℕ) (event : Event) → IsCrFrom point slr event → is_from point event ≡ true
-is_from_cr point slr (Arrived from sls bytes) cr = eq-eqb from point cr.0
-is_from_cr point slr (Requested ssn r) cr = absurd cr
-is_from_cr point slr Tick cr = absurd cr
-
 no_cr_back : (n i : ℕ) (steps : List Step) (leg : Leg) → AreSteps n steps → 2 ≤ n → 1 ≤ i → i < n → (let r = run_of n steps in
     Links (i + 1) false (node_at (i + 1) r.nodes) (node_at i r.nodes) → IsLeg i (node_at i r.nodes) leg → (slr : ℕ) → IsCrFrom (i + 1) slr leg.by.event → ⊥)
 no_cr_back n i steps leg are two least most link at slr cr =
@@ -140,15 +73,6 @@ no_cr_back n i steps leg are two least most link at slr cr =
     let here = (leg_parts (λ (e : Entry). is_from j e.event ≡ true → IsSentEvent f j to e.event) i near leg at (all_came (IsSentEvent f j to) j false far near link (all_sent f j to far names.1))).0 in
     none_back n j to slr (f j) (λ same. omega (arith, same)) (all_go_on n j steps are two (omega arith) (omega (arith, most)))
     (sent_asks f j to j slr leg.by.event (here (is_from_cr j slr leg.by.event cr)) cr)
-
--- The other ends.
-
-pub onward_of : (n i : ℕ) (steps : List Step) (leg : Leg) → AreSteps n steps → 2 ≤ n → 1 ≤ i → i ≤ n → Has (node_at i (run_of n steps).nodes) (leg_opening leg)
-    → IsOnward n i leg.first.that
-onward_of n i steps leg are two least most has =
-    let P : Connection → Type 0 = λ c. IsOnward n i c.that in
-    let all = subst (AllByRecursion P) (ap (map (λ (o : Opening). o.first)) has.are ∙ map-append (λ (o : Opening). o.first) has.before (leg_opening leg ∷ has.after)) (all_go_on n i steps are two least most) in
-    (all_parts P (map (λ (o : Opening). o.first) has.before) (leg.first ∷ map (λ (o : Opening). o.first) has.after) all).1.0
 
 -- References have 24 bits.
 pub reference_fits : (f : Firsts) (i : ℕ) (node : NodeState) (o : Opening) → AllStand (IsSection f i) node.head.terms.ticks (openings_of node) → Has node o

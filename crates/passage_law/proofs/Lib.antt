@@ -8,7 +8,6 @@ pub mod Waiting
 pub mod Beginning
 pub mod Crossing
 pub mod Passing
-pub mod Openings
 pub mod Joining
 pub mod Fairness
 pub mod Ends

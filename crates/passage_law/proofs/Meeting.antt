@@ -9,7 +9,7 @@ use Rattle.hop_law.proofs.Queued.{messages_joined}
 use Rattle.course_law.proofs.Flows.{Comes, elsewhere, first}
 use Rattle.course_law.proofs.Near.{back_is}
 use Rattle.course_law.proofs.Far.{forward_is}
-use Rattle.passage_law.proofs.Fair.{AllStrange}
+use Rattle.row_law.specs.Fair.{AreStrange}
 
 -- Fair steps lead from one course to another.
 pub record Leads (n : Neighbours) (g h : Course) : Type 0 where
@@ -44,14 +44,14 @@ leads_by n g step fair = record { steps = step ∷ []; to = refl; fair = (fair, 
 
 -- Messages of others join a queue.
 
-forward_joins : (n : Neighbours) (g : Course) (queue : List Waiting) → AllStrange g.hop.far queue → Leads n g (forward_is (g.hop.forward ++ queue) g)
+forward_joins : (n : Neighbours) (g : Course) (queue : List Waiting) → AreStrange g.hop.far queue → Leads n g (forward_is (g.hop.forward ++ queue) g)
 forward_joins n g [] strange = subst (λ all. Leads n g (forward_is all g)) (sym (append-nil g.hop.forward)) (leads_nowhere n g)
 forward_joins n g (m ∷ queue) strange =
     let next = forward_is (g.hop.forward ++ m ∷ []) g in
     leads_then n g next (forward_is (g.hop.forward ++ m ∷ queue) g) (leads_by n g (joins_forward m) strange.0)
     (subst (λ all. Leads n next (forward_is all g)) (append_assoc g.hop.forward (m ∷ []) queue) (forward_joins n next queue strange.1))
 
-back_joins : (n : Neighbours) (g : Course) (queue : List Waiting) → AllStrange g.hop.near queue → Leads n g (back_is (g.hop.back ++ queue) g)
+back_joins : (n : Neighbours) (g : Course) (queue : List Waiting) → AreStrange g.hop.near queue → Leads n g (back_is (g.hop.back ++ queue) g)
 back_joins n g [] strange = subst (λ all. Leads n g (back_is all g)) (sym (append-nil g.hop.back)) (leads_nowhere n g)
 back_joins n g (m ∷ queue) strange =
     let next = back_is (g.hop.back ++ m ∷ []) g in
@@ -96,8 +96,8 @@ far_after n event one other rest g =
       far_outs = g.far_outs ++ outs;
     }
 
-pub near_event : (n : Neighbours) (g : Course) (event : Event) (one other : List Output) (rest : List Waiting) → AllStrange g.hop.far (messages_to n.far one)
-    → AllStrange g.hop.far (messages_to n.far other) → Comes n.far g.hop.near.that g.hop.back event rest → Leads n g (near_after n event one other rest g)
+pub near_event : (n : Neighbours) (g : Course) (event : Event) (one other : List Output) (rest : List Waiting) → AreStrange g.hop.far (messages_to n.far one)
+    → AreStrange g.hop.far (messages_to n.far other) → Comes n.far g.hop.near.that g.hop.back event rest → Leads n g (near_after n event one other rest g)
 near_event n g event one other rest strange more comes =
     let a = forward_is (g.hop.forward ++ messages_to n.far one) g in
     let b = near_fed n event (back_is rest a) in
@@ -105,8 +105,8 @@ near_event n g event one other rest strange more comes =
     subst (λ all. Leads n g (forward_is all b)) (in_order n.far g.hop.forward one (part_by n.near_ticks event g.hop.near) other)
     (leads_then n g a c (forward_joins n g (messages_to n.far one) strange) (leads_then n a b c (near_alone n a event rest comes) (forward_joins n b (messages_to n.far other) more)))
 
-pub far_event : (n : Neighbours) (g : Course) (event : Event) (one other : List Output) (rest : List Waiting) → AllStrange g.hop.near (messages_to n.near one)
-    → AllStrange g.hop.near (messages_to n.near other) → Comes n.near g.hop.far.this g.hop.forward event rest → Leads n g (far_after n event one other rest g)
+pub far_event : (n : Neighbours) (g : Course) (event : Event) (one other : List Output) (rest : List Waiting) → AreStrange g.hop.near (messages_to n.near one)
+    → AreStrange g.hop.near (messages_to n.near other) → Comes n.near g.hop.far.this g.hop.forward event rest → Leads n g (far_after n event one other rest g)
 far_event n g event one other rest strange more comes =
     let a = back_is (g.hop.back ++ messages_to n.near one) g in
     let b = far_fed n event (forward_is rest a) in

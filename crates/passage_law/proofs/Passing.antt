@@ -31,12 +31,13 @@ use Rattle.chain_step.specs.Run.{NodeState, RunState, given_of, waiting, outputs
 use Rattle.chain_step.specs.Steps.{is_step}
 use Rattle.row_law.specs.Nodes.{AreSteps}
 use Rattle.row_law.specs.Links.{is_from}
+use Rattle.row_law.specs.Fair.{AreStrange}
 use Rattle.row_law.proofs.Changing.{Change, meets, changed, change_by, node_changed}
 use Rattle.row_law.proofs.Linking.{sent_by, Links, IsRow, row_kept, is_row}
 use Rattle.trail_law.specs.Trails.{Leg, IsLeg, heard_on, now_on, outs_on, IsNext}
 use Rattle.trail_law.specs.Hops.{queue_of, AreNeighbours, RunHop}
 use Rattle.trail_law.specs.Resets.{RsrCrosses, RunRsr}
-use Rattle.passage_law.proofs.Fair.{AllStrange, IsMeeting, IsFairRun, RunsAreFair}
+use Rattle.passage_law.proofs.Fair.{IsMeeting, IsFairRun, RunsAreFair}
 use Rattle.passage_law.proofs.Queue.{IsMessageOf, sent_of_node, waits_of_node, queue_met, queue_given}
 use Rattle.passage_law.proofs.Meeting.{Leads, leads_then, leads_nowhere, near_after, far_after, near_event, far_event}
 use Rattle.passage_law.proofs.Legs.{leg_more, LegCut, opened_now, was_before, cut_leg, as_leg, no_leg_yet, along_run, now_more, outs_on_more}
@@ -91,7 +92,7 @@ just_begun i near far one next none b = record {
 references_now : (leg : Leg) → BothStay leg.first (now_on leg)
 references_now leg = following_stays USUAL_TICKS leg.first (heard_on leg)
 
-strange_now : (leg : Leg) (queue : List Waiting) → AllStrange leg.first queue → AllStrange (now_on leg) queue
+strange_now : (leg : Leg) (queue : List Waiting) → AreStrange leg.first queue → AreStrange (now_on leg) queue
 strange_now leg queue strange = let stay = references_now leg in all_as leg.first (now_on leg) queue stay.this.reference stay.that.reference strange
 
 elsewhere_as : (point : ℕ) (e f : End) (event : Event) → reference_of f ≡ reference_of e → IsElsewhere point e event → IsElsewhere point f event

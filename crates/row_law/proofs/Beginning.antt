@@ -9,6 +9,7 @@ use Rattle.plant_core.specs.declared.entry.Entry.{Entry}
 use Rattle.section_model.specs.Ends.{Connection}
 use Rattle.section_model.specs.Parameters.{Arrival}
 use Rattle.section_model.specs.Lane.{reference_of}
+use Rattle.hop_law.specs.Waiting.{messages_to}
 use Rattle.hop_law.specs.Hop.{is_stray_answer, IsStrange}
 use Rattle.chain_step.specs.Run.{NodeState, RunState, node_at, entry_of, start, run_of, after_event}
 use Rattle.chain_step.specs.Steps.{has_neighbour}
@@ -62,7 +63,7 @@ new_is_unnamed f i j e d a fresh least names named =
     by_end (inr that) = among_ends a.parameters.dlr (λ x. reference_of x ≡ Some a.parameters.dlr) false d (λ x has. has) that
 
 each_strange : (f : Firsts) (i point : ℕ) (c : Connection) → ((e : Event) (a : Arrival) → NamesArrival (allowed f i e) point a → IsStrange c (Some a)) → (journal : List Entry) → AllNamed f i journal
-    → AllByRecursion (λ (entry : Entry). AreStrange c point entry.outs) journal
+    → AllByRecursion (λ (entry : Entry). AreStrange c (messages_to point entry.outs)) journal
 each_strange f i point c strange [] all = tt
 each_strange f i point c strange (e ∷ journal) all =
     (outs_strange (allowed f i e.event) c point (strange e.event) e.outs all.0, each_strange f i point c strange journal all.1)
@@ -70,7 +71,7 @@ each_strange f i point c strange (e ∷ journal) all =
 -- Back: CR of the asking section didn't come before.
 
 each_back : (f : Firsts) (j i : ℕ) (c : Connection) (m : ℕ) → ((e : Event) (a : Arrival) → (IsCrFrom i m e → ⊥) → NamesArrival (allowed f j e) i a → IsStrange c (Some a)) → (journal : List Entry)
-    → count_by (is_cr_from i m) (map (λ (e : Entry). e.event) journal) ≡ 0 → AllNamed f j journal → AllByRecursion (λ (entry : Entry). AreStrange c i entry.outs) journal
+    → count_by (is_cr_from i m) (map (λ (e : Entry). e.event) journal) ≡ 0 → AllNamed f j journal → AllByRecursion (λ (entry : Entry). AreStrange c (messages_to i entry.outs)) journal
 each_back f j i c m strange [] none all = tt
 each_back f j i c m strange (e ∷ journal) none all =
     let parts = count_cons (is_cr_from i m) e.event (map (λ (x : Entry). x.event) journal) in (

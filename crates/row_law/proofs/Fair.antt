@@ -62,7 +62,7 @@ out_strange A c point strange (Sent to sls bytes) names = by_test (to == point) 
 out_strange A c point strange (Told ssn tell) names = tt
 out_strange A c point strange (Lost lost) names = tt
 
-pub outs_strange : (A : Allowed) (c : Connection) (point : ℕ) → ((a : Arrival) → NamesArrival A point a → IsStrange c (Some a)) → (outs : List Output) → AllName A outs → AreStrange c point outs
+pub outs_strange : (A : Allowed) (c : Connection) (point : ℕ) → ((a : Arrival) → NamesArrival A point a → IsStrange c (Some a)) → (outs : List Output) → AllName A outs → AreStrange c (messages_to point outs)
 unfolding messages_to
 outs_strange A c point strange [] names = tt
 outs_strange A c point strange (out ∷ outs) names =

@@ -126,7 +126,7 @@ message_arrives i number false e one other is first from =
 abbrev pub ComesFrom : ℕ → Event → Type 0
 ComesFrom own e = (x : ℕ) → is_from x e ≡ (own == x)
 
-arrives_from : (own to : ℕ) (out : Output) → AllByRecursion (ComesFrom own) (arrives own to out)
+pub arrives_from : (own to : ℕ) (out : Output) → AllByRecursion (ComesFrom own) (arrives own to out)
 arrives_from own to (Sent point sls bytes) = by_test (point == to)
   where
     by_test : (b : Bool) → AllByRecursion (ComesFrom own) (if b then Arrived own sls bytes ∷ [] else [])

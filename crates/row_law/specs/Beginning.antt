@@ -4,6 +4,7 @@ use Rattle.std.specs.Prelude.{◌≡◌, ℕ, ◌+◌, ◌≤◌, true, List, []
 use Rattle.std.specs.List.{AllByRecursion}
 use Rattle.plant_core.specs.declared.entry.Entry.{Entry}
 use Rattle.section_model.specs.Lane.{Opening}
+use Rattle.hop_law.specs.Waiting.{messages_to}
 use Rattle.chain_step.specs.declared.step.Step.{Step}
 use Rattle.chain_step.specs.Run.{node_at, run_of}
 use Rattle.chain_step.specs.Fresh.{all_fresh}
@@ -20,4 +21,4 @@ NothingBefore =
     let far = node_at (i + 1) r.nodes in
     all_fresh later ≡ true → (o p : Opening) → Has near o → Has (node_at (i + 1) later.nodes) p → firsts_of (node_at (i + 1) later.nodes) ≡ firsts_of far ++ p.first ∷ [] →
     AreJoined i (i + 1) o.first p.first →
-    AllByRecursion (λ (entry : Entry). AreStrange p.first (i + 1) entry.outs) near.journal × AllByRecursion (λ (entry : Entry). AreStrange o.first i entry.outs) far.journal)
+    AllByRecursion (λ (entry : Entry). AreStrange p.first (messages_to (i + 1) entry.outs)) near.journal × AllByRecursion (λ (entry : Entry). AreStrange o.first (messages_to i entry.outs)) far.journal)

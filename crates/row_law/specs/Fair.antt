@@ -30,16 +30,17 @@ pub record AreJoined (i j : ℕ) (near far : Connection) : Type 0 where
   pub near_apart : (mine : ℕ) → IsTo j mine near.this → ⊥
   pub far_apart : (mine : ℕ) → IsTo i mine far.that → ⊥
 
--- Outputs are the part of a connection, and others: what these send to a point is strange to the connection there.
-abbrev pub AreStrange : Connection → ℕ → List Output → Type 0
-AreStrange c point outs = AllByRecursion (λ (m : Waiting). IsStrange c (arrival_in m.bytes)) (messages_to point outs)
+-- each of these messages names no end of a connection, unless it answers what nobody heard
+abbrev pub AreStrange : Connection → List Waiting → Type 0
+AreStrange c queue = AllByRecursion (λ (m : Waiting). IsStrange c (arrival_in m.bytes)) queue
 
+-- Outputs are the part of a connection, and others: what these send to a point is strange to the connection there.
 pub record HasStrange (c : Connection) (point : ℕ) (part outs : List Output) : Type 0 where
   pub one : List Output
   pub other : List Output
   pub are : outs ≡ one ++ (part ++ other)
-  pub before : AreStrange c point one
-  pub after : AreStrange c point other
+  pub before : AreStrange c (messages_to point one)
+  pub after : AreStrange c (messages_to point other)
 
 -- an entry that a node has after a step and had not before
 abbrev pub IsNewEntry : NodeState → NodeState → Entry → Type 0

@@ -8,4 +8,6 @@ pub mod Users
 pub mod Giving
 pub mod Telling
 pub mod Joining
+pub mod Openings
+pub mod Coming
 pub mod Standing
