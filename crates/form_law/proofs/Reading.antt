@@ -50,16 +50,16 @@ no_output s more = stamped (decimal s.phase) (decimal s.link) (decimal s.line) m
 
 -- ---- the lines of lanes and entries
 
-abbrev lines_of_entry : PrintedEntry → List (List ℕ)
+abbrev pub lines_of_entry : PrintedEntry → List (List ℕ)
 lines_of_entry e = e.text ∷ e.outs
 
-abbrev lines_of_entries : List PrintedEntry → List (List ℕ)
+abbrev pub lines_of_entries : List PrintedEntry → List (List ℕ)
 lines_of_entries es = flat_map lines_of_entry es
 
-abbrev lines_of_lane : PrintedLane → List (List ℕ)
+abbrev pub lines_of_lane : PrintedLane → List (List ℕ)
 lines_of_lane lane = lane.text ∷ lines_of_entries lane.entries
 
-abbrev lines_of_lanes : List PrintedLane → List (List ℕ)
+abbrev pub lines_of_lanes : List PrintedLane → List (List ℕ)
 lines_of_lanes lanes = flat_map lines_of_lane lanes
 
 -- each of them is what it should be, and nothing else
@@ -199,7 +199,7 @@ woven_lanes name number (lane ∷ lanes) more outputs =
     ∙ ap (λ l. here ++ l) (woven_lanes name (number + 1) lanes more outputs)
     ∙ sym (append_assoc here (lines_of_lanes (printed_kind name (number + 1) lanes)) (woven more outputs)))
 
-book_printed : (book : Book) → book_lines book ≡ lines_of_lanes (printed book)
+pub book_printed : (book : Book) → book_lines book ≡ lines_of_lanes (printed book)
 book_printed book =
     let control = map OfEntry (map line_of_control book.control) in
     let conns = kind_headings (codes "conn") 0 book.conns in

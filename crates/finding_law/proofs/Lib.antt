@@ -1,0 +1,12 @@
+pub mod Next
+pub mod Results
+pub mod Steps
+pub mod Order
+pub mod Routing
+pub mod Lanes
+pub mod KindLanes
+pub mod Values
+pub mod Once
+pub mod Forms
+pub mod Texts
+pub mod Books

@@ -1,0 +1,2 @@
+pub mod FindingLaw
+pub mod Examples
