@@ -11,5 +11,4 @@ mod start;
 mod tells;
 
 pub use node::Node;
-pub use queue::MOST_WAITING;
 pub use tells::TellList;

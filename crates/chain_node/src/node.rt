@@ -1,10 +1,9 @@
 //! A node of a row.
-ghost use Rattle.std.specs.Prelude.{◌≡◌, ◌≤◌, ◌<◌, ◌+◌, ◌^◌, ◌++◌, true, is_some, length, option_map, IfOk, OnOk, OnErr};
+ghost use Rattle.std.specs.Prelude.{◌≡◌, ◌≤◌, ◌<◌, ◌+◌, ◌^◌, ◌++◌, [], true, is_some, length, option_map, IfOk, OnOk, OnErr};
 ghost use Rattle.section_model.specs.Journals.{IsConnJournal};
 ghost use Rattle.conn_lane.specs.Lanes.{ConnLaneTakes};
-ghost use Rattle.chain_step.specs.Run.{first_node, waiting, queue_length, tells_by_event, after_event, after_giving};
+ghost use Rattle.chain_step.specs.Run.{head_of, first_node, waiting, queue_length, tells_by_event, after_event, after_giving};
 ghost use Rattle.chain_step.specs.Fresh.{is_fresh};
-ghost use Rattle.chain_node.specs.declared.queue.TheConstants.{MOST_WAITING};
 
 use crate::coming::{Coming, prepare};
 use crate::kept::Kept;
@@ -80,14 +79,14 @@ fn enter(
 }
 
 impl Node {
-    /// The node of this number, of so many, at the start.
-    pub fn new(alloc: Global, count: u8, number: u8) -> Result<Node, Memory>
+    /// The node of this number with these routing data, before its first event.
+    fn with_plant(alloc: Global, number: u8, plant: Plant) -> Result<Node, Memory>
         requires least { 1 ≤ number }
-        requires within { number ≤ count }
-        requires most { count ≤ 8 }
-        ensures { IfOk result (λ node. node ≡ first_node count number) }
+        requires most { number ≤ 8 }
+        requires edition { plant.edition ≡ 0 }
+        ensures { let routing = plant.routing in IfOk result (λ node. node ≡
+            record { head = head_of number; routing = routing; journal = []; ahead = 0; back = 0 }) }
     {
-        let plant = plant_of(alloc, count, number)?;
         let lane = lane_of(alloc, number)?;
         Ok(Node {
             alloc,
@@ -98,10 +97,20 @@ impl Node {
         })
     }
 
+    /// The node of this number, of so many, at the start.
+    pub fn new(alloc: Global, count: u8, number: u8) -> Result<Node, Memory>
+        requires least { 1 ≤ number }
+        requires within { number ≤ count }
+        requires most { count ≤ 8 }
+        ensures { IfOk result (λ node. node ≡ first_node count number) }
+    {
+        let plant = plant_of(alloc, count, number)?;
+        Node::with_plant(alloc, number, plant)
+    }
+
     /// How many messages wait to the next node, or to the one before.
     pub fn queue_len(&self, forward: bool) -> usize
-        ensures value { result ≡ queue_length forward self.now }
-        ensures most { result ≤ MOST_WAITING }
+        ensures { result ≡ queue_length forward self.now }
     {
         if forward {
             self.kept.ahead.len()

@@ -1,15 +1,11 @@
 //! The messages that wait from a node to a neighbour.
 ghost use Rattle.std.specs.Prelude.{◌≡◌, ◌≤◌, ◌+◌, ◌++◌, [], drop, length, slice_get, option_map, OnOk};
-ghost use Rattle.chain_node.specs.declared.queue.TheConstants.{MOST_WAITING};
 
 use mark::Mark;
 use relay_base::{Event, Memory};
 use std::alloc::Global;
 use std::collections::VecDeque;
 use std::marker::Model;
-
-/// The most messages that can wait from a node to a neighbour, which no memory holds. Those of fifteen such queues can be counted.
-pub const MOST_WAITING: usize = 1 << 60;
 
 /// The messages that wait from a node to a neighbour, each as the event by which it arrives there. A clause sees how many were given, too.
 #[derive(Drop)]
@@ -19,9 +15,8 @@ pub struct Queue {
 }
 
 impl Model for Queue {
-    ghost use Rattle.std.specs.Prelude.{◌-◌, ◌≤◌, min};
+    ghost use Rattle.std.specs.Prelude.{◌-◌};
     ghost use Rattle.std.specs.VecDeque.{deque_len, deque_capacity};
-    ghost use Rattle.chain_node.specs.declared.queue.TheConstants.{MOST_WAITING};
     ghost use Rattle.chain_node.specs.Inner.Queues.{QueueState};
 
     ghost Value = { QueueState };
@@ -29,10 +24,8 @@ impl Model for Queue {
     ghost view = { λ q. record {
       waiting = q.waiting.items;
       given = q.given.value;
-      room = min MOST_WAITING (deque_capacity q.waiting) - deque_len q.waiting;
+      room = deque_capacity q.waiting - deque_len q.waiting;
     } };
-
-    ghost invariant = { λ q. deque_len q.waiting ≤ MOST_WAITING };
 }
 
 /// No message was given yet.
@@ -56,8 +49,7 @@ impl Queue {
 
     /// How many messages wait.
     pub fn len(&self) -> usize
-        ensures value { result ≡ length self.now.waiting }
-        ensures most { result ≤ MOST_WAITING }
+        ensures { result ≡ length self.now.waiting }
     {
         self.waiting.len()
     }
@@ -92,9 +84,6 @@ impl Queue {
         ensures given { self.new.given ≡ self.old.given }
         ensures room { OnOk result (count ≤ self.new.room) }
     {
-        if MOST_WAITING - self.waiting.len() < count {
-            return Err(Memory);
-        }
         self.waiting.reserve(count)?;
         Ok(())
     }

@@ -1,6 +1,7 @@
 //! What the nodes are told at the start.
 ghost use Rattle.std.specs.Prelude.{◌≡◌, ◌≤◌, ◌<◌, ◌+◌, ◌-◌, ◌∷◌, [], IfOk, OnOk};
-ghost use Rattle.chain_step.specs.Run.{head_of, users_of, row_to, routing_of};
+ghost use Rattle.plant_core.specs.Plant.{start_of};
+ghost use Rattle.chain_step.specs.Run.{head_of, users_of, row_to, rows_of, routing_of};
 
 use crate::mail::Place;
 use chain_step::{CREDIT, USER};
@@ -107,16 +108,39 @@ fn add_first(plant: &mut Plant, row: Row) -> Result<(), Memory>
     }
 }
 
+/// The routing data of a node before a row is added.
+fn start_of(alloc: Global, count: u8, number: u8) -> Result<Plant, Memory>
+    ensures routing { IfOk result (λ plant. plant.routing ≡
+        start_of number (users_of count number)) }
+    ensures edition { IfOk result (λ plant. plant.edition ≡ 0) }
+{
+    let users = users_of(alloc, count, number)?;
+    Plant::start(alloc, point_of(number), users.as_slice())
+}
+
+/// Adds the row of each node but the last.
+fn add_rows(plant: &mut Plant, count: u8, number: u8) -> Result<(), Memory>
+    requires count { count ≤ 8 }
+    requires edition { plant.old.edition ≡ 0 }
+    requires none { plant.old.routing.rows ≡ [] }
+    ensures edition { plant.new.edition ≡ 0 }
+    ensures rows { OnOk result
+        (plant.new.routing ≡ record plant.old.routing { rows = rows_of count number }) }
+{
+    if number < count {
+        add_first(plant, row_to(count, number + 1))
+    } else {
+        Ok(())
+    }
+}
+
 /// The routing data of a node.
 pub fn plant_of(alloc: Global, count: u8, number: u8) -> Result<Plant, Memory>
     requires { count ≤ 8 }
     ensures routing { IfOk result (λ plant. plant.routing ≡ routing_of count number) }
     ensures edition { IfOk result (λ plant. plant.edition ≡ 0) }
 {
-    let users = users_of(alloc, count, number)?;
-    let mut plant = Plant::start(alloc, point_of(number), users.as_slice())?;
-    if number < count {
-        add_first(&mut plant, row_to(count, number + 1))?;
-    }
+    let mut plant = start_of(alloc, count, number)?;
+    add_rows(&mut plant, count, number)?;
     Ok(plant)
 }

@@ -64,7 +64,7 @@ impl Row {
     }
 
     /// How many messages wait between neighbours.
-    pub fn waiting(&self) -> usize {
+    pub fn waiting(&self) -> u128 {
         self.chain.waiting()
     }
 

@@ -83,7 +83,7 @@ fn nothing_passes_where_nothing_waits(rt: HostRuntime) -> Result<(), Fail> {
 }
 
 /// How many messages wait after the steps of an input.
-fn waiting_after(alloc: Global, lines: &str) -> Result<usize, Fail> {
+fn waiting_after(alloc: Global, lines: &str) -> Result<u128, Fail> {
     let (row, _came) = run_of(alloc, lines)?;
     Ok(row.waiting())
 }

@@ -50,7 +50,7 @@ pub fn put_none(text: &mut Text, line: u32, node: u8) -> Result<(), AllocError>
 }
 
 /// Appends the line of how many messages wait.
-pub fn put_waiting(text: &mut Text, count: usize) -> Result<(), AllocError>
+pub fn put_waiting(text: &mut Text, count: u128) -> Result<(), AllocError>
     ensures { Puts result text.old text.new (waiting_line count) }
 {
     text.put("waiting")?;

@@ -97,7 +97,7 @@ impl Chain {
     }
 
     /// How many messages wait in all queues.
-    pub fn waiting(&self) -> usize
+    pub fn waiting(&self) -> u128
         ensures { result ≡ waiting_count (run_in self.now) }
     {
         self.nodes.waiting_count()

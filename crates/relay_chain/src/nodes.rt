@@ -1,11 +1,10 @@
 //! The nodes of a chain.
-ghost use Rattle.std.specs.Prelude.{◌≡◌, ◌≤◌, ◌<◌, ◌*◌, ◌++◌, true, not, is_some, None, length, sum_by, IsTrue, IfOk, OnOk, OnErr};
+ghost use Rattle.std.specs.Prelude.{◌≡◌, ◌≤◌, ◌<◌, ◌*◌, ◌^◌, ◌++◌, true, not, is_some, Some, None, length, sum_by, IsTrue, IfOk, OnOk, OnErr};
 ghost use Rattle.chain_step.specs.Run.{start, neighbour, waiting, queue_length, waiting_count, node_at, with_node, after_giving, taking, passing, after_step, tells_at, tells_by_pass, tells_by, has_none, is_idle};
 ghost use Rattle.relay_base.specs.declared.words.Event.TheVariants.{Asked};
 ghost use Rattle.chain_step.specs.declared.terms.TheConstants.{USER};
 ghost use Rattle.chain_step.specs.Steps.{is_step};
 ghost use Rattle.chain_step.specs.Fresh.{all_fresh};
-ghost use Rattle.chain_node.specs.declared.queue.TheConstants.{MOST_WAITING};
 
 use chain_node::{Node, TellList};
 use chain_step::{Step, USER};
@@ -52,14 +51,14 @@ fn asked(request: &Request) -> Result<Event, Memory>
 }
 
 /// How many messages wait from these nodes to the next ones, or to the ones before.
-fn waiting_from(nodes: &[Node], forward: bool) -> usize
+fn waiting_from(nodes: &[Node], forward: bool) -> u128
     requires { length nodes.now ≤ 7 }
     ensures value { result ≡ sum_by (queue_length forward) nodes.now }
-    ensures most { result ≤ 7 * MOST_WAITING }
+    ensures most { result ≤ 7 * 2 ^ 64 }
 {
     let mut count = 0;
     for node in nodes {
-        count += node.queue_len(forward);
+        count += node.queue_len(forward) as u128;
     }
     count
 }
@@ -125,6 +124,31 @@ impl Nodes {
         self.taken += 1;
     }
 
+    /// A copy of the first message that waits arrives at the next node, or at the one before, and the message is given.
+    fn carry(
+        &mut self,
+        number: u8,
+        forward: bool,
+        message: &Event,
+        tells: &mut TellList,
+    ) -> Result<(), Memory>
+        requires least { 1 ≤ number }
+        requires most { number ≤ length self.old.nodes }
+        requires least_next { 1 ≤ neighbour forward number }
+        requires most_next { neighbour forward number ≤ length self.old.nodes }
+        requires count { length self.old.nodes ≤ 8 }
+        requires few { self.old.taken < 4_294_967_295 }
+        requires waits { waiting forward (node_at number self.old.nodes) ≡ Some message.now }
+        ensures ok { OnOk result (self.new ≡ passing number forward (Some message.now) self.old) }
+        ensures tells { let told = tells_at (neighbour forward number) message.now self.old in
+            OnOk result (tells.new ≡ tells.old ++ told) }
+        ensures err { OnErr result ((self.new ≡ self.old) × (tells.new ≡ tells.old)) }
+    {
+        self.take(neighbour_of(number, forward), message, tells)?;
+        self.give(number, forward);
+        Ok(())
+    }
+
     /// The first message that waits arrives at the next node, or at the one before. False where none waits.
     fn pass(&mut self, number: u8, forward: bool, tells: &mut TellList) -> Result<bool, Memory>
         requires least { 1 ≤ number }
@@ -146,8 +170,7 @@ impl Nodes {
             self.idle();
             return Ok(false);
         };
-        self.take(neighbour_of(number, forward), &message, tells)?;
-        self.give(number, forward);
+        self.carry(number, forward, &message, tells)?;
         Ok(true)
     }
 
@@ -195,7 +218,7 @@ impl Nodes {
     }
 
     /// How many messages wait in all queues.
-    pub fn waiting_count(&self) -> usize
+    pub fn waiting_count(&self) -> u128
         requires least { 1 ≤ length self.now.nodes }
         requires most { length self.now.nodes ≤ 8 }
         ensures { result ≡ waiting_count self.now }
