@@ -25,9 +25,9 @@ lines-left lines n line chain later text within is after =
     ∙ sym (append_assoc text (step_text before line) (text_from (run_in later) more))
 
 -- before the first step
-pub from-start : (text : List ℕ) (chain : ChainState) (lines : List StepLine) (input : ChainInput) → text ≡ [] → chain ≡ record { nodes = input.nodes; steps = [] }
-    → lines ≡ input.steps → text ++ text_from (run_in chain) lines ≡ run_text input
-from-start text chain lines input none begun same = λ i. none i ++ text_from (run_in (begun i)) (same i)
+pub from-start : (chain : ChainState) (lines : List StepLine) (input : ChainInput) → chain ≡ record { nodes = input.nodes; steps = [] } → lines ≡ input.steps
+    → text_from (run_in chain) lines ≡ run_text input
+from-start chain lines input begun same = λ i. text_from (run_in (begun i)) (same i)
 
 -- what is known of the lines that are left
 pub steps-left : (lines : List StepLine) (n : ℕ) (line : StepLine) (chain later : ChainState) → n < length lines → later ≡ after_line chain line → AreSteps chain.nodes (drop n lines)

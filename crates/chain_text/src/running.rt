@@ -4,7 +4,7 @@ ghost use Rattle.std.specs.Io.KnownBytes.{Appends};
 ghost use Rattle.relay_base.specs.Causes.{Rose};
 ghost use Rattle.relay_base.specs.Streams.{AppendedPart};
 ghost use Rattle.journal_text.specs.Inner.Texts.{Puts};
-ghost use Rattle.journal_text.specs.Inner.Writing.{Carries};
+ghost use Rattle.journal_text.specs.Inner.Writing.{Writes, Carries};
 ghost use Rattle.chain_step.specs.Chains.{run_in};
 ghost use Rattle.chain_step.specs.Steps.{is_step};
 ghost use Rattle.chain_form.specs.Chain.{AreSteps, IsInput};
@@ -76,6 +76,24 @@ fn carry_steps<K: Sink>(
     Ok(())
 }
 
+/// Takes the steps of lines, and writes what is printed of them and how many messages wait then.
+fn write_run<K: Sink>(
+    alloc: Global,
+    out: &mut K,
+    chain: &mut Chain,
+    lines: &[StepLine],
+) -> Result<(), WriteFault>
+    requires steps { AreSteps chain.old.nodes lines.now }
+    requires few { length chain.old.steps + length lines.now ≤ 4_294_967_295 }
+    ensures { Writes (K.held out.old) (K.held out.new) (K.faults out.old) (K.faults out.new)
+        (text_from (run_in chain.old) lines.now) result }
+{
+    let mut text = Text::of(alloc, "")?;
+    carry_steps(alloc, out, &mut text, chain, lines)?;
+    put_waiting(&mut text, chain.waiting())?;
+    write_text(out, &text)
+}
+
 /// Takes the steps of an input, and writes what is printed of them to a sink, in parts, as soon as enough of it waits. After an error a front of the
 /// print was written.
 pub fn run_chain<K: Sink>(alloc: Global, input: &ChainInput, out: &mut K) -> Result<(), WriteFault>
@@ -87,8 +105,5 @@ pub fn run_chain<K: Sink>(alloc: Global, input: &ChainInput, out: &mut K) -> Res
     ensures kept { result ≢ Err WriteFault.Sink → K.faults out.new ≡ K.faults out.old }
 {
     let mut chain = Chain::new(alloc, input.nodes)?;
-    let mut text = Text::of(alloc, "")?;
-    carry_steps(alloc, out, &mut text, &mut chain, input.steps.as_slice())?;
-    put_waiting(&mut text, chain.waiting())?;
-    write_text(out, &text)
+    write_run(alloc, out, &mut chain, input.steps.as_slice())
 }
