@@ -70,6 +70,6 @@ enough_found lowest free at count is all same =
     whole ∙ ap (λ b. if b then take count free else []) (sym (eq-eqb (length (take count free)) count (ap (λ xs. length xs) (sym whole) ∙ (all ∙ same))))
 
 -- What is kept before the first event.
-pub new_state : (kept : List (Option DuoState)) (slots none : LaneSlots) (owners unowned : List (Option ℕ)) → kept ≡ [] → slots ≡ none → owners ≡ unowned
-    → ◌≡◌ {A = OpeningsState} (record { taken = 0; kept = kept; slots = slots; owners = owners }) (record { taken = 0; kept = []; slots = none; owners = unowned })
-new_state kept slots none owners unowned e f g = rw (e, f, g) refl
+pub new_state : (taken : ℕ) (kept : List (Option DuoState)) (slots none : LaneSlots) (owners unowned : List (Option ℕ)) → taken ≡ 0 → kept ≡ [] → slots ≡ none → owners ≡ unowned
+    → ◌≡◌ {A = OpeningsState} (record { taken = taken; kept = kept; slots = slots; owners = owners }) (record { taken = 0; kept = []; slots = none; owners = unowned })
+new_state taken kept slots none owners unowned t e f g = rw (t, e, f, g) refl

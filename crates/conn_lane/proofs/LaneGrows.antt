@@ -181,13 +181,13 @@ lane_begins head number lanes credit =
     }
 
 -- the lane once its change is written, or as before
-pub lane_written : {A E : Type 0} (X : Type 0) (r : Result A E) (plant : PlantState) (head : LaneHead) (number : ℕ) (journal later : List Entry) (before after made : OpeningsState) (entry : Entry)
-    → IsConnLane head number journal before → Grows plant head number before made entry → OnOk r (later ≡ journal ++ entry ∷ []) → OnOk r (after ≡ made) → OnErr r ((later ≡ journal) × (after ≡ before) × X)
+pub lane_written : {A E : Type 0} (r : Result A E) (plant : PlantState) (head : LaneHead) (number : ℕ) (journal later : List Entry) (before after made : OpeningsState) (entry : Entry)
+    → IsConnLane head number journal before → Grows plant head number before made entry → OnOk r (later ≡ journal ++ entry ∷ []) → OnOk r (after ≡ made) → OnErr r ((later ≡ journal) × (after ≡ before))
     → IsConnLane head number later after
-lane_written X (Ok a) plant head number journal later before after made entry lane more grown is same =
+lane_written (Ok a) plant head number journal later before after made entry lane more grown is same =
     subst (λ j. IsConnLane head number j after) (sym grown)
     (subst (IsConnLane head number (journal ++ entry ∷ [])) (sym is) (lane_grows plant head number journal before made entry lane more))
-lane_written X (Err e) plant head number journal later before after made entry lane more grown is same =
+lane_written (Err e) plant head number journal later before after made entry lane more grown is same =
     subst (λ j. IsConnLane head number j after) (sym same.0) (subst (IsConnLane head number journal) (sym same.1) lane)
 
 pub on_ok : {A E : Type 0} {P Q : Type 0} (r : Result A E) → (P → Q) → OnOk r P → OnOk r Q

@@ -25,5 +25,7 @@ mod Woken
 mod Quiet
 mod Wakings
 mod Reached
+mod Puts
+mod Wakes
 pub mod Sent
 mod Counted

@@ -10,7 +10,7 @@ use Rattle.std.proofs.lemmas.List.FromFn.{length-map-range_with_len, get_or-map-
 use Rattle.std.proofs.lemmas.Option.{same_Some}
 use Rattle.slab.specs.Slab.{Slab, get as placed_at, slab_len, Updates as SlabUpdates}
 use Rattle.section_coupling.specs.Duos.{DuoState}
-use Rattle.conn_lane.specs.declared.kept.Placed.{Placed}
+use Rattle.conn_lane.specs.declared.placed.Placed.{Placed}
 use Rattle.conn_lane.specs.Inner.Placing.{one_in, one_of, kept_in, IsOfNumber, ArePlaced}
 
 same_list : {X : Type 0} (xs ys : List (Option X)) → length xs ≡ length ys → ((n : ℕ) → get_or xs n None ≡ get_or ys n None) → xs ≡ ys

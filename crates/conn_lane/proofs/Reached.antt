@@ -10,8 +10,7 @@ use Rattle.conn_lane.specs.Inner.Stands.{Stands}
 use Rattle.conn_lane.specs.Inner.Remnants.{Remnant}
 use Rattle.conn_lane.specs.Inner.Ticking.{AreTicked, TickedAt, WokenAt}
 use Rattle.conn_lane.specs.Inner.Views.{OpeningsState}
-use Rattle.conn_lane.specs.Inner.Wheels.{is_in, AreRising}
-use Rattle.conn_lane.specs.Inner.Waking.{WakesAll, is_next, IsWoken, AllWoken}
+use Rattle.conn_lane.specs.Inner.Waking.{is_in, AreRising, WakesAll, is_next, IsWoken, AllWoken}
 use Rattle.conn_lane.proofs.Standing.{any_default}
 use Rattle.conn_lane.proofs.Ticked.{AllTickedTo, ticked_none, tick_heard, tick_asleep, ticked_all, take_next, drop_next, take_whole, drop_whole}
 

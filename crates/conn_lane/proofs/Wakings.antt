@@ -1,7 +1,7 @@
 -- The wheel once a change is made, and what the next tick wakes.
 use Rattle.section_coupling.specs.declared.duo.TheConstants.{TIMERS}
-use Rattle.std.proofs.Common.{◌≡◌, ℕ, zero, suc, ◌+◌, ◌==◌, ◌<◌, ◌≤◌, OnOk, OnErr, Ok, Err, Bool, true, false, List, [], ◌∷◌, ◌++◌, length, get_or, set, option_to_list, Option, Some, None, inl, inr, refl, sym, subst, ap, ◌∙◌, arith}
-use Rattle.std.specs.Prelude.{IfSome}
+use Rattle.std.proofs.Common.{◌≡◌, Ok, Err, IfOk, ℕ, zero, suc, ◌+◌, ◌==◌, ◌<◌, ◌≤◌, true, false, List, [], ◌∷◌, ◌++◌, length, get_or, set, option_to_list, Option, Some, None, inl, inr, refl, sym, subst, ap, ◌∙◌, arith}
+use Rattle.std.specs.Prelude.{IfSome, is_some}
 use Rattle.std.specs.declared.result.Result.{Result}
 use Rattle.std.proofs.lemmas.Bool.{both_ways, cases_lt, eq-eqb, or_left, or_right, or_from}
 use Rattle.std.proofs.lemmas.List.{get_or_past}
@@ -9,12 +9,10 @@ use Rattle.timer_wheel.specs.Timers.{Armed, timer_of, due_now}
 use Rattle.connection_law.specs.TimerLaw.{IsQuiet}
 use Rattle.section_coupling.specs.Duos.{DuoState, duo_at}
 use Rattle.conn_lane.specs.declared.change.Next.{Next}
-use Rattle.conn_lane.specs.declared.change.Change.{Change}
-use Rattle.conn_lane.specs.declared.change.Change.TheVariants.{Nothing, Heard, Opened, Ticked}
 use Rattle.conn_lane.specs.Inner.Ticking.{TickedAt}
-use Rattle.conn_lane.specs.Inner.Views.{OpeningsState}
-use Rattle.conn_lane.specs.Inner.Wheels.{ticks_of, is_due, is_in, AreRising, AreConnections}
-use Rattle.conn_lane.specs.Inner.Waking.{timer_left, SetsTimers, AreLeft, IsTimed, AreQuiet, WakesAll, is_next, WakesDue}
+use Rattle.conn_lane.specs.Inner.Timed.{timer_left, SetsTimers, AreLeft, IsTimed}
+use Rattle.conn_lane.specs.Inner.Waking.{is_in, AreRising, AreQuiet, WakesAll, is_next}
+use Rattle.conn_lane.specs.Inner.Wheels.{ticks_of, is_due, AreConnections}
 use Rattle.conn_lane.proofs.Ticked.{set_middle}
 use Rattle.conn_lane.proofs.Wheels.{none_there}
 use Rattle.conn_lane.proofs.Woken.{AreTimed, left_there, one_timed, idle_until_due}
@@ -50,6 +48,11 @@ next_timed taken next nexts kept armed later within sets are =
     other : (n : ℕ) → (n ≡ next.number → ⊥) → (next.number == n) ≡ false
     other n apart = grind (arith, apart)
 
+-- a connection that is kept was opened
+pub kept_within : (kept : List (Option DuoState)) (n : ℕ) → is_some (get_or kept n None) ≡ true → n < length kept
+kept_within kept n is =
+    elim (cases_lt n (length kept)) [ inl within ↦ within | inr past ↦ absurd (both_ways (is_some (get_or kept n None)) (ap is_some (get_or_past kept n None past)) is) ]
+
 -- a place more, where nothing is kept yet
 none_more : (kept : List (Option DuoState)) (n : ℕ) → get_or kept n None ≡ get_or (kept ++ None ∷ []) n None
 none_more [] zero = refl
@@ -74,13 +77,6 @@ pub opened_timed : (taken : ℕ) (kept : List (Option DuoState)) (one : DuoState
 opened_timed taken kept one armed later set_timers timed =
     subst (λ xs. IsTimed taken xs later) (set_middle kept [] (length kept) None (Some one) refl)
     (heard_timed taken (length kept) (kept ++ None ∷ []) (Some one) armed later (last_within kept) set_timers (none_timed taken kept armed timed))
-
--- once the change is written, or as before
-pub timed_written : {A E : Type 0} (X : Type 0) (r : Result A E) (before after : OpeningsState) (armed later : List Armed) → OnOk r (IsTimed after.taken after.kept later)
-    → OnErr r (X × (after ≡ before) × (later ≡ armed)) → IsTimed before.taken before.kept armed → IsTimed after.taken after.kept later
-timed_written X (Ok a) before after armed later is same timed = is
-timed_written X (Err e) before after armed later is same timed =
-    subst (IsTimed after.taken after.kept) (sym same.2) (subst (λ (o : OpeningsState). IsTimed o.taken o.kept armed) (sym same.1) timed)
 
 -- before the first event
 pub none_wakes : IsTimed 0 [] []
@@ -121,9 +117,7 @@ wakes_all taken kept armed numbers quiet timed are =
     by_one n free (Some d) here quiet =
         idle_until_due taken n d armed quiet free (λ timer bound. timed.running n timer bound ∙ ap (λ x. option_to_list (timer_left taken timer x)) here)
 
--- the same by the wheel
-pub wakes_same : (p q : ℕ → Bool) → ((n : ℕ) → p n ≡ q n) → (kept : List (Option DuoState)) (change : Change) → WakesDue p kept change → WakesDue q kept change
-wakes_same p q same kept (Ticked nexts) wakes = λ n is. wakes n (same n ∙ is)
-wakes_same p q same kept Nothing wakes = tt
-wakes_same p q same kept (Heard next) wakes = tt
-wakes_same p q same kept (Opened new) wakes = tt
+-- of a call's answer
+pub if_ok : {A E : Type 0} {P Q : A → Type 0} (r : Result A E) → ((x : A) → P x → Q x) → IfOk r P → IfOk r Q
+if_ok (Ok x) f p = f x p
+if_ok (Err e) f p = tt

@@ -8,6 +8,7 @@ pub mod Remnants
 pub mod Seated
 pub mod Stands
 pub mod Ticking
+pub mod Timed
 pub mod Turns
 pub mod Uses
 pub mod Views

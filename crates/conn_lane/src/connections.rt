@@ -2,7 +2,8 @@
 ghost use Rattle.std.specs.Prelude.{◌≡◌, ◌≤◌, ◌+◌, ◌++◌, ◌∷◌, [], ℕ, Some, None, true, is_some, length, get_or, slice_set, OnOk};
 ghost use Rattle.std.specs.Option.{option_map};
 
-use crate::kept::{Kept, Placed};
+use crate::kept::Kept;
+use crate::placed::Placed;
 use relay_base::Memory;
 use slab::Slab;
 use std::alloc::Global;

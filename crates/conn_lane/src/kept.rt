@@ -22,13 +22,6 @@ pub struct Kept {
     duo: Box<Duo>,
 }
 
-/// A connection that isn't over, with its number in the lane's journal.
-#[derive(Drop)]
-pub struct Placed {
-    pub number: usize,
-    pub one: Kept,
-}
-
 /// A connection after an event that it hears, None once it is over, the references that its ends give up, and its outputs.
 #[derive(Drop)]
 pub struct Heard {

@@ -4,11 +4,15 @@
 mod change;
 mod connections;
 mod index;
+mod journal;
 mod kept;
 mod lane;
 mod laws;
 mod openings;
 mod outcome;
+mod placed;
+mod store;
+mod timed;
 mod waking;
 
 pub use lane::ConnLane;

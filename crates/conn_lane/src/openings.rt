@@ -1,5 +1,5 @@
 //! What a lane keeps: its connections that aren't over, and its local references.
-ghost use Rattle.std.specs.Prelude.{◌≡◌, ◌≤◌, ◌<◌, ◌+◌, ◌*◌, ◌++◌, ◌∷◌, [], ℕ, Bool, List, Some, None, map, length, get_or, replicate, slice_get, false, IfOk, IfSome, OnOk, OnErr};
+ghost use Rattle.std.specs.Prelude.{◌≡◌, ◌≤◌, ◌<◌, ◌+◌, ◌++◌, ◌∷◌, [], ℕ, Bool, List, Some, None, map, length, get_or, replicate, slice_get, false, IfOk, IfSome, OnOk, OnErr};
 ghost use Rattle.relay_base.specs.declared.words.Event.TheVariants.{Tick};
 ghost use Rattle.relay_base.specs.declared.limits.TheConstants.{MOST_LANES, SLOTS};
 ghost use Rattle.std.specs.Option.{option_map};
@@ -12,18 +12,14 @@ ghost use Rattle.conn_lane.specs.Inner.Views.{IsAlive, OpeningsState};
 ghost use Rattle.conn_lane.specs.Inner.Finding.{IsPlaceIn};
 ghost use Rattle.conn_lane.specs.Inner.Stands.{Stands, IsStanding};
 ghost use Rattle.conn_lane.specs.Inner.Ticking.{AreTicked, WokenAt};
-ghost use Rattle.timer_wheel.specs.Timers.{due_now};
-ghost use Rattle.section_coupling.specs.declared.duo.TheConstants.{TIMERS};
-ghost use Rattle.conn_lane.specs.Inner.Wheels.{is_in, is_due};
-ghost use Rattle.conn_lane.specs.Inner.Waking.{timers_of, AreLeft, SetsTimers, IsTimed, WakesAll, AllWoken, WakesDue};
-ghost use Rattle.conn_lane.specs.Inner.Changes.{giving_up, taking, put, put_all, ticked, changed, listed, CanGiveUp, CanBePut, CanAllBePut, CanTake, Fits, Makes, Opens, TakesNone};
+ghost use Rattle.conn_lane.specs.Inner.Waking.{is_in, count_of, AreQuiet, WakesAll, AllWoken, WakesDue};
+ghost use Rattle.conn_lane.specs.Inner.Changes.{given_up, all_given_up, owned, all_disowned, taking, put, put_all, ticked, changed, listed, CanGiveUp, CanAllGiveUp, CanBePut, CanAllBePut, CanTake, Fits, Makes, Opens, TakesNone};
 ghost use Rattle.conn_lane.specs.Inner.Lowest.{lowest_of};
 
 use crate::change::{Change, NewConnection, Next};
-use crate::connections::Connections;
 use crate::index::Index;
 use crate::kept::{Heard, Kept};
-use crate::waking::{follow, reserve};
+use crate::store::Store;
 use local_refs::Slots;
 use plant_core::{Entry, EntryList};
 use relay_base::{Event, Memory, Outs, PlainList, Ref24};
@@ -31,29 +27,33 @@ use section_coupling::{Duo, named};
 use section_model::arrival_in;
 use std::alloc::Global;
 use std::marker::Model;
-use timer_wheel::Wheel;
 
 /// Local references, in order.
 pub type RefList = PlainList<Ref24>;
 
-/// How many ticks a lane has taken; its connections by their numbers in the journal, each until it is over; its slots; and for each slot the
-/// connection an end of which has it.
+/// The store of the connections of a lane; its slots; and for each slot the connection an end of which has it.
 #[derive(Drop)]
-pub struct Openings {
+pub struct Openings<S: Store> {
     alloc: Global,
-    taken: u64,
-    kept: Connections,
+    store: S,
     slots: Slots,
     index: Index,
 }
 
-impl Model for Openings {
-    ghost use Rattle.conn_lane.specs.Inner.Views.{OpeningsState};
+impl<S: Store> Model for Openings<S> {
+    ghost use Rattle.conn_lane.specs.Inner.Views.{StoredOpenings};
 
-    ghost Value = { OpeningsState };
+    ghost Value = { StoredOpenings S };
 
-    ghost view = { λ o.
-        record { taken = o.taken; kept = o.kept.kept; slots = o.slots; owners = o.index } };
+    ghost view = { λ o. record {
+      state = record {
+        taken = S.taken o.store;
+        kept = S.kept o.store;
+        slots = o.slots;
+        owners = o.index;
+      };
+      store = o.store;
+    } };
 }
 
 /// The local reference that a message or a request names.
@@ -84,23 +84,23 @@ fn tick(alloc: Global, now: u32, one: Option<&Kept>) -> Result<Option<Heard>, Me
 }
 
 /// The connections that a tick wakes, and the outputs, one after another; `now` is how many ticks the lane took before.
-fn ticked(
+fn ticked<S: Store>(
     alloc: Global,
     now: u32,
-    kept: &Connections,
+    store: &S,
     numbers: &[usize],
 ) -> Result<(Vec<Next>, Outs), Memory>
-    requires wakes { WakesAll now kept.now.kept 0 numbers.now }
+    requires wakes { WakesAll now (S.kept store.now) 0 numbers.now }
     ensures ticked { (keeps : List Remnant) (o : OpeningsState) → Stands keeps o → o.taken ≡ now →
-        o.kept ≡ kept.now.kept → IfOk result (λ r. AreTicked keeps o r.0.items r.1) }
+        o.kept ≡ S.kept store.now → IfOk result (λ r. AreTicked keeps o r.0.items r.1) }
     ensures woken { IfOk result (λ r.
-        AllWoken (λ n. is_in n numbers.now) kept.now.kept r.0.items) }
+        AllWoken (λ n. is_in n numbers.now) (S.kept store.now) r.0.items) }
 {
     let mut nexts = Vec::new(alloc);
     let mut outs = Outs::new(alloc);
     for number in numbers {
         let number = *number;
-        if let Some(heard) = tick(alloc, now, kept.get(number))? {
+        if let Some(heard) = tick(alloc, now, store.get(number))? {
             outs.append(heard.outs)?;
             nexts.push(Next {
                 number,
@@ -113,62 +113,56 @@ fn ticked(
     Ok((nexts, outs))
 }
 
-/// Takes memory for one more connection, and for the timers of the connections that an event changes.
-fn make_room(kept: &mut Connections, wheel: &mut Wheel, change: &Change) -> Result<(), Memory>
-    ensures kept { kept.new.kept ≡ kept.old.kept }
-    ensures armed { wheel.new.armed ≡ wheel.old.armed }
-    ensures room { OnOk result (1 ≤ kept.new.room) }
-    ensures timers { let timers = length wheel.new.armed + timers_of change.now in
-        OnOk result (timers ≤ wheel.new.room) }
-{
-    reserve(wheel, change)?;
-    kept.reserve()
-}
-
 /// Takes memory for what an event changes, and puts an entry at the end of the journal. After `Memory` the journal is as before.
-fn enter(
-    kept: &mut Connections,
-    wheel: &mut Wheel,
+fn enter<S: Store>(
+    store: &mut S,
     change: &Change,
     journal: &mut EntryList,
     entry: Entry,
 ) -> Result<(), Memory>
-    ensures kept { kept.new.kept ≡ kept.old.kept }
-    ensures armed { wheel.new.armed ≡ wheel.old.armed }
-    ensures room { OnOk result (1 ≤ kept.new.room) }
-    ensures timers { let timers = length wheel.new.armed + timers_of change.now in
-        OnOk result (timers ≤ wheel.new.room) }
+    ensures taken { S.taken store.new ≡ S.taken store.old }
+    ensures kept { S.kept store.new ≡ S.kept store.old }
+    ensures due { (number : ℕ) → S.due store.new number ≡ S.due store.old number }
+    ensures room { OnOk result (S.has_room store.new (count_of change.now)) }
     ensures journal { OnOk result (journal.new ≡ journal.old ++ entry ∷ []) }
     ensures err { OnErr result (journal.new ≡ journal.old) }
 {
-    // Room for a connection and for timers is taken here, so that the journal grows last of what may lack memory.
-    make_room(kept, wheel, change)?;
+    // Room for connections is taken here, so that the journal grows last of what may lack memory.
+    store.reserve(change.count())?;
     journal.push(entry)?;
     Ok(())
 }
 
-/// Keeps a connection that was just opened, and starts its timers. Its number is given.
-fn keep(kept: &mut Connections, wheel: &mut Wheel, taken: u64, one: Kept) -> usize
-    requires room { 1 ≤ kept.old.room }
-    requires count { length kept.old.kept ≤ 4_294_967_295 }
-    requires timers { length wheel.old.armed + TIMERS ≤ wheel.old.room }
-    requires timed { IsTimed taken kept.old.kept wheel.old.armed }
-    ensures kept { kept.new.kept ≡ kept.old.kept ++ Some one ∷ [] }
-    ensures timed { IsTimed taken kept.new.kept wheel.new.armed }
-    ensures number { result ≡ length kept.old.kept }
+/// An end gives its reference up, if it is one.
+fn give_up(slots: &mut Slots, index: &mut Index, mine: Option<Ref24>)
+    requires { CanGiveUp mine slots.old }
+    ensures slots { slots.new ≡ given_up mine slots.old }
+    ensures owners { index.new ≡ owned mine None index.old }
 {
-    let number = kept.opened();
-    follow(wheel, number, None, Some(&one), taken);
-    kept.open(one);
-    number
+    if let Some(mine) = mine {
+        slots.freeze(mine);
+    }
+    index.note(mine, None);
 }
 
-impl Openings {
+/// The ends of connections give their references up, as these are next.
+fn give_all_up(slots: &mut Slots, index: &mut Index, nexts: &[Next])
+    requires { CanAllGiveUp nexts.now slots.old }
+    ensures slots { slots.new ≡ all_given_up nexts.now slots.old }
+    ensures owners { index.new ≡ all_disowned nexts.now index.old }
+{
+    for next in nexts {
+        give_up(slots, index, next.this);
+        give_up(slots, index, next.that);
+    }
+}
+
+impl<S: Store> Openings<S> {
     /// Before the first event of the lane of this number, whose references freeze for so many ticks.
-    pub fn new(alloc: Global, number: u8, freeze: u32) -> Result<Openings, Memory>
+    pub fn new(alloc: Global, number: u8, freeze: u32) -> Result<Openings<S>, Memory>
         requires number { number < MOST_LANES }
         ensures { let states = replicate SLOTS Free in
-            IfOk result (λ o. o ≡
+            IfOk result (λ o. o.state ≡
             record {
               taken = 0;
               kept = [];
@@ -185,8 +179,7 @@ impl Openings {
         let index = Index::new(alloc)?;
         Ok(Openings {
             alloc,
-            taken: 0,
-            kept: Connections::new(alloc),
+            store: S::new(alloc),
             slots,
             index,
         })
@@ -194,18 +187,18 @@ impl Openings {
 
     /// How many ticks the lane has taken.
     pub fn taken(&self) -> u64
-        ensures { result ≡ self.now.taken }
+        ensures { result ≡ self.now.state.taken }
     {
-        self.taken
+        self.store.taken()
     }
 
     /// The number of the connection an end of which has the slot of the reference that an event names. Whether it hears the event, it tells by the
     /// whole reference.
     fn number_of(&self, event: &Event) -> Option<usize>
-        requires standing { IsStanding self.now }
-        ensures place { (keeps : List Remnant) → Stands keeps self.now →
+        requires standing { IsStanding self.now.state }
+        ensures place { (keeps : List Remnant) → Stands keeps self.now.state →
             IsPlaceIn event.now keeps result }
-        ensures within { IfSome result (λ number. number < length self.now.kept) }
+        ensures within { IfSome result (λ number. number < length self.now.state.kept) }
     {
         let mine = reference_in(event)?;
         self.index.owner(mine)
@@ -213,25 +206,25 @@ impl Openings {
 
     /// What an event changes, which is no tick, and the outputs of the connection that hears it, if one does.
     pub fn hear(&self, event: &Event) -> Result<(Change, Option<Outs>), Memory>
-        requires standing { IsStanding self.now }
+        requires standing { IsStanding self.now.state }
         requires event { is_tick event.now ≡ false }
-        requires taken { self.now.taken ≤ 4_294_967_295 }
-        ensures part { (keeps : List Remnant) → Stands keeps self.now →
+        requires taken { self.now.state.taken ≤ 4_294_967_295 }
+        ensures part { (keeps : List Remnant) → Stands keeps self.now.state →
             IfOk result (λ r. r.1 ≡ first_part event.now keeps) }
-        ensures makes { (keeps : List Remnant) → Stands keeps self.now →
+        ensures makes { (keeps : List Remnant) → Stands keeps self.now.state →
             let later = map (remnant_after event.now) keeps in
-            IfOk result (λ r. Makes r.0 self.now self.now.taken later) }
+            IfOk result (λ r. Makes r.0 self.now.state self.now.state.taken later) }
         ensures woken { (wakes : ℕ → Bool) →
-            IfOk result (λ r. WakesDue wakes self.now.kept r.0) }
+            IfOk result (λ r. WakesDue wakes self.now.state.kept r.0) }
         ensures takes { IfOk result (λ r. TakesNone r.0) }
     {
         let Some(number) = self.number_of(event) else {
             return Ok((Change::Nothing, None));
         };
-        let Some(one) = self.kept.get(number) else {
+        let Some(one) = self.store.get(number) else {
             return Ok((Change::Nothing, None));
         };
-        match one.hear(self.alloc, self.taken as u32, event)? {
+        match one.hear(self.alloc, self.store.taken() as u32, event)? {
             Some(heard) => {
                 let next = Next {
                     number,
@@ -245,20 +238,22 @@ impl Openings {
         }
     }
 
-    /// What a tick changes, by which the connections of these numbers wake, and the outputs of all, one after another.
-    pub fn tick(&self, numbers: &[usize]) -> Result<(Change, Outs), Memory>
-        requires taken { self.now.taken ≤ 4_294_967_295 }
-        requires wakes { WakesAll self.now.taken self.now.kept 0 numbers.now }
-        ensures outs { (keeps : List Remnant) → Stands keeps self.now →
+    /// What a tick changes, and the outputs of the connections that it wakes, one after another.
+    pub fn tick(&self) -> Result<(Change, Outs), Memory>
+        requires taken { self.now.state.taken ≤ 4_294_967_295 }
+        requires quiet { AreQuiet self.now.state.taken self.now.state.kept }
+        ensures outs { (keeps : List Remnant) → Stands keeps self.now.state →
             IfOk result (λ r. r.1 ≡ all_parts Tick keeps) }
-        ensures makes { (keeps : List Remnant) → Stands keeps self.now →
+        ensures makes { (keeps : List Remnant) → Stands keeps self.now.state →
             let later = map (remnant_after Tick) keeps in
-            IfOk result (λ r. Makes r.0 self.now (self.now.taken + 1) later) }
+            IfOk result (λ r. Makes r.0 self.now.state (self.now.state.taken + 1) later) }
         ensures woken { IfOk result (λ r.
-            WakesDue (λ n. is_in n numbers.now) self.now.kept r.0) }
+            WakesDue (S.due self.now.store) self.now.state.kept r.0) }
         ensures takes { IfOk result (λ r. TakesNone r.0) }
     {
-        let (nexts, outs) = ticked(self.alloc, self.taken as u32, &self.kept, numbers)?;
+        let numbers = self.store.due(self.alloc)?;
+        let now = self.store.taken() as u32;
+        let (nexts, outs) = ticked(self.alloc, now, &self.store, numbers.as_slice())?;
         Ok((Change::Ticked(nexts), outs))
     }
 
@@ -267,7 +262,7 @@ impl Openings {
         requires alive { IfSome duo IsAlive }
         ensures opens { IfOk result (λ change. Opens duo change) }
         ensures woken { (wakes : ℕ → Bool) →
-            IfOk result (λ change. WakesDue wakes self.now.kept change) }
+            IfOk result (λ change. WakesDue wakes self.now.state.kept change) }
     {
         let Some(duo) = duo else {
             return Ok(Change::Nothing);
@@ -280,7 +275,7 @@ impl Openings {
 
     /// The local references of so many lowest free slots, or none where there are too few.
     pub fn lowest_free(&self, count: u8) -> Result<RefList, Memory>
-        ensures { IfOk result (λ refs. refs ≡ lowest_of self.now.slots count) }
+        ensures { IfOk result (λ refs. refs ≡ lowest_of self.now.state.slots count) }
     {
         let mut lowest = RefList::new(self.alloc);
         for at in 0..count {
@@ -292,74 +287,41 @@ impl Openings {
         Ok(lowest)
     }
 
-    /// Puts an entry at the end of the journal, and makes what comes of its event. After `Memory` the journal, the openings and the timers that
-    /// run are as before.
+    /// Puts an entry at the end of the journal, and makes what comes of its event. After `Memory` the journal and the openings are as before.
     pub fn write(
         &mut self,
         change: Change,
-        wheel: &mut Wheel,
         journal: &mut EntryList,
         entry: Entry,
     ) -> Result<(), Memory>
-        requires taken { self.old.taken ≤ 4_294_967_295 }
-        requires count { length self.old.kept ≤ 4_294_967_295 }
-        requires fits { Fits change self.old }
-        requires timed { IsTimed self.old.taken self.old.kept wheel.old.armed }
-        requires woken { let due = due_now wheel.old.armed in
-            WakesDue (λ n. is_due n due) self.old.kept change }
+        requires taken { self.old.state.taken ≤ 4_294_967_295 }
+        requires count { length self.old.state.kept ≤ 4_294_967_295 }
+        requires fits { Fits change self.old.state }
+        requires woken { WakesDue (S.due self.old.store) self.old.state.kept change }
         ensures journal { OnOk result (journal.new ≡ journal.old ++ entry ∷ []) }
-        ensures openings { OnOk result (self.new ≡ changed change self.old) }
-        ensures timed { OnOk result (IsTimed self.new.taken self.new.kept wheel.new.armed) }
-        ensures err { OnErr result ((journal.new ≡ journal.old) × (self.new ≡ self.old)
-            × (wheel.new.armed ≡ wheel.old.armed)) }
+        ensures openings { OnOk result (self.new.state ≡ changed change self.old.state) }
+        ensures err { OnErr result ((journal.new ≡ journal.old) × (self.new.state ≡ self.old.state)) }
     {
-        enter(&mut self.kept, wheel, &change, journal, entry)?;
+        enter(&mut self.store, &change, journal, entry)?;
         match change {
             Change::Nothing => {}
-            Change::Heard(next) => self.put_heard(wheel, next),
+            Change::Heard(next) => self.put(next),
             Change::Opened(NewConnection { one, this, that }) => {
-                let number = keep(&mut self.kept, wheel, self.taken, one);
+                let number = self.store.opened();
+                self.store.open(one);
                 self.take_both(number, this, that);
             }
-            Change::Ticked(nexts) => self.advance(wheel, nexts),
+            Change::Ticked(nexts) => self.advance(nexts),
         }
         Ok(())
     }
 
-    /// The connection that heard an event as it is next, with its timers.
-    fn put_heard(&mut self, wheel: &mut Wheel, next: Next)
-        requires count { length self.old.kept ≤ 4_294_967_295 }
-        requires fits { CanBePut next self.old }
-        requires timed { IsTimed self.old.taken self.old.kept wheel.old.armed }
-        requires room { length wheel.old.armed + TIMERS ≤ wheel.old.room }
-        ensures value { self.new ≡ put next self.old }
-        ensures timed { IsTimed self.new.taken self.new.kept wheel.new.armed }
-    {
-        self.put(wheel, next);
-    }
-
-    /// An end gives its reference up, if it is one.
-    fn give_up(&mut self, mine: Option<Ref24>)
-        requires { CanGiveUp mine self.old.slots }
-        ensures { self.new ≡ giving_up mine self.old }
-    {
-        if let Some(mine) = mine {
-            self.slots.freeze(mine);
-        }
-        self.index.note(mine, None);
-    }
-
-    /// A connection as it is next, with its timers.
-    fn put(&mut self, wheel: &mut Wheel, next: Next)
-        requires count { length self.old.kept ≤ 4_294_967_295 }
-        requires fits { CanBePut next self.old }
-        requires left { let one = get_or self.old.kept next.number None in
-            AreLeft self.old.taken next.number one wheel.old.armed }
-        requires room { length wheel.old.armed + TIMERS ≤ wheel.old.room }
-        ensures value { self.new ≡ put next self.old }
-        ensures set { SetsTimers self.old.taken next.number next.one wheel.old.armed
-            wheel.new.armed }
-        ensures room { wheel.new.room ≡ wheel.old.room }
+    /// A connection as it is next.
+    fn put(&mut self, next: Next)
+        requires count { length self.old.state.kept ≤ 4_294_967_295 }
+        requires fits { CanBePut next self.old.state }
+        requires room { S.has_room self.old.store 1 }
+        ensures { self.new.state ≡ put next self.old.state }
     {
         let Next {
             number,
@@ -367,38 +329,29 @@ impl Openings {
             this,
             that,
         } = next;
-        let before = self.kept.get(number);
-        follow(wheel, number, before, one.as_ref(), self.taken);
-        self.kept.put(number, one);
-        self.give_up(this);
-        self.give_up(that);
+        self.store.put(number, one);
+        give_up(&mut self.slots, &mut self.index, this);
+        give_up(&mut self.slots, &mut self.index, that);
     }
 
-    /// A tick more, with the connections that it wakes.
-    fn advance(&mut self, wheel: &mut Wheel, nexts: Vec<Next>)
-        requires taken { self.old.taken ≤ 4_294_967_295 }
-        requires count { length self.old.kept ≤ 4_294_967_295 }
-        requires fits { CanAllBePut nexts.items (ticked self.old) }
-        requires timed { IsTimed self.old.taken self.old.kept wheel.old.armed }
-        requires woken { let due = due_now wheel.old.armed in
-            AllWoken (λ n. is_due n due) self.old.kept nexts.items }
-        requires room { let timers = TIMERS * length nexts.items in
-            length wheel.old.armed + timers ≤ wheel.old.room }
-        ensures value { self.new ≡ put_all nexts.items (ticked self.old) }
-        ensures timed { IsTimed self.new.taken self.new.kept wheel.new.armed }
+    /// A tick more, with the connections that it changes.
+    fn advance(&mut self, nexts: Vec<Next>)
+        requires taken { self.old.state.taken ≤ 4_294_967_295 }
+        requires count { length self.old.state.kept ≤ 4_294_967_295 }
+        requires fits { CanAllBePut nexts.items (ticked self.old.state) }
+        requires woken { AllWoken (S.due self.old.store) self.old.state.kept nexts.items }
+        requires room { S.has_room self.old.store (length nexts.items) }
+        ensures { self.new.state ≡ put_all nexts.items (ticked self.old.state) }
     {
-        self.taken += 1;
         self.slots.tick();
-        wheel.advance();
-        for next in nexts {
-            self.put(wheel, next);
-        }
+        give_all_up(&mut self.slots, &mut self.index, nexts.as_slice());
+        self.store.advance(nexts);
     }
 
     /// The ends of the connection of this number take the lowest free references, each if it takes one.
     fn take_both(&mut self, number: usize, this: Option<Ref24>, that: Option<Ref24>)
-        requires { CanTake this that self.old }
-        ensures { self.new ≡ taking that number (taking this number self.old) }
+        requires { CanTake this that self.old.state }
+        ensures { self.new.state ≡ taking that number (taking this number self.old.state) }
     {
         self.take(this, number);
         self.take(that, number);
@@ -406,11 +359,11 @@ impl Openings {
 
     /// An end of the connection of this number takes the lowest free reference, if it takes one.
     fn take(&mut self, mine: Option<Ref24>, number: usize)
-        requires free { IfSome mine (λ m. slice_get (free_references self.old.slots) 0 ≡ Some m) }
-        ensures value { self.new ≡ taking mine number self.old }
+        requires free { IfSome mine (λ m. slice_get (free_references self.old.state.slots) 0 ≡ Some m) }
+        ensures value { self.new.state ≡ taking mine number self.old.state }
         ensures rest { (rest : List ℕ) →
-            free_references self.old.slots ≡ listed mine ++ rest →
-            free_references self.new.slots ≡ rest }
+            free_references self.old.state.slots ≡ listed mine ++ rest →
+            free_references self.new.state.slots ≡ rest }
     {
         if mine.is_some() {
             self.slots.take_lowest().unwrap();

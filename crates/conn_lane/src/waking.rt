@@ -1,11 +1,10 @@
 //! When connections wake: the wheel of a lane has the running timers of each that isn't over, under its number in the journal.
-ghost use Rattle.std.specs.Prelude.{◌≡◌, ◌≤◌, ◌<◌, ◌+◌, ◌-◌, length, max, option_map, IfOk, IfSome, OnOk, OnErr};
+ghost use Rattle.std.specs.Prelude.{◌≡◌, ◌≤◌, ◌<◌, ◌+◌, ◌-◌, ◌*◌, length, max, option_map, IfOk, IfSome, OnOk, OnErr};
 ghost use Rattle.section_coupling.specs.declared.duo.TheConstants.{TIMERS};
 ghost use Rattle.timer_wheel.specs.Timers.{timer_of, due_now};
 ghost use Rattle.conn_lane.specs.Inner.Wheels.{ticks_of, with_ticks, AreOrdered, AreConnections, SetsOne};
-ghost use Rattle.conn_lane.specs.Inner.Waking.{ticks_in_wheel, timer_left, stands, timers_of, IsLeft, AreLeft, SetsTimers};
+ghost use Rattle.conn_lane.specs.Inner.Timed.{ticks_in_wheel, timer_left, stands, IsLeft, AreLeft, SetsTimers};
 
-use crate::change::Change;
 use crate::kept::Kept;
 use relay_base::Memory;
 use section_coupling::TIMERS;
@@ -119,15 +118,12 @@ pub fn follow(
     }
 }
 
-/// Takes memory for the timers of the connections that an event changes. No memory has room for more than a `usize` counts.
-pub fn reserve(wheel: &mut Wheel, change: &Change) -> Result<(), Memory>
-    ensures ok { let timers = length wheel.old.armed + timers_of change.now in
+/// Takes memory for the timers of so many connections beside those that run. No memory has room for more than a `usize` counts.
+pub fn reserve(wheel: &mut Wheel, connections: usize) -> Result<(), Memory>
+    ensures ok { let timers = length wheel.old.armed + TIMERS * connections in
         OnOk result (wheel.new ≡ record wheel.old { room = max wheel.old.room timers }) }
     ensures err { OnErr result (wheel.new ≡ wheel.old) }
 {
-    let timers = change
-        .count()
-        .checked_mul(usize::from(TIMERS))
-        .ok_or(Memory)?;
+    let timers = connections.checked_mul(usize::from(TIMERS)).ok_or(Memory)?;
     wheel.reserve_more(timers)
 }

@@ -28,8 +28,21 @@ abbrev pub owned : Option ℕ → Option ℕ → List (Option ℕ) → List (Opt
 owned None number owners = owners
 owned (Some mine) number owners = slice_set owners (slot_of mine) number
 
-abbrev pub giving_up : Option ℕ → OpeningsState → OpeningsState
-giving_up mine o = record { taken = o.taken; kept = o.kept; slots = given_up mine o.slots; owners = owned mine None o.owners }
+-- the ends of connections give their references up, one after another
+
+abbrev pub both_given_up : Next → LaneSlots → LaneSlots
+both_given_up next slots = given_up next.that (given_up next.this slots)
+
+abbrev pub all_given_up : List Next → LaneSlots → LaneSlots
+all_given_up [] slots = slots
+all_given_up (next ∷ more) slots = all_given_up more (both_given_up next slots)
+
+abbrev pub both_disowned : Next → List (Option ℕ) → List (Option ℕ)
+both_disowned next owners = owned next.that None (owned next.this None owners)
+
+abbrev pub all_disowned : List Next → List (Option ℕ) → List (Option ℕ)
+all_disowned [] owners = owners
+all_disowned (next ∷ more) owners = all_disowned more (both_disowned next owners)
 
 -- by the connection of this number
 abbrev pub taking : Option ℕ → ℕ → OpeningsState → OpeningsState
@@ -46,8 +59,8 @@ abbrev pub put : Next → OpeningsState → OpeningsState
 put next o = record {
   taken = o.taken;
   kept = slice_set o.kept next.number next.one;
-  slots = given_up next.that (given_up next.this o.slots);
-  owners = owned next.that None (owned next.this None o.owners);
+  slots = both_given_up next o.slots;
+  owners = both_disowned next o.owners;
 }
 
 abbrev pub put_all : List Next → OpeningsState → OpeningsState
@@ -77,6 +90,11 @@ changed (Ticked nexts) o = put_all nexts.items (ticked o)
 -- a reference that is held
 abbrev pub CanGiveUp : Option ℕ → LaneSlots → Type 0
 CanGiveUp mine slots = IfSome mine (IsHeld slots)
+
+abbrev pub CanAllGiveUp : List Next → LaneSlots → Type 0
+CanAllGiveUp [] slots = Unit {0}
+CanAllGiveUp (next ∷ more) slots =
+    CanGiveUp next.this slots × CanGiveUp next.that (given_up next.this slots) × CanAllGiveUp more (both_given_up next slots)
 
 pub record CanBePut (next : Next) (o : OpeningsState) : Type 0 where
   pub number : next.number < length o.kept

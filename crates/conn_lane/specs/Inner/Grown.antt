@@ -9,8 +9,8 @@ use Rattle.plant_core.specs.declared.terms.LaneHead.{LaneHead}
 use Rattle.plant_core.specs.Asking.{answer_in}
 use Rattle.section_model.specs.Opening.{wish_of}
 use Rattle.section_coupling.specs.Duos.{taken_after}
-use Rattle.conn_lane.specs.declared.lane.Context.{Context}
-use Rattle.conn_lane.specs.declared.lane.Turn.{Turn}
+use Rattle.conn_lane.specs.declared.journal.Context.{Context}
+use Rattle.conn_lane.specs.declared.journal.Turn.{Turn}
 use Rattle.conn_lane.specs.Inner.Remnants.{Remnant}
 use Rattle.conn_lane.specs.Inner.Stands.{Stands}
 use Rattle.section_model.specs.Journals.{lane_of}

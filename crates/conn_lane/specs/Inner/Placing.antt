@@ -2,7 +2,7 @@
 use Rattle.std.specs.Prelude.{◌≡◌, ℕ, ◌<◌, List, map, Option, Some, None, option_map}
 use Rattle.std.specs.List.{range_with_len}
 use Rattle.section_coupling.specs.Duos.{DuoState}
-use Rattle.conn_lane.specs.declared.kept.Placed.{Placed}
+use Rattle.conn_lane.specs.declared.placed.Placed.{Placed}
 
 -- The connections by their numbers, each until it is over, and for how many more memory is there.
 pub record ConnectionsState : Type 0 where

@@ -27,3 +27,8 @@ pub record OpeningsState : Type 0 where
   pub kept : List (Option DuoState)
   pub slots : LaneSlots
   pub owners : List (Option ℕ)
+
+-- The same, with the store that keeps the connections.
+pub record StoredOpenings (S : Type 0) : Type 0 where
+  pub state : OpeningsState
+  pub store : S

@@ -3,6 +3,7 @@ use Rattle.std.specs.Prelude.{◌≡◌, ◌==◌, ℕ, ◌+◌, ◌<◌, ◌≤
 use Rattle.std.specs.List.{list_any}
 use Rattle.timer_wheel.specs.declared.due.Due.{Due}
 use Rattle.timer_wheel.specs.Timers.{Armed, timer_of, is_timer, others, with_timer}
+use Rattle.conn_lane.specs.Inner.Waking.{is_in, AreRising}
 
 -- the ticks that a wheel has for a timer: one number where it runs, and none else
 abbrev pub ticks_of : Due → List Armed → List ℕ
@@ -30,18 +31,10 @@ pub record SetsFirst (number count : ℕ) (left : ℕ → Option ℕ) (old new :
 abbrev pub is_due : ℕ → List Due → Bool
 is_due number due = list_any (λ d. d.conn == number) due
 
-abbrev pub is_in : ℕ → List ℕ → Bool
-is_in number numbers = list_any (λ n. n == number) numbers
-
 -- timers of connections from this one on, in their order
 abbrev pub AreOrdered : ℕ → List Due → Type 0
 AreOrdered from [] = Unit {0}
 AreOrdered from (d ∷ due) = (from ≤ d.conn) × AreOrdered d.conn due
-
--- connections by rising number from this one on, of so many
-abbrev pub AreRising : ℕ → ℕ → List ℕ → Type 0
-AreRising count from [] = Unit {0}
-AreRising count from (n ∷ numbers) = (from ≤ n) × (n < count) × AreRising count (n + 1) numbers
 
 -- the connections of these timers, each once, and a number above them all
 pub record AreConnections (due : List Due) (numbers : List ℕ) : Type 0 where

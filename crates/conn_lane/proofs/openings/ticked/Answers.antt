@@ -7,9 +7,9 @@ use Rattle.conn_lane.proofs.openings.ticked.Goals as goal
 use Rattle.conn_lane.proofs.openings.ticked.Goals.{in-Some+in_ok-append+in_ok-push, in_default}
 
 pub loop-number-preserved : goal.loop-number-preserved
-loop-number-preserved c =
+loop-number-preserved g c =
     let now = c.args.now in
-    let kept = c.args.kept.now.kept in
+    let kept = g.S.Store.kept c.args.store.now in
     let numbers = c.args.numbers.now in
     let one = option_map (λ k. k.now) c.get.result in
     let i = c.loop-number.number-index in
@@ -31,6 +31,6 @@ loop-number-preserved c =
     ]
 
 pub returns-clause-ticked : goal.returns-clause-ticked
-returns-clause-ticked c =
-    reached_all c.args.now c.loop-number.number-index c.args.kept.now.kept c.args.numbers.now c.loop-number.nexts.items c.loop-number.outs
+returns-clause-ticked g c =
+    reached_all c.args.now c.loop-number.number-index (g.S.Store.kept c.args.store.now) c.args.numbers.now c.loop-number.nexts.items c.loop-number.outs
     (omega (arith, c.loop-number-test.false, c.loop-number.auto.number-index-end)) c.loop-number.invariant

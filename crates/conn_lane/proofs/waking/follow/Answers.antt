@@ -1,8 +1,8 @@
 use Rattle.std.proofs.Common.{ℕ, Option, sym, subst, refl, ◌∙◌, arith}
 use Rattle.std.specs.Prelude.{option_map}
 use Rattle.timer_wheel.specs.Timers.{timer_of}
+use Rattle.conn_lane.specs.Inner.Timed.{timer_left, IsLeft}
 use Rattle.conn_lane.specs.Inner.Wheels.{ticks_of, SetsOne, SetsFirst}
-use Rattle.conn_lane.specs.Inner.Waking.{timer_left, IsLeft}
 use Rattle.conn_lane.proofs.Wheels.{none_set, next_set, not_yet_set}
 use Rattle.conn_lane.proofs.waking.follow.Goals as goal
 

@@ -1,7 +1,7 @@
 use Rattle.std.proofs.Common.{◌≡◌}
 use Rattle.std.specs.Prelude.{option_map}
+use Rattle.conn_lane.specs.Inner.Timed.{timer_left}
 use Rattle.conn_lane.specs.Inner.Wheels.{SetsFirst}
-use Rattle.conn_lane.specs.Inner.Waking.{timer_left}
 use Rattle.conn_lane.proofs.waking.follow.Given as goal
 
 -- so many timers are set

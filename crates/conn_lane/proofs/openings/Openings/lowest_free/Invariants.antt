@@ -4,4 +4,4 @@ use Rattle.conn_lane.proofs.openings.Openings.lowest_free.Given as goal
 
 -- so many were found
 abbrev pub invariant-loop-at : goal.invariant-loop-at
-invariant-loop-at l = (l.lowest ≡ take l.at (free_references l.self.slots)) × (length l.lowest ≡ l.at)
+invariant-loop-at g l = (l.lowest ≡ take l.at (free_references l.self.state.slots)) × (length l.lowest ≡ l.at)

@@ -1,26 +1,11 @@
-use Rattle.std.proofs.Common.{sym, subst}
-use Rattle.conn_lane.specs.Inner.Views.{OpeningsState}
-use Rattle.conn_lane.specs.Inner.Waking.{IsTimed}
+use Rattle.std.proofs.Common.{sym, subst, ap, ◌∙◌}
+use Rattle.conn_lane.specs.Inner.Waking.{AllWoken, WakesDue}
+use Rattle.conn_lane.proofs.Wakes.{all_woken_same}
 use Rattle.conn_lane.proofs.openings.Openings.write.Goals as goal
 
-pub keep-number-requires-clause-timed : goal.keep-number-requires-clause-timed
-keep-number-requires-clause-timed c =
-    subst (λ k. IsTimed c.self.inside.taken k c.enter.new.wheel.armed) (sym c.in_ok-enter.ensures.kept)
-    (subst (IsTimed c.self.inside.taken c.self.inside.kept.kept) (sym c.in_ok-enter.ensures.armed)
-    (subst (λ (o : OpeningsState). IsTimed o.taken o.kept c.args.wheel.now.armed) (sym c.self.view_is) c.requires.timed))
-
-pub put_heard-requires-clause-timed : goal.put_heard-requires-clause-timed
-put_heard-requires-clause-timed c =
-    subst (λ k. IsTimed c.self.inside.taken k c.enter.new.wheel.armed) (sym c.in_ok-enter.ensures.kept)
-    (subst (IsTimed c.self.inside.taken c.self.inside.kept.kept) (sym c.in_ok-enter.ensures.armed)
-    (subst (λ (o : OpeningsState). IsTimed o.taken o.kept c.args.wheel.now.armed) (sym c.self.view_is) c.requires.timed))
-
-pub advance-requires-clause-timed : goal.advance-requires-clause-timed
-advance-requires-clause-timed c =
-    subst (λ k. IsTimed c.self.inside.taken k c.enter.new.wheel.armed) (sym c.in_ok-enter.ensures.kept)
-    (subst (IsTimed c.self.inside.taken c.self.inside.kept.kept) (sym c.in_ok-enter.ensures.armed)
-    (subst (λ (o : OpeningsState). IsTimed o.taken o.kept c.args.wheel.now.armed) (sym c.self.view_is) c.requires.timed))
-
-pub returns-in-Opened-clause-timed : goal.returns-in-Opened-clause-timed
-returns-in-Opened-clause-timed c =
-    subst (λ (o : OpeningsState). IsTimed o.taken o.kept c.keep-number.new.wheel.armed) (sym c.take_both.ensures) c.keep-number.ensures.timed
+pub advance-requires-clause-woken : goal.advance-requires-clause-woken
+advance-requires-clause-woken g c =
+    let due = g.S.Store.due in
+    subst (λ k. AllWoken (due c.enter.new.store) k c.in-Ticked.nexts.items) (sym c.in_ok-enter.ensures.kept)
+    (all_woken_same (due c.args.self.now.store) (due c.enter.new.store) (λ n. sym (c.in_ok-enter.ensures.due n ∙ ap (λ v. due v.store n) c.self.view_is)) (g.S.Store.kept c.self.inside.store) c.in-Ticked.nexts.items
+    (subst (λ v. AllWoken (due c.args.self.now.store) v.state.kept c.in-Ticked.nexts.items) (sym c.self.view_is) (subst (WakesDue (due c.args.self.now.store) c.args.self.now.state.kept) c.in-Ticked.is c.requires.woken)))

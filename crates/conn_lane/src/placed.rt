@@ -1,0 +1,9 @@
+//! A connection in its place.
+use crate::kept::Kept;
+
+/// A connection that isn't over, with its number in the lane's journal.
+#[derive(Drop)]
+pub struct Placed {
+    pub number: usize,
+    pub one: Kept,
+}
