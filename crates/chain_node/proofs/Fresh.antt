@@ -8,7 +8,7 @@ use Rattle.section_model.specs.Ends.{Connection}
 use Rattle.section_model.specs.Opening.{wish_of}
 use Rattle.section_model.specs.Lane.{Lane, Opening, with_event, opening_of, opening_list, openings_after}
 use Rattle.chain_step.specs.Fresh.{listed, references_in, is_among, has_twice}
-use Rattle.conn_lane.specs.Outcomes.{taken_by}
+use Rattle.conn_journal.specs.Outcomes.{taken_by}
 use Rattle.chain_node.specs.Inner.Taking.{ReferencesState, AreTaken, is_it, had}
 
 or_assoc : (a b c : Bool) → ((a || b) || c) ≡ (a || (b || c))

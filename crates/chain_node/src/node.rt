@@ -1,7 +1,7 @@
 //! A node of a row.
 ghost use Rattle.std.specs.Prelude.{◌≡◌, ◌≤◌, ◌<◌, ◌+◌, ◌^◌, ◌++◌, [], true, is_some, length, option_map, IfOk, OnOk, OnErr};
 ghost use Rattle.section_model.specs.Journals.{IsConnJournal};
-ghost use Rattle.conn_lane.specs.Lanes.{ConnLaneTakes};
+ghost use Rattle.conn_journal.specs.Lanes.{ConnLaneTakes};
 ghost use Rattle.chain_step.specs.Run.{head_of, first_node, waiting, queue_length, tells_by_event, after_event, after_giving};
 ghost use Rattle.chain_step.specs.Fresh.{is_fresh};
 

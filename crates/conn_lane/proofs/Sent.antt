@@ -3,7 +3,7 @@ use denote.Param.Send.{IsSend, sendable}
 use Rattle.std.proofs.Crossing.{crosses}
 use Rattle.timer_wheel.proofs.Sent.{wheel_send}
 use Rattle.conn_lane.proofs.connections.Connections.TheSendSync.{the_send as connections_send}
-use Rattle.conn_lane.proofs.journal.ConnJournal.TheSendSync.{the_send as journal_send}
+use Rattle.conn_journal.proofs.journal.ConnJournal.TheSendSync.{the_send as journal_send}
 use Rattle.conn_lane.specs.contracts.timed.TimedConnections as TimedConnections
 use Rattle.conn_lane.specs.contracts.lane.ConnLane as ConnLane
 

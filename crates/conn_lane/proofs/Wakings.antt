@@ -1,19 +1,19 @@
 -- The wheel once a change is made, and what the next tick wakes.
 use Rattle.section_coupling.specs.declared.duo.TheConstants.{TIMERS}
 use Rattle.std.proofs.Common.{◌≡◌, Ok, Err, IfOk, ℕ, zero, suc, ◌+◌, ◌==◌, ◌<◌, ◌≤◌, true, false, List, [], ◌∷◌, ◌++◌, length, get_or, set, option_to_list, Option, Some, None, inl, inr, refl, sym, subst, ap, ◌∙◌, arith}
-use Rattle.std.specs.Prelude.{IfSome, is_some}
+use Rattle.std.specs.Prelude.{IfSome}
 use Rattle.std.specs.declared.result.Result.{Result}
 use Rattle.std.proofs.lemmas.Bool.{both_ways, cases_lt, eq-eqb, or_left, or_right, or_from}
 use Rattle.std.proofs.lemmas.List.{get_or_past}
 use Rattle.timer_wheel.specs.Timers.{Armed, timer_of, due_now}
 use Rattle.connection_law.specs.TimerLaw.{IsQuiet}
 use Rattle.section_coupling.specs.Duos.{DuoState, duo_at}
-use Rattle.conn_lane.specs.declared.change.Next.{Next}
-use Rattle.conn_lane.specs.Inner.Ticking.{TickedAt}
+use Rattle.conn_journal.specs.declared.change.Next.{Next}
+use Rattle.conn_journal.specs.Inner.Ticking.{TickedAt}
 use Rattle.conn_lane.specs.Inner.Timed.{timer_left, SetsTimers, AreLeft, IsTimed}
-use Rattle.conn_lane.specs.Inner.Waking.{is_in, AreRising, AreQuiet, WakesAll, is_next}
+use Rattle.conn_journal.specs.Inner.Waking.{is_in, AreRising, AreQuiet, WakesAll, is_next}
 use Rattle.conn_lane.specs.Inner.Wheels.{ticks_of, is_due, AreConnections}
-use Rattle.conn_lane.proofs.Ticked.{set_middle}
+use Rattle.conn_journal.proofs.Ticked.{set_middle}
 use Rattle.conn_lane.proofs.Wheels.{none_there}
 use Rattle.conn_lane.proofs.Woken.{AreTimed, left_there, one_timed, idle_until_due}
 
@@ -47,11 +47,6 @@ next_timed taken next nexts kept armed later within sets are =
   where
     other : (n : ℕ) → (n ≡ next.number → ⊥) → (next.number == n) ≡ false
     other n apart = grind (arith, apart)
-
--- a connection that is kept was opened
-pub kept_within : (kept : List (Option DuoState)) (n : ℕ) → is_some (get_or kept n None) ≡ true → n < length kept
-kept_within kept n is =
-    elim (cases_lt n (length kept)) [ inl within ↦ within | inr past ↦ absurd (both_ways (is_some (get_or kept n None)) (ap is_some (get_or_past kept n None past)) is) ]
 
 -- a place more, where nothing is kept yet
 none_more : (kept : List (Option DuoState)) (n : ℕ) → get_or kept n None ≡ get_or (kept ++ None ∷ []) n None

@@ -10,9 +10,9 @@ use Rattle.timer_wheel.specs.declared.due.Due.{Due}
 use Rattle.timer_wheel.specs.Order.{is_before}
 use Rattle.timer_wheel.specs.Timers.{Armed, timer_of, is_timer, others, with_timer, before, behind, due_now, lowered, after_tick, IsRising}
 use Rattle.timer_wheel.proofs.Order.{before-asym, neither-same, head_of, tail_of}
-use Rattle.conn_lane.specs.Inner.Waking.{is_in, AreRising}
+use Rattle.conn_journal.specs.Inner.Waking.{is_in, AreRising}
 use Rattle.conn_lane.specs.Inner.Wheels.{ticks_of, with_ticks, is_due, SetsOne, SetsFirst, AreOrdered, AreConnections}
-use Rattle.conn_lane.proofs.Ticked.{take_next, drop_next, take_whole}
+use Rattle.conn_journal.proofs.Ticked.{take_next, drop_next, take_whole}
 
 -- Lists.
 

@@ -18,10 +18,10 @@ use Rattle.section_coupling.specs.declared.side.Side.TheVariants as side
 use Rattle.section_coupling.specs.Views.{left_at, end_at}
 use Rattle.section_coupling.specs.Duos.{DuoState, duo_at, left_of_timer, timer_placed, ticks_left}
 use Rattle.section_coupling.proofs.LaterTimers.{ticked_pair}
-use Rattle.conn_lane.specs.declared.change.Next.{Next}
-use Rattle.conn_lane.specs.Inner.Views.{IsIdle}
+use Rattle.conn_journal.specs.declared.change.Next.{Next}
+use Rattle.conn_journal.specs.Inner.Views.{IsIdle}
 use Rattle.conn_lane.specs.Inner.Timed.{ticks_in_wheel, timer_left, SetsTimers, IsLeft, AreLeft, IsTimed}
-use Rattle.conn_lane.specs.Inner.Waking.{is_next, IsWoken, AllWoken}
+use Rattle.conn_journal.specs.Inner.Waking.{is_next, IsWoken, AllWoken}
 use Rattle.conn_lane.specs.Inner.Wheels.{ticks_of, is_due}
 use Rattle.conn_lane.proofs.Wheels.{ticks_after, ticked as wheel_ticked, none_due}
 

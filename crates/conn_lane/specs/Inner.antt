@@ -1,16 +1,3 @@
-pub mod Changes
-pub mod Finding
-pub mod Grown
-pub mod Hearing
-pub mod Lowest
 pub mod Placing
-pub mod Remnants
-pub mod Seated
-pub mod Stands
-pub mod Ticking
 pub mod Timed
-pub mod Turns
-pub mod Uses
-pub mod Views
-pub mod Waking
 pub mod Wheels

@@ -1,4 +1,1 @@
-pub mod Lanes
-pub mod Laws
-pub mod Outcomes
 pub mod Inner

@@ -2,8 +2,8 @@
 ghost use Rattle.std.specs.Prelude.{◌≡◌, ◌≤◌, ◌+◌, ◌++◌, ◌∷◌, [], ℕ, Some, None, true, is_some, length, get_or, slice_set, OnOk};
 ghost use Rattle.std.specs.Option.{option_map};
 
-use crate::kept::Kept;
 use crate::placed::Placed;
+use conn_journal::Kept;
 use relay_base::Memory;
 use slab::Slab;
 use std::alloc::Global;

@@ -3,9 +3,8 @@ ghost use Rattle.std.specs.Prelude.{◌≡◌, ◌<◌, ◌^◌, [], length, IfO
 ghost use Rattle.relay_base.specs.declared.limits.TheConstants.{MOST_LANES};
 ghost use Rattle.section_coupling.specs.Sound.{IsCredit};
 
-use crate::journal::ConnJournal;
-use crate::outcome::Outcome;
 use crate::timed::TimedConnections;
+use conn_journal::{ConnJournal, Outcome};
 use plant_core::{EntryList, LaneHead, Plant};
 use relay_base::{Event, Memory, Stamp};
 use std::alloc::Global;
@@ -23,7 +22,7 @@ impl Drop for ConnLane {
 }
 
 impl Model for ConnLane {
-    ghost use Rattle.conn_lane.specs.Lanes.{ConnLaneState};
+    ghost use Rattle.conn_journal.specs.Lanes.{ConnLaneState};
 
     ghost Value = { ConnLaneState };
 
@@ -32,8 +31,8 @@ impl Model for ConnLane {
 
 impl ConnLane {
     ghost use Rattle.section_model.specs.Journals.{IsConnJournal};
-    ghost use Rattle.conn_lane.specs.Lanes.{ConnLaneTakes};
-    ghost use Rattle.conn_lane.specs.Outcomes.{IsOutcome};
+    ghost use Rattle.conn_journal.specs.Lanes.{ConnLaneTakes};
+    ghost use Rattle.conn_journal.specs.Outcomes.{IsOutcome};
 
     /// The connection lane of this number, 0 to 15, before its first event. The greatest credit of its head is 127 at most.
     pub fn new(alloc: Global, head: &LaneHead, number: u8) -> Result<ConnLane, Memory>

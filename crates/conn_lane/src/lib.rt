@@ -1,20 +1,11 @@
-//! The connection lane: the connections of one lane, and its journal.
+//! The connection lane: the connections of one lane, with the wheel by which they wake, and its journal.
 #![tactic(auto)]
 
-mod change;
 mod connections;
-mod index;
-mod journal;
-mod kept;
 mod lane;
-mod laws;
-mod openings;
-mod outcome;
 mod placed;
-mod store;
 mod timed;
 mod waking;
 
+pub use conn_journal::Outcome;
 pub use lane::ConnLane;
-pub use laws::keeps_all;
-pub use outcome::Outcome;

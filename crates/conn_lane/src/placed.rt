@@ -1,5 +1,5 @@
 //! A connection in its place.
-use crate::kept::Kept;
+use conn_journal::Kept;
 
 /// A connection that isn't over, with its number in the lane's journal.
 #[derive(Drop)]

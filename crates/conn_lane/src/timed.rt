@@ -3,11 +3,9 @@ ghost use Rattle.std.specs.Prelude.{◌≡◌, ◌≤◌, ◌+◌, ◌*◌, ◌+
 ghost use Rattle.section_coupling.specs.declared.duo.TheConstants.{TIMERS};
 ghost use Rattle.conn_lane.specs.Inner.Timed.{AreLeft, SetsTimers};
 
-use crate::change::Next;
 use crate::connections::Connections;
-use crate::kept::Kept;
-use crate::store::Store;
 use crate::waking::{due, follow, reserve};
+use conn_journal::{Kept, Next, Store};
 use relay_base::Memory;
 use std::alloc::Global;
 use std::marker::Model;

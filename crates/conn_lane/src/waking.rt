@@ -5,7 +5,7 @@ ghost use Rattle.timer_wheel.specs.Timers.{timer_of, due_now};
 ghost use Rattle.conn_lane.specs.Inner.Wheels.{ticks_of, with_ticks, AreOrdered, AreConnections, SetsOne};
 ghost use Rattle.conn_lane.specs.Inner.Timed.{ticks_in_wheel, timer_left, stands, IsLeft, AreLeft, SetsTimers};
 
-use crate::kept::Kept;
+use conn_journal::Kept;
 use relay_base::Memory;
 use section_coupling::TIMERS;
 use std::alloc::Global;

@@ -1,5 +1,5 @@
 -- A connection lane at its place.
-use Rattle.conn_lane.specs.Lanes.{ConnLaneState}
+use Rattle.conn_journal.specs.Lanes.{ConnLaneState}
 use Rattle.lane_seats.specs.Seats.{SeatState, Seated}
 
 abbrev pub conn_seated : SeatState ConnLaneState → Seated

@@ -3,7 +3,7 @@ use Rattle.std.specs.Prelude.{[]}
 use Rattle.plant_core.specs.declared.terms.TheConstants.{USUAL_TICKS}
 use Rattle.gtt_editions.specs.Published.{nothing}
 use Rattle.gtt_editions.specs.Shown.{no_edition}
-use Rattle.conn_lane.specs.Lanes.{ConnLaneState}
+use Rattle.conn_journal.specs.Lanes.{ConnLaneState}
 use Rattle.data_lane.specs.Legal.{LaneState}
 use Rattle.lane_seats.specs.Seats.{SeatState}
 use Rattle.lane_seats.specs.Controls.{ControlSeatState}

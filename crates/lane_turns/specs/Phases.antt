@@ -5,7 +5,7 @@ use Rattle.plant_core.specs.declared.change.Group.{Group}
 use Rattle.plant_core.specs.declared.entry.ControlEntry.{ControlEntry}
 use Rattle.gtt_editions.specs.Standing.{Publishing}
 use Rattle.data_lane.specs.Legal.{LaneState}
-use Rattle.conn_lane.specs.Lanes.{ConnLaneState}
+use Rattle.conn_journal.specs.Lanes.{ConnLaneState}
 use Rattle.node_head.specs.declared.head.Head.{Head}
 use Rattle.capture_form.specs.Events.{Stamped}
 use Rattle.scmg.specs.Lane.{ControlState}

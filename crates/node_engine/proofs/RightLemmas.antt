@@ -10,7 +10,7 @@ use Rattle.plant_core.specs.declared.entry.ControlEvent.{ControlEvent}
 use Rattle.plant_core.specs.declared.entry.ControlEvent.TheVariants.{Plain}
 use Rattle.data_lane.specs.Legal.{LaneState, IsDataJournal}
 use Rattle.section_model.specs.Journals.{IsConnJournal}
-use Rattle.conn_lane.specs.Lanes.{ConnLaneState}
+use Rattle.conn_journal.specs.Lanes.{ConnLaneState}
 use Rattle.scmg.specs.Control.{IsControlJournal}
 use Rattle.node_head.specs.declared.head.Head.{Head}
 use Rattle.node_head.specs.Ranges.{IsHead}

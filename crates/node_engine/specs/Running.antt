@@ -8,7 +8,7 @@ use Rattle.plant_core.specs.declared.entry.Entry.{Entry}
 use Rattle.plant_core.specs.declared.entry.ControlEntry.{ControlEntry}
 use Rattle.data_lane.specs.Legal.{LaneState, IsDataJournal}
 use Rattle.section_model.specs.Journals.{IsConnJournal}
-use Rattle.conn_lane.specs.Lanes.{ConnLaneState}
+use Rattle.conn_journal.specs.Lanes.{ConnLaneState}
 use Rattle.node_head.specs.declared.head.Head.{Head}
 use Rattle.node_head.specs.Ranges.{IsHead}
 use Rattle.journal_text.specs.declared.book.Book.{Book}

@@ -2,8 +2,8 @@
 use Rattle.std.specs.Prelude.{◌≡◌, ℕ, ◌≤◌, ◌+◌, ◌-◌, length}
 use Rattle.relay_base.specs.declared.words.Event.{Event}
 use Rattle.plant_core.specs.Plant.{PlantState}
-use Rattle.conn_lane.specs.Lanes.{ConnLaneState}
-use Rattle.conn_lane.specs.Outcomes.{next_outputs, next_connection, taken_by}
+use Rattle.conn_journal.specs.Lanes.{ConnLaneState}
+use Rattle.conn_journal.specs.Outcomes.{next_outputs, next_connection, taken_by}
 use Rattle.chain_step.specs.Run.{tells_in, messages_in}
 use Rattle.chain_node.specs.declared.coming.Coming.{Coming}
 use Rattle.chain_node.specs.declared.kept.Kept.{Kept}

@@ -3,8 +3,8 @@ use Rattle.std.specs.Prelude.{◌≡◌, ℕ, ◌≤◌, ◌+◌, ◌-◌, List,
 use Rattle.relay_base.specs.declared.words.Event.{Event}
 use Rattle.plant_core.specs.Plant.{PlantState}
 use Rattle.plant_core.specs.declared.entry.Entry.{Entry}
-use Rattle.conn_lane.specs.Lanes.{ConnLaneState}
-use Rattle.conn_lane.specs.Outcomes.{openings_in}
+use Rattle.conn_journal.specs.Lanes.{ConnLaneState}
+use Rattle.conn_journal.specs.Outcomes.{openings_in}
 use Rattle.chain_step.specs.Run.{messages_in}
 use Rattle.chain_step.specs.Fresh.{references_in}
 use Rattle.chain_node.specs.Inner.Queues.{QueueState}

@@ -3,7 +3,7 @@ use Rattle.std.specs.Prelude.{◌≡◌, ◌==◌, ℕ, ◌+◌, ◌<◌, ◌≤
 use Rattle.std.specs.List.{list_any}
 use Rattle.timer_wheel.specs.declared.due.Due.{Due}
 use Rattle.timer_wheel.specs.Timers.{Armed, timer_of, is_timer, others, with_timer}
-use Rattle.conn_lane.specs.Inner.Waking.{is_in, AreRising}
+use Rattle.conn_journal.specs.Inner.Waking.{is_in, AreRising}
 
 -- the ticks that a wheel has for a timer: one number where it runs, and none else
 abbrev pub ticks_of : Due → List Armed → List ℕ

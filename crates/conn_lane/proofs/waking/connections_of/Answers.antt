@@ -1,6 +1,6 @@
 use Rattle.std.proofs.Common.{◌≡◌, ◌+◌, get_or, sym, subst, ap, ◌∙◌}
 use Rattle.timer_wheel.specs.declared.due.Due.{Due}
-use Rattle.conn_lane.proofs.Standing.{any_default}
+use Rattle.conn_journal.proofs.Standing.{any_default}
 use Rattle.conn_lane.proofs.Wheels.{Collected, collected_again, collected_next}
 use Rattle.conn_lane.proofs.waking.connections_of.Goals as goal
 use Rattle.conn_lane.proofs.waking.connections_of.Goals.{then-number-next+in_ok-push, else-number-next}

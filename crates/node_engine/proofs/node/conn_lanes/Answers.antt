@@ -1,6 +1,6 @@
 use Rattle.std.proofs.Common.{◌≡◌, ◌∙◌, ◌+◌, [], ◌∷◌, length, sym, ap, subst, arith, length-append}
 use Rattle.std.specs.List.{AllByRecursion}
-use Rattle.conn_lane.specs.Lanes.{ConnLaneState}
+use Rattle.conn_journal.specs.Lanes.{ConnLaneState}
 use Rattle.right_book.specs.Lanes.{LanesFrom}
 use Rattle.node_engine.specs.Running.{IsConnLaneOf}
 use Rattle.right_book.proofs.ListLemmas.{all-push, lanes-push}

@@ -1,10 +1,11 @@
 use Rattle.std.proofs.Common.{◌≡◌, ◌+◌, length, false, sym, subst, ap, ap₂, ◌∙◌, arith}
 use Rattle.std.proofs.lemmas.List.{length-set}
 use Rattle.timer_wheel.specs.Timers.{Timers, due_now}
-use Rattle.conn_lane.specs.Inner.Ticking.{put_lives, AllAreKept}
-use Rattle.conn_lane.specs.Inner.Waking.{is_next, AllWoken}
+use Rattle.conn_journal.specs.Inner.Ticking.{put_lives, AllAreKept}
+use Rattle.conn_journal.specs.Inner.Waking.{is_next, AllWoken}
 use Rattle.conn_lane.specs.Inner.Wheels.{is_due}
-use Rattle.conn_lane.proofs.Wakings.{next_timed, kept_within}
+use Rattle.conn_journal.proofs.Puts.{kept_within}
+use Rattle.conn_lane.proofs.Wakings.{next_timed}
 use Rattle.conn_lane.proofs.Wheels.{tick_length}
 use Rattle.conn_lane.proofs.Woken.{AreTimed, tick_timed}
 use Rattle.conn_lane.proofs.timed.TimedConnectionsStore.advance.Goals as goal

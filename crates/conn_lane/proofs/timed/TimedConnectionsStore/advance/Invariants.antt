@@ -1,7 +1,7 @@
 use Rattle.section_coupling.specs.declared.duo.TheConstants.{TIMERS}
 use Rattle.std.proofs.Common.{◌≡◌, ◌≤◌, ◌+◌, ◌*◌, length, false}
-use Rattle.conn_lane.specs.Inner.Ticking.{put_lives, AllAreKept}
-use Rattle.conn_lane.specs.Inner.Waking.{is_next}
+use Rattle.conn_journal.specs.Inner.Ticking.{put_lives, AllAreKept}
+use Rattle.conn_journal.specs.Inner.Waking.{is_next}
 use Rattle.conn_lane.proofs.Woken.{AreTimed}
 use Rattle.conn_lane.proofs.timed.TimedConnectionsStore.advance.Given as goal
 

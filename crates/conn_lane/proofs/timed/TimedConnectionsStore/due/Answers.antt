@@ -1,6 +1,6 @@
 use Rattle.std.proofs.Common.{sym, subst, ap, ◌∙◌}
 use Rattle.timer_wheel.specs.Timers.{due_now}
-use Rattle.conn_lane.specs.Inner.Waking.{AreQuiet, WakesAll}
+use Rattle.conn_journal.specs.Inner.Waking.{AreQuiet, WakesAll}
 use Rattle.conn_lane.specs.Inner.Wheels.{is_due}
 use Rattle.conn_lane.proofs.Wakings.{wakes_all, if_ok}
 use Rattle.conn_lane.proofs.timed.TimedConnectionsStore.due.Goals as goal

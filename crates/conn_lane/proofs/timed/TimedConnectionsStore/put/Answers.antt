@@ -1,7 +1,8 @@
 use Rattle.std.proofs.Common.{None, get_or, sym, subst, ap, ◌∙◌, arith}
 use Rattle.std.specs.Prelude.{is_some}
 use Rattle.conn_lane.specs.Inner.Timed.{IsTimed}
-use Rattle.conn_lane.proofs.Wakings.{timed_left, heard_timed, kept_within}
+use Rattle.conn_journal.proofs.Puts.{kept_within}
+use Rattle.conn_lane.proofs.Wakings.{timed_left, heard_timed}
 use Rattle.conn_lane.proofs.timed.TimedConnectionsStore.put.Goals as goal
 
 pub put-requires-clause-number : goal.put-requires-clause-number

@@ -1,6 +1,6 @@
 use Rattle.std.proofs.Common.{ℕ, All, length, sym, subst}
 use Rattle.capture_form.specs.Events.{phase_events}
-use Rattle.conn_lane.specs.Lanes.{ConnLaneState}
+use Rattle.conn_journal.specs.Lanes.{ConnLaneState}
 use Rattle.lane_turns.specs.LaneStates.{Conn}
 use Rattle.lane_seats.specs.Seats.{SeatState}
 use Rattle.lane_turns.specs.Turns.{HasRoom}

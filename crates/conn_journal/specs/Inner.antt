@@ -1,0 +1,13 @@
+pub mod Changes
+pub mod Finding
+pub mod Grown
+pub mod Hearing
+pub mod Lowest
+pub mod Remnants
+pub mod Seated
+pub mod Stands
+pub mod Ticking
+pub mod Turns
+pub mod Uses
+pub mod Views
+pub mod Waking

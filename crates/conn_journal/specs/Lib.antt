@@ -1,0 +1,4 @@
+pub mod Lanes
+pub mod Laws
+pub mod Outcomes
+pub mod Inner
