@@ -1,0 +1,3 @@
+pub mod EditionLemmas
+pub mod PendingLemmas
+pub mod PlacingLemmas
