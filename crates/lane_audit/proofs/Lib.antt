@@ -1,0 +1,4 @@
+pub mod EntryLemmas
+pub mod JudgeLemmas
+pub mod LaneLemmas
+pub mod WaitLemmas

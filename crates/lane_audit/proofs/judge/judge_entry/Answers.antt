@@ -1,0 +1,45 @@
+use Rattle.std.proofs.Common.{◌≡◌, sym, subst₂, arith, rules}
+use Rattle.journal_form.specs.Inner.Seen.{seen_part}
+use Rattle.lane_events.specs.Pending.{taken_in}
+use Rattle.lane_audit.specs.Follows.{Goes, named_by}
+use Rattle.lane_audit.proofs.EntryLemmas.{without_stamp}
+use Rattle.lane_audit.proofs.JudgeLemmas.{judged_late, judged_foreign, phase_there, judged_unnamed, judged_unasked, judged_unwritten, judged_so}
+use Rattle.lane_audit.proofs.judge.judge_entry.Goals as goal
+
+pub returns-in_default-clause-judges : goal.returns-in_default-clause-judges
+returns-in_default-clause-judges g c = without_stamp (g.R.Replay.rules c.args.lane.now) (g.R.Replay.journal c.args.lane.now) (seen_part c.args.part.now) (search rules)
+
+pub returns-in_default-take-clause-judges : goal.returns-in_default-take-clause-judges
+returns-in_default-take-clause-judges g c =
+    judged_late (g.R.Replay.rules c.args.lane.now) (g.R.Replay.journal c.args.lane.now) (seen_part c.args.part.now) c.args.events.now c.in-Some.stamp c.requires.awaits (search rules) (search rules)
+
+pub returns-then-not-takes-clause-judges : goal.returns-then-not-takes-clause-judges
+returns-then-not-takes-clause-judges g c =
+    judged_foreign (g.R.Replay.rules c.args.lane.now) (g.R.Replay.journal c.args.lane.now) (seen_part c.args.part.now) c.args.events.now c.in-Some.stamp c.requires.awaits (search rules) c.in-Some-take.event.now (search rules) (search rules)
+
+pub returns-then-not-branch-clause-judges : goal.returns-then-not-branch-clause-judges
+returns-then-not-branch-clause-judges g c =
+    judged_unnamed (g.R.Replay.rules c.args.lane.now) (g.R.Replay.journal c.args.lane.now) (seen_part c.args.part.now) c.args.events.now c.in-Some.stamp c.requires.awaits (search rules) c.in-Some-take.event.now (search rules) c.args.editions.now c.requires.names (search rules) (search rules)
+
+pub returns-then-taken-is_some-clause-judges : goal.returns-then-taken-is_some-clause-judges
+returns-then-taken-is_some-clause-judges g c =
+    judged_unasked (g.R.Replay.rules c.args.lane.now) (g.R.Replay.journal c.args.lane.now) (seen_part c.args.part.now) c.args.events.now c.in-Some.stamp c.requires.awaits (search rules) c.in-Some-take.event.now (search rules) c.args.editions.now c.requires.names
+    (g.R.Replay.journal c.take-2.new.self) c.plant.result.now c.in_ok-taken.taken c.in_ok-taken.ensures.taken (search rules) (search rules) (search rules) (search rules)
+
+pub returns-then-not-taken-clause-judges : goal.returns-then-not-taken-clause-judges
+returns-then-not-taken-clause-judges g c =
+    judged_unwritten (g.R.Replay.rules c.args.lane.now) (g.R.Replay.journal c.args.lane.now) (seen_part c.args.part.now) c.args.events.now c.in-Some.stamp c.requires.awaits (search rules) c.in-Some-take.event.now (search rules) c.args.editions.now c.requires.names
+    (g.R.Replay.journal c.take-2.new.self) c.plant.result.now c.in_ok-taken.taken c.in_ok-taken.ensures.taken (search rules) (search rules) (search rules) (search rules) (search rules)
+
+pub returns-clause-judges : goal.returns-clause-judges
+returns-clause-judges g c =
+    let goes = judged_so (g.R.Replay.rules c.args.lane.now) (g.R.Replay.journal c.args.lane.now) (seen_part c.args.part.now) c.args.events.now c.in-Some.stamp c.requires.awaits (search rules) c.in-Some-take.event.now (search rules) c.args.editions.now c.requires.names
+    (g.R.Replay.journal c.take-2.new.self) c.plant.result.now c.in_ok-taken.taken c.in_ok-taken.ensures.taken (search rules) (search rules) (search rules) (search rules) (search rules) in
+    let waits : c.take.new.self ≡ taken_in c.args.events.now c.in-Some.stamp = search rules in
+    let named : c.may_name.new.editions ≡ named_by c.args.editions.now c.in-Some.stamp.phase (seen_part c.args.part.now).words.asked = search rules in
+    subst₂ (Goes (g.R.Replay.rules c.args.lane.now) (g.R.Replay.journal c.args.lane.now) (g.R.Replay.journal c.take-2.new.self) (seen_part c.args.part.now)) (sym waits) (sym named) goes
+
+pub may_name-requires-clause-phase : goal.may_name-requires-clause-phase
+may_name-requires-clause-phase g c =
+    let within = phase_there (g.R.Replay.rules c.args.lane.now) (g.R.Replay.journal c.args.lane.now) (seen_part c.args.part.now) c.args.events.now c.in-Some.stamp c.requires.awaits (search rules) c.in-Some-take.event.now (search rules) in
+    omega (arith, within, c.requires.names.phases)
