@@ -27,6 +27,7 @@ fn commands(rt: HostRuntime) -> Result<(), Fail> {
         ("run", Command::Run),
         ("m3ua", Command::Stream),
         ("m3ua frames", Command::Frames),
+        ("chain", Command::Chain),
         (
             "gen 1 1",
             Command::Generate {
@@ -108,6 +109,7 @@ fn no_commands(rt: HostRuntime) -> Result<(), Fail> {
         "m3ua ",
         "m3ua run",
         "m3ua Frames",
+        "chain 1",
         "m3ua frames frames",
         "m3ua --frames",
         "m3ua help",
