@@ -18,7 +18,7 @@ use Rattle.plant_core.specs.declared.entry.ControlEvent.{ControlEvent}
 use Rattle.scmg.specs.Control.{Control, start_of_control, edition_after, count_after, managed, after_entry, LegalFrom}
 use Rattle.scmg.specs.declared.head.ControlHead.{ControlHead}
 use Rattle.section_model.specs.Journals.{IsConnJournal}
-use Rattle.data_lane.specs.Legal.{IsDataJournal}
+use Rattle.unit_journal.specs.Legal.{IsDataJournal}
 use Rattle.node_head.specs.declared.head.Head.{Head}
 use Rattle.capture_form.specs.Events.{Stamped}
 use Rattle.right_book.specs.Editions.{changes_of, edition_of, IsAnswer, IsRouting}

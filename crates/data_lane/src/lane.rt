@@ -1,118 +1,42 @@
 //! The data lane.
-ghost use Rattle.std.specs.Prelude.{◌≡◌, ◌+◌, ◌++◌, ◌∷◌, [], if◌then◌else◌, IfOk, OnOk, OnErr};
-ghost use Rattle.reassembly.specs.Laws.{IsWithinBounds};
+ghost use Rattle.std.specs.Prelude.{◌≡◌, [], IfOk, OnOk, OnErr};
 ghost use Rattle.plant_core.specs.Terms.{IsLaneHead};
-ghost use Rattle.data_lane.specs.Legal.{worked};
-ghost use Rattle.data_lane.specs.Inner.Lane.{reduced};
 
-use crate::effect::{Context, Work};
-use crate::gathering::work_off;
-use plant_core::{Entry, EntryList, LaneHead, Plant, fitted};
-use reassembly::Bench;
-use relay_base::{Event, Memory, Pc, Stamp};
+use plant_core::{EntryList, LaneHead, Plant};
+use relay_base::{Event, Memory, Stamp};
 use std::alloc::Global;
 use std::marker::Model;
-use std::mem;
-
-/// How many references of segments a lane has (Q.713, 3.17: a reference has 24 bits, of which four are the lane's number).
-const REFERENCES: u32 = 1_048_576;
+use unit_journal::UnitJournal;
 
 /// The units of one lane. Its journal is a legal one at all times.
 pub struct DataLane {
-    alloc: Global,
-    head: LaneHead,
-    number: u8,
-    journal: EntryList,
-    /// How many units were cut into segments, as far as references tell them apart.
-    cut: u32,
-    bench: Bench,
+    journal: UnitJournal,
 }
 
 impl Drop for DataLane {
     fn drop(self) {
-        let Self {
-            alloc: _,
-            head: _head,
-            number: _,
-            journal: _journal,
-            cut: _,
-            bench: _bench,
-        } = self;
+        let Self { journal: _journal } = self;
     }
 }
 
 impl Model for DataLane {
-    ghost use Rattle.data_lane.specs.Legal.{LaneState};
-    ghost use Rattle.data_lane.specs.Inner.Lane.{IsLane};
+    ghost use Rattle.unit_journal.specs.Legal.{LaneState};
 
     ghost Value = { LaneState };
 
-    ghost view = { λ l. record { head = l.head; number = l.number; journal = l.journal } };
-
-    ghost invariant = { λ l. IsLane l.head l.number l.journal l.cut l.bench };
-}
-
-/// The count after one more event.
-fn count_after(cut: u32, is_cut: bool) -> u32
-    ensures { result ≡ reduced (reduced cut + (if is_cut then 1 else 0)) }
-{
-    (cut % REFERENCES + u32::from(is_cut)) % REFERENCES
-}
-
-/// Does what is left to do with the reassemblies, and puts the entry at the end of the journal, with what comes of that. After `Memory`
-/// both are as before.
-fn write(
-    alloc: Global,
-    own: Pc,
-    bench: &mut Bench,
-    journal: &mut Vec<Entry>,
-    entry: Entry,
-    work: Work,
-) -> Result<(), Memory>
-    requires { IsWithinBounds bench.old.processes }
-    ensures entry { let done = worked own bench.old.ticks bench.old.processes work in
-        let written = record entry { outs = entry.outs ++ done.outs }
-        in OnOk result (journal.new.items ≡ journal.old.items ++ written ∷ []) }
-    ensures processes { let done = worked own bench.old.ticks bench.old.processes work
-        in OnOk result (bench.new.processes ≡ done.processes) }
-    ensures ticks { bench.new.ticks ≡ bench.old.ticks }
-    ensures journal { OnErr result (journal.new.items ≡ journal.old.items) }
-    ensures bench { OnErr result (bench.new ≡ bench.old) }
-    ensures bounds { IsWithinBounds bench.new.processes }
-{
-    journal.reserve(1)?;
-    let Entry {
-        stamp,
-        event,
-        asked,
-        outs,
-    } = entry;
-    let outs = work_off(alloc, own, bench, work, outs)?;
-    journal.push_reserved(Entry {
-        stamp,
-        event,
-        asked,
-        outs: fitted(outs),
-    });
-    Ok(())
+    ghost view = { λ l. l.journal };
 }
 
 impl DataLane {
-    ghost use Rattle.data_lane.specs.Legal.{IsDataJournal, AddsEntry};
+    ghost use Rattle.unit_journal.specs.Legal.{IsDataJournal, AddsEntry};
 
     /// The data lane of this number, from 0, before its first event.
     pub fn new(alloc: Global, head: &LaneHead, number: u8) -> Result<DataLane, Memory>
         requires { IsLaneHead head.now }
         ensures { IfOk result (λ x. x ≡ record { head = head.now; number = number; journal = [] }) }
     {
-        Ok(DataLane {
-            alloc,
-            head: head.copy(alloc)?,
-            number,
-            journal: EntryList::new(alloc),
-            cut: 0,
-            bench: Bench::new(alloc, head.reassembly),
-        })
+        let journal = UnitJournal::new(alloc, head, number)?;
+        Ok(DataLane { journal })
     }
 
     /// Takes an event, with these routing data. After want of memory the lane is as before.
@@ -120,8 +44,7 @@ impl DataLane {
         ensures ok { OnOk result (AddsEntry plant.now stamp event.now self.old self.new) }
         ensures err { OnErr result (self.new ≡ self.old) }
     {
-        let event = event.copied()?;
-        self.step_owned(plant, stamp, event)
+        self.journal.step(plant, stamp, event)
     }
 
     /// The same with an event that becomes the journal's own, so that none is copied.
@@ -129,34 +52,7 @@ impl DataLane {
         ensures ok { OnOk result (AddsEntry plant.now stamp event self.old self.new) }
         ensures err { OnErr result (self.new ≡ self.old) }
     {
-        let context = Context {
-            alloc: self.alloc,
-            head: &self.head,
-            number: self.number,
-            cut: self.cut,
-            plant,
-        };
-        let (asked, effect) = context.effect_of(&event)?;
-        let entry = Entry {
-            stamp,
-            event,
-            asked,
-            outs: effect.outs,
-        };
-        let own = self.head.terms.own;
-        let mut journal = mem::replace(&mut self.journal, EntryList::new(self.alloc)).into_vec();
-        let written = write(
-            self.alloc,
-            own,
-            &mut self.bench,
-            &mut journal,
-            entry,
-            effect.work,
-        );
-        self.journal = EntryList::from(journal);
-        written?;
-        self.cut = count_after(self.cut, effect.is_cut);
-        Ok(())
+        self.journal.step_owned(plant, stamp, event)
     }
 
     /// What the lane did, event by event.
@@ -164,7 +60,7 @@ impl DataLane {
         ensures value { result.now ≡ self.now.journal }
         ensures legal { IsDataJournal self.now.head self.now.number self.now.journal }
     {
-        &self.journal
+        self.journal.journal()
     }
 
     /// What the lane did, as a list of its own.
@@ -172,14 +68,7 @@ impl DataLane {
         ensures value { result ≡ self.journal }
         ensures legal { IsDataJournal self.head self.number self.journal }
     {
-        let Self {
-            alloc: _,
-            head: _head,
-            number: _,
-            journal,
-            cut: _,
-            bench: _bench,
-        } = self;
-        journal
+        let Self { journal } = self;
+        journal.into_journal()
     }
 }

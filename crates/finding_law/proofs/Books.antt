@@ -9,7 +9,7 @@ use Rattle.relay_base.specs.declared.words.Event.{Event}
 use Rattle.plant_core.specs.declared.entry.ControlEntry.{ControlEntry}
 use Rattle.plant_core.specs.declared.entry.Entry.{Entry}
 use Rattle.section_model.specs.Journals.{IsConnJournal}
-use Rattle.data_lane.specs.Legal.{IsDataJournal}
+use Rattle.unit_journal.specs.Legal.{IsDataJournal}
 use Rattle.node_head.specs.declared.head.Head.{Head}
 use Rattle.journal_text.specs.declared.book.Book.{Book}
 use Rattle.capture_form.specs.Events.{Stamped}

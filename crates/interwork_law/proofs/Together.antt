@@ -19,8 +19,8 @@ use Rattle.connectionless.specs.Routed.{delivery}
 use Rattle.connectionless.specs.Asking.{message_in}
 use Rattle.connectionless.specs.Cutting.{Cutting, importance_size, return_bit, segment, segment_size, segment_count, segmentation_octets, can_be_cut}
 use Rattle.connectionless.proofs.Ranges.{segment-in_range}
-use Rattle.data_lane.specs.declared.effect.Work.TheVariants as work
-use Rattle.data_lane.specs.Legal.{whole_told}
+use Rattle.unit_journal.specs.declared.effect.Work.TheVariants as work
+use Rattle.unit_journal.specs.Legal.{whole_told}
 use Rattle.interwork_law.specs.Together.{arrived, work_by_message, piece_at, whole, IsForSegments, SegmentsComeTogether}
 use Rattle.interwork_law.proofs.Sizes.{counted}
 use Rattle.interwork_law.proofs.Lengths.{length-segment}

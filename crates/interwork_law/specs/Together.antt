@@ -17,9 +17,9 @@ use Rattle.connectionless.specs.Leaving.{unit_octets}
 use Rattle.connectionless.specs.Routed.{delivery, segment_of}
 use Rattle.connectionless.specs.Asking.{message_in}
 use Rattle.connectionless.specs.Cutting.{Cutting, segment, segment_size, segment_count, segmentation_octets, can_be_cut}
-use Rattle.data_lane.specs.declared.effect.Work.{Work}
-use Rattle.data_lane.specs.declared.effect.Work.TheVariants as work
-use Rattle.data_lane.specs.Legal.{piece_of, work_of, whole_told}
+use Rattle.unit_journal.specs.declared.effect.Work.{Work}
+use Rattle.unit_journal.specs.declared.effect.Work.TheVariants as work
+use Rattle.unit_journal.specs.Legal.{piece_of, work_of, whole_told}
 
 -- What octets from a point are for a subsystem of the node where they arrive: a segment for the reassemblies, or nothing.
 abbrev pub work_by_unit : ℕ → ℕ → ℕ → Option Unitdata → Work

@@ -44,7 +44,8 @@ fn put_answer(text: &mut Text, answer: Answer) -> Result<(), AllocError>
     }
 }
 
-fn put_asked(text: &mut Text, asked: &Option<Asked>) -> Result<(), AllocError>
+/// Appends the edition and the answer of a routing, where there is one.
+pub fn put_asked(text: &mut Text, asked: &Option<Asked>) -> Result<(), AllocError>
     ensures { Puts result text.old text.new (asked_text asked.now) }
 {
     let Some(asked) = asked else {
@@ -55,7 +56,8 @@ fn put_asked(text: &mut Text, asked: &Option<Asked>) -> Result<(), AllocError>
     put_answer(text, asked.answer)
 }
 
-fn put_published(text: &mut Text, published: Option<u64>) -> Result<(), AllocError>
+/// Appends the edition that was published, where one was.
+pub fn put_published(text: &mut Text, published: Option<u64>) -> Result<(), AllocError>
     ensures { Puts result text.old text.new (published_text published) }
 {
     let Some(edition) = published else {
@@ -65,7 +67,8 @@ fn put_published(text: &mut Text, published: Option<u64>) -> Result<(), AllocErr
     text.digits(edition)
 }
 
-fn put_stamp(text: &mut Text, stamp: Stamp) -> Result<(), AllocError>
+/// Appends the stamp of an event: its phase, link and line, with a dot between each two.
+pub fn put_stamp(text: &mut Text, stamp: Stamp) -> Result<(), AllocError>
     ensures { Puts result text.old text.new (stamp_text stamp) }
 {
     text.digits(stamp.phase)?;

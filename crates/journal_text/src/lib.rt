@@ -8,6 +8,7 @@ mod text;
 mod writing;
 
 pub use book::{Book, print_book};
-pub use tell::put_tell;
+pub use entries::{put_asked, put_published, put_stamp};
+pub use tell::{put_output, put_tell};
 pub use text::Text;
 pub use writing::{WriteFault, write_book, write_if_long, write_text};

@@ -59,9 +59,9 @@ use Rattle.connectionless.specs.Asking.{Matter, from_network, from_user, settled
 use Rattle.long_interwork.specs.declared.forward.Forward.{Forward}
 use Rattle.long_interwork.specs.Shortening.{extended, is_small, fits, is_entire, cutting, in_one, in_segments, unit_shortened, service_shortened, shortened}
 use Rattle.long_interwork.specs.Routed.{forward_in, routed_by, routed}
-use Rattle.data_lane.specs.declared.effect.Work.{Work}
-use Rattle.data_lane.specs.declared.effect.Work.TheVariants as work
-use Rattle.data_lane.specs.Legal.{State, at_first, effect_by, failure, failures, of_now, taken_outs, worked, step_of, entry_after, LegalFrom}
+use Rattle.unit_journal.specs.declared.effect.Work.{Work}
+use Rattle.unit_journal.specs.declared.effect.Work.TheVariants as work
+use Rattle.unit_journal.specs.Legal.{State, at_first, effect_by, failure, failures, of_now, taken_outs, worked, step_of, entry_after, LegalFrom}
 use Rattle.length_law.specs.LengthLaw.{FitsOne, IsCarried, AreCarried, DataIsCarried}
 use Rattle.length_law.proofs.Outputs.{either, all-append, all-map}
 use Rattle.length_law.proofs.Spelling.{IsShort, IsShortOption, HasShortParts, spelled}

@@ -12,7 +12,7 @@ use Rattle.plant_core.specs.declared.terms.LaneHead.{LaneHead}
 use Rattle.scmg.specs.declared.head.ControlHead.{ControlHead}
 use Rattle.scmg.specs.Control.{IsControlJournal}
 use Rattle.section_model.specs.Journals.{IsConnJournal}
-use Rattle.data_lane.specs.Legal.{IsDataJournal}
+use Rattle.unit_journal.specs.Legal.{IsDataJournal}
 use Rattle.node_head.specs.declared.head.Head.{Head}
 use Rattle.journal_text.specs.declared.book.Book.{Book}
 use Rattle.capture_form.specs.Events.{Stamped}

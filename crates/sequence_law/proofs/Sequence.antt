@@ -2,7 +2,7 @@
 use Rattle.std.proofs.Common.{◌≡◌, ℕ, zero, suc, ◌+◌, ◌%◌, ◌<◌, true, false, List, [], ◌∷◌, ◌++◌, length, refl, sym, ap, ◌∙◌, subst, Some, arith, eq-eqb, ne_eqb, mod-lt}
 use Rattle.std.specs.Prelude.{slice_get}
 use Rattle.plant_core.specs.declared.entry.Entry.{Entry}
-use Rattle.data_lane.specs.Legal.{IsDataJournal}
+use Rattle.unit_journal.specs.Legal.{IsDataJournal}
 use Rattle.node_head.specs.declared.head.Head.{Head}
 use Rattle.journal_text.specs.declared.book.Book.{Book}
 use Rattle.capture_form.specs.Events.{Stamped}

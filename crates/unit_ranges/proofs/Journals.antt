@@ -20,10 +20,10 @@ use Rattle.connectionless.specs.Given.{reference_after}
 use Rattle.connectionless.specs.Asking.{Matter, from_network, from_user, settled, of_tick, matter_of}
 use Rattle.connectionless.specs.declared.segment.Next.{Next}
 use Rattle.connectionless.specs.declared.segment.Next.TheVariants.{Done, Gather}
-use Rattle.data_lane.specs.declared.effect.Effect.{Effect}
-use Rattle.data_lane.specs.declared.effect.Work.{Work}
-use Rattle.data_lane.specs.declared.effect.Work.TheVariants as work
-use Rattle.data_lane.specs.Legal.{work_of, effect_by, failure, failures, of_now, taken_outs, Worked, worked, State, at_first, step_of, entry_after, LegalFrom}
+use Rattle.unit_journal.specs.declared.effect.Effect.{Effect}
+use Rattle.unit_journal.specs.declared.effect.Work.{Work}
+use Rattle.unit_journal.specs.declared.effect.Work.TheVariants as work
+use Rattle.unit_journal.specs.Legal.{work_of, effect_by, failure, failures, of_now, taken_outs, Worked, worked, State, at_first, step_of, entry_after, LegalFrom}
 use Rattle.octet_law.specs.OctetLaw.{IsOctet, AreOctets}
 use Rattle.octet_law.specs.Ranges.{IsPoint, IsSelection, EventInRange, EntryInRange, AnswerInRange, OutputInRange, OutputsInRange, LaneHeadInRange}
 use Rattle.octet_law.proofs.Lists.{either, all-append, all-map, all-filter}

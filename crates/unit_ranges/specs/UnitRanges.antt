@@ -4,7 +4,7 @@ use Rattle.std.specs.List.{AllByRecursion}
 use Rattle.relay_base.specs.declared.words.Event.{Event}
 use Rattle.plant_core.specs.declared.entry.Entry.{Entry}
 use Rattle.plant_core.specs.declared.terms.LaneHead.{LaneHead}
-use Rattle.data_lane.specs.Legal.{question_of, IsDataJournal}
+use Rattle.unit_journal.specs.Legal.{question_of, IsDataJournal}
 use Rattle.octet_law.specs.Ranges.{EventInRange, QuestionInRange, EntryInRange, OutputsInRange, LaneHeadInRange}
 
 abbrev pub DataAsksInRange : Type 0
