@@ -1,6 +1,6 @@
 use Rattle.std.proofs.Common.{◌≡◌, ◌++◌, drop, take, IsTrue}
 use Rattle.node_head.specs.Addable.{are_addable}
-use Rattle.node_engine.proofs.node.add_rows.Given as goal
+use Rattle.lane_heads.proofs.heads.add_rows.Given as goal
 
 -- the rows so far were added, and those that are left can be
 abbrev pub invariant-loop-row : goal.invariant-loop-row
