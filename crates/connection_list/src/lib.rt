@@ -1,6 +1,7 @@
-//! The connections of a lane as a plain list, all of which each tick takes.
+//! The connections of a lane as a plain list, with the tick at which each wakes.
 #![tactic(auto)]
 
 mod listed;
+mod soonest;
 
 pub use listed::ListedConnections;

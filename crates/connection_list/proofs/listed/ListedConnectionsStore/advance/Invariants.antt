@@ -8,6 +8,6 @@ invariant-loop-next l = record {
   may_go_on : (goal.iterator-loop-next).can_next l.next-iterator;
   ends : (goal.iterator-loop-next).is_finite l.next-iterator;
   taken : l.self.taken ≡ l.fn.self.taken + 1;
-  alive : AllAreKept l.next-iterator.rest.items l.self.kept.items;
-  same : put_lives l.next-iterator.rest.items l.self.kept.items ≡ put_lives l.fn.nexts.items l.fn.self.kept.items;
+  alive : AllAreKept l.next-iterator.rest.items l.self.kept;
+  same : put_lives l.next-iterator.rest.items l.self.kept ≡ put_lives l.fn.nexts.items l.fn.self.kept;
 }

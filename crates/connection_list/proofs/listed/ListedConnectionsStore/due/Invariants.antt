@@ -1,7 +1,6 @@
-use Rattle.std.proofs.Common.{◌≡◌}
-use Rattle.std.specs.List.{range_with_len}
+use Rattle.connection_list.proofs.Scans.{AreScanned}
 use Rattle.connection_list.proofs.listed.ListedConnectionsStore.due.Given as goal
 
--- so many numbers stand there
+-- those of them that wake stand there
 abbrev pub invariant-loop-number : goal.invariant-loop-number
-invariant-loop-number l = l.numbers.items ≡ range_with_len 0 l.number
+invariant-loop-number l = AreScanned l.self-inside.taken l.self-inside.soonest.items l.number l.numbers.items
