@@ -14,7 +14,7 @@ use Rattle.journal_finding.specs.declared.finding.FindingKind.TheVariants.{Order
 use Rattle.journal_finding.specs.Entries.{LaneRules, event_next, if_written, entry_of}
 use Rattle.lane_events.specs.Pending.{Waiting, next_in, taken_in}
 use Rattle.lane_events.specs.Editions.{Named, routing_at, may_be_next}
-use Rattle.lane_audit.specs.declared.replay.Taken.{Taken}
+use Rattle.lane_audit.specs.declared.replay.Judged.{Judged}
 use Rattle.lane_audit.specs.Follows.{Awaits, Names, Takes, Goes, may_follow, named_by}
 use Rattle.lane_audit.proofs.EntryLemmas.{next_is, without_event, by_routing, routed_wrong, routed_other, routed_so}
 use Rattle.lane_audit.proofs.WaitLemmas.{names_more, waits_more, phase_within}
@@ -62,14 +62,14 @@ module _ {V E : Type 0} (rules : LaneRules V E) (journal : List E) (part : Entry
           let own = some-there (rules.event event) some in
           by_routing rules journal part stamp own.0 (Err Edition) is (event-is ∙ own.1) (routed_wrong rules journal s stamp.phase names phase_there (rules.question own.0) part.words.asked bad)
 
-      module _ (after : List E) (plant : PlantState) (taken : Taken) (takes : Takes rules journal after plant stamp event part taken) (may : may_follow s stamp.phase part.words.asked ≡ true)
+      module _ (after : List E) (plant : PlantState) (judged : Judged) (takes : Takes rules journal after plant stamp event part judged) (may : may_follow s stamp.phase part.words.asked ≡ true)
           (edition : plant.edition ≡ (named_by s stamp.phase part.words.asked).edition) (routing : plant.routing ≡ routing_at (named_by s stamp.phase part.words.asked) (named_by s stamp.phase part.words.asked).edition) where
         -- an edition is named where nothing is asked, or none where something is
-        pub judged_unasked : (taken.asks ≡ is_some part.words.asked → ⊥) → entry_of rules journal part ≡ Err Edition
+        pub judged_unasked : (judged.asks ≡ is_some part.words.asked → ⊥) → entry_of rules journal part ≡ Err Edition
         judged_unasked other =
             by_routing rules journal part stamp takes.own (Err Edition) is (event-is ∙ takes.is) (routed_other rules journal s stamp.phase names phase_there (rules.question takes.own) part.words.asked (λ same. other (takes.asks ∙ same)))
 
-        module _ (same : taken.asks ≡ is_some part.words.asked) where
+        module _ (same : judged.asks ≡ is_some part.words.asked) where
           asks : is_some (rules.question takes.own) ≡ is_some part.words.asked
           asks = sym takes.asks ∙ same
 
@@ -83,11 +83,11 @@ module _ {V E : Type 0} (rules : LaneRules V E) (journal : List E) (part : Entry
               ∙ ap (if_written rules part) (sym takes.comes)
 
           -- the lines are others
-          pub judged_unwritten : taken.is_written ≡ false → entry_of rules journal part ≡ Err Entry
+          pub judged_unwritten : judged.is_written ≡ false → entry_of rules journal part ≡ Err Entry
           judged_unwritten no_lines = whole ∙ ap (λ b. if b then Ok takes.entry else Err Entry) (sym takes.written ∙ no_lines)
 
           -- it is the entry
-          pub judged_so : taken.is_written ≡ true → Goes rules journal after part (taken_in w stamp) (named_by s stamp.phase part.words.asked)
+          pub judged_so : judged.is_written ≡ true → Goes rules journal after part (taken_in w stamp) (named_by s stamp.phase part.words.asked)
           judged_so lines =
               let asked = takes.routed ∙ ap (λ k. asked_at k plant.routing (rules.question takes.own)) edition in
               record {

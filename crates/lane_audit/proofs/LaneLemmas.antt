@@ -1,5 +1,5 @@
 -- The journal that parts write, one more part at a time, and the number of the line behind them.
-use Rattle.std.proofs.Common.{◌≡◌, ℕ, ◌+◌, ◌<◌, ◌≤◌, ◌++◌, true, false, List, [], ◌∷◌, length, get_or, drop, Some, Ok, Err, if◌then◌else◌, ap, sym, ◌∙◌}
+use Rattle.std.proofs.Common.{◌≡◌, ℕ, ◌+◌, ◌^◌, ◌<◌, ◌≤◌, ◌++◌, true, false, List, [], ◌∷◌, length, length-append, get_or, drop, Some, Ok, Err, if◌then◌else◌, ap, sym, ◌∙◌, arith}
 use Rattle.std.proofs.lemmas.List.{at_drop_more, at_drop_all}
 use Rattle.std.specs.List.{list_all}
 use Rattle.journal_form.specs.declared.parts.EntryForm.{EntryForm}
@@ -16,6 +16,23 @@ use Rattle.lane_audit.proofs.WaitLemmas.{all_is}
 -- the lines of the parts from one on
 pub size_more : (parts : List EntryForm) (i : ℕ) (part : EntryForm) → i < length parts → part ≡ get_or parts i part → entries_size (seen_parts (drop i parts)) ≡ 1 + length (seen_part part).outs + entries_size (seen_parts (drop (i + 1) parts))
 size_more parts i part lt is = at_drop_more (λ l. entries_size (seen_parts l)) parts i part lt ∙ ap (λ p. entry_size (seen_part p) + entries_size (seen_parts (drop (i + 1) parts))) (sym is)
+
+-- ---- each entry so far has a line of its own, as have those of the parts that are left
+
+-- one more entry is not too many, where a part is left
+pub few_here : {E : Type 0} (journal : List E) (parts : List EntryForm) (i : ℕ) (part : EntryForm) → i < length parts → part ≡ get_or parts i part
+    → length journal + (1 + entries_size (seen_parts (drop i parts))) < 2 ^ 32 → length journal < 4294967295
+few_here journal parts i part lt is few = let size = size_more parts i part lt is in omega (arith, size, few)
+
+-- and with it there are still as few
+pub few_more : {V E : Type 0} (rules : LaneRules V E) (journal after : List E) (parts : List EntryForm) (i : ℕ) (part : EntryForm) (w : Waiting) (s : Named) → i < length parts → part ≡ get_or parts i part
+    → Goes rules journal after (seen_part part) w s → length journal + (1 + entries_size (seen_parts (drop i parts))) < 2 ^ 32 → length after + (1 + entries_size (seen_parts (drop (i + 1) parts))) < 2 ^ 32
+few_more rules journal after parts i part w s lt is goes few =
+    let size = size_more parts i part lt is in
+    let more = ap length goes.journal ∙ length-append journal (goes.entry ∷ []) in
+    omega (arith, size, more, few)
+
+-- ---- what is found
 
 module _ {V E : Type 0} (rules : LaneRules V E) (end : ℕ) where
   front : (journal : List E) (parts : List EntryForm) (i : ℕ) (part : EntryForm) → i < length parts → part ≡ get_or parts i part

@@ -15,7 +15,7 @@ use Rattle.lane_events.specs.declared.editions.TheConstants.{MANY_EDITIONS}
 use Rattle.lane_events.specs.Editions.{Named, routing_at, before_phase, may_be_next, named_next}
 use Rattle.relay_base.specs.Decimal.{digits_value}
 use Rattle.journal_form.specs.Headings.{RoutingWords}
-use Rattle.lane_audit.specs.declared.replay.Taken.{Taken}
+use Rattle.lane_audit.specs.declared.replay.Judged.{Judged}
 
 -- the events that wait are those of the lane behind these entries
 pub record Awaits {V E : Type 0} (rules : LaneRules V E) (journal : List E) (w : Waiting) : Type 0 where
@@ -43,7 +43,7 @@ named_by s phase None = s
 named_by s phase (Some words) = named_next s phase (digits_value words.edition)
 
 -- the lane took an event at the edition of a plant: the journal has its entry, and this is known of the entry beside the lines of a part
-pub record Takes {V E : Type 0} (rules : LaneRules V E) (before after : List E) (plant : PlantState) (stamp : Stamp) (event : ControlEvent) (part : EntryPart) (taken : Taken) : Type 0 where
+pub record Takes {V E : Type 0} (rules : LaneRules V E) (before after : List E) (plant : PlantState) (stamp : Stamp) (event : ControlEvent) (part : EntryPart) (judged : Judged) : Type 0 where
   pub own : V
   pub is : rules.event event ≡ Some own
   pub entry : E
@@ -51,8 +51,8 @@ pub record Takes {V E : Type 0} (rules : LaneRules V E) (before after : List E) 
   pub stamped : rules.stamp entry ≡ stamp
   pub routed : rules.asked entry ≡ asked_at plant.edition plant.routing (rules.question own)
   pub journal : after ≡ before ++ entry ∷ []
-  pub asks : taken.asks ≡ is_some (rules.question own)
-  pub written : taken.is_written ≡ is_written rules entry part
+  pub asks : judged.asks ≡ is_some (rules.question own)
+  pub written : judged.is_written ≡ is_written rules entry part
 
 -- the journal has the entry of a part, and what waits and may be named follows it
 pub record Goes {V E : Type 0} (rules : LaneRules V E) (before after : List E) (part : EntryPart) (w : Waiting) (s : Named) : Type 0 where

@@ -40,9 +40,11 @@ fn judge_entry<R: Replay>(
 ) -> Result<Option<FindingKind>, Memory>
     requires awaits { Awaits (R.rules lane.old) (R.journal lane.old) events.old }
     requires names { Names (R.rules lane.old) (R.journal lane.old) editions.old }
+    requires few { length (R.journal lane.old) < 4_294_967_295 }
     ensures judges { let before = R.journal lane.old in let after = R.journal lane.new in
         IfOk result (Judges (R.rules lane.old) before after (seen_part part.now) events.new editions.new) }
     ensures rules { OnOk result (R.rules lane.new ≡ R.rules lane.old) }
+    ensures head { OnOk result (R.head lane.new ≡ R.head lane.old) }
 {
     let Some(stamp) = part.words.stamp() else {
         return Ok(Some(FindingKind::Order));
@@ -56,11 +58,11 @@ fn judge_entry<R: Replay>(
     if !may_name(editions, stamp.phase, &part.words.asked)? {
         return Ok(Some(FindingKind::Edition));
     }
-    let taken = lane.take(editions.plant(), stamp, event, part)?;
-    if taken.asks != part.words.asked.is_some() {
+    let judged = lane.take(editions.plant(), stamp, event, part)?;
+    if judged.asks != part.words.asked.is_some() {
         return Ok(Some(FindingKind::Edition));
     }
-    if !taken.is_written {
+    if !judged.is_written {
         return Ok(Some(FindingKind::Entry));
     }
     Ok(None)
@@ -85,12 +87,15 @@ pub fn judge_lane<R: Replay>(
     editions: &mut Editions<'_>,
     form: &LaneForm<'_>,
 ) -> Result<Option<Fault>, Memory>
-    requires end { let lane = seen_lane form.now in lane.number + lane_size lane < 2 ^ 32 }
+    requires end { let text = seen_lane form.now in text.number + lane_size text < 2 ^ 32 }
+    requires few { let text = seen_lane form.now in
+        length (R.journal lane.old) + lane_size text < 2 ^ 32 }
     requires awaits { Awaits (R.rules lane.old) (R.journal lane.old) events.old }
     requires names { Names (R.rules lane.old) (R.journal lane.old) editions.old }
-    ensures { let text = seen_lane form.now in
+    ensures found { let text = seen_lane form.now in
         let found = journal_from (R.rules lane.old) (text.number + lane_size text) (R.journal lane.old) text.entries
         in IfOk result (λ fault. found ≡ found_of (R.journal lane.new) fault) }
+    ensures head { OnOk result (R.head lane.new ≡ R.head lane.old) }
 {
     for part in &form.entries {
         if let Some(kind) = judge_entry(lane, events, editions, part)? {

@@ -5,4 +5,4 @@ mod judge;
 mod replay;
 
 pub use judge::judge_lane;
-pub use replay::{Replay, Taken};
+pub use replay::{Judged, Replay};

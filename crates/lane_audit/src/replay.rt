@@ -5,7 +5,7 @@ use relay_base::{Memory, Stamp};
 
 /// What is known of an entry that a lane made.
 #[derive(Clone, Copy)]
-pub struct Taken {
+pub struct Judged {
     /// Whether its event asks for a routing.
     pub asks: bool,
     /// Whether the lines beside it are its own.
@@ -14,7 +14,8 @@ pub struct Taken {
 
 /// A lane that takes events again, one after another.
 pub trait Replay {
-    ghost use Rattle.std.specs.Prelude.{◌≡◌, List, true, is_some, IfOk, OnOk};
+    ghost use Rattle.std.specs.Prelude.{◌≡◌, ◌<◌, List, length, true, is_some, IfOk, OnOk};
+    ghost use Rattle.node_head.specs.declared.head.Head.{Head};
     ghost use Rattle.journal_form.specs.Inner.Seen.{seen_part};
     ghost use Rattle.journal_finding.specs.Entries.{LaneRules};
     ghost use Rattle.lane_audit.specs.Follows.{Takes};
@@ -24,6 +25,9 @@ pub trait Replay {
 
     /// An entry of its journal.
     type Entry;
+
+    /// The head of the capture whose events it takes.
+    ghost head: { Self → Head };
 
     /// What the lane has to do.
     ghost rules: { Self → LaneRules Self.Event Self.Entry };
@@ -42,9 +46,11 @@ pub trait Replay {
         stamp: Stamp,
         event: &ControlEvent,
         part: &EntryForm<'_>,
-    ) -> Result<Taken, Memory>
-        requires { is_some ((rules self.old).event event.now) ≡ true }
-        ensures taken { IfOk result (λ taken. Takes (rules self.old) (journal self.old)
-            (journal self.new) plant.now stamp event.now (seen_part part.now) taken) }
-        ensures rules { OnOk result (rules self.new ≡ rules self.old) };
+    ) -> Result<Judged, Memory>
+        requires event { is_some ((rules self.old).event event.now) ≡ true }
+        requires few { length (journal self.old) < 4_294_967_295 }
+        ensures taken { IfOk result (λ judged. Takes (rules self.old) (journal self.old)
+            (journal self.new) plant.now stamp event.now (seen_part part.now) judged) }
+        ensures rules { OnOk result (rules self.new ≡ rules self.old) }
+        ensures head { OnOk result (head self.new ≡ head self.old) };
 }

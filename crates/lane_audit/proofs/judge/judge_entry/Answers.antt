@@ -21,20 +21,20 @@ pub returns-then-not-branch-clause-judges : goal.returns-then-not-branch-clause-
 returns-then-not-branch-clause-judges g c =
     judged_unnamed (g.R.Replay.rules c.args.lane.now) (g.R.Replay.journal c.args.lane.now) (seen_part c.args.part.now) c.args.events.now c.in-Some.stamp c.requires.awaits (search rules) c.in-Some-take.event.now (search rules) c.args.editions.now c.requires.names (search rules) (search rules)
 
-pub returns-then-taken-is_some-clause-judges : goal.returns-then-taken-is_some-clause-judges
-returns-then-taken-is_some-clause-judges g c =
+pub returns-then-judged-is_some-clause-judges : goal.returns-then-judged-is_some-clause-judges
+returns-then-judged-is_some-clause-judges g c =
     judged_unasked (g.R.Replay.rules c.args.lane.now) (g.R.Replay.journal c.args.lane.now) (seen_part c.args.part.now) c.args.events.now c.in-Some.stamp c.requires.awaits (search rules) c.in-Some-take.event.now (search rules) c.args.editions.now c.requires.names
-    (g.R.Replay.journal c.take-2.new.self) c.plant.result.now c.in_ok-taken.taken c.in_ok-taken.ensures.taken (search rules) (search rules) (search rules) (search rules)
+    (g.R.Replay.journal c.take-2.new.self) c.plant.result.now c.in_ok-judged.judged c.in_ok-judged.ensures.taken (search rules) (search rules) (search rules) (search rules)
 
-pub returns-then-not-taken-clause-judges : goal.returns-then-not-taken-clause-judges
-returns-then-not-taken-clause-judges g c =
+pub returns-then-not-judged-clause-judges : goal.returns-then-not-judged-clause-judges
+returns-then-not-judged-clause-judges g c =
     judged_unwritten (g.R.Replay.rules c.args.lane.now) (g.R.Replay.journal c.args.lane.now) (seen_part c.args.part.now) c.args.events.now c.in-Some.stamp c.requires.awaits (search rules) c.in-Some-take.event.now (search rules) c.args.editions.now c.requires.names
-    (g.R.Replay.journal c.take-2.new.self) c.plant.result.now c.in_ok-taken.taken c.in_ok-taken.ensures.taken (search rules) (search rules) (search rules) (search rules) (search rules)
+    (g.R.Replay.journal c.take-2.new.self) c.plant.result.now c.in_ok-judged.judged c.in_ok-judged.ensures.taken (search rules) (search rules) (search rules) (search rules) (search rules)
 
 pub returns-clause-judges : goal.returns-clause-judges
 returns-clause-judges g c =
     let goes = judged_so (g.R.Replay.rules c.args.lane.now) (g.R.Replay.journal c.args.lane.now) (seen_part c.args.part.now) c.args.events.now c.in-Some.stamp c.requires.awaits (search rules) c.in-Some-take.event.now (search rules) c.args.editions.now c.requires.names
-    (g.R.Replay.journal c.take-2.new.self) c.plant.result.now c.in_ok-taken.taken c.in_ok-taken.ensures.taken (search rules) (search rules) (search rules) (search rules) (search rules) in
+    (g.R.Replay.journal c.take-2.new.self) c.plant.result.now c.in_ok-judged.judged c.in_ok-judged.ensures.taken (search rules) (search rules) (search rules) (search rules) (search rules) in
     let waits : c.take.new.self ≡ taken_in c.args.events.now c.in-Some.stamp = search rules in
     let named : c.may_name.new.editions ≡ named_by c.args.editions.now c.in-Some.stamp.phase (seen_part c.args.part.now).words.asked = search rules in
     subst₂ (Goes (g.R.Replay.rules c.args.lane.now) (g.R.Replay.journal c.args.lane.now) (g.R.Replay.journal c.take-2.new.self) (seen_part c.args.part.now)) (sym waits) (sym named) goes
