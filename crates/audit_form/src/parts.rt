@@ -1,5 +1,5 @@
 //! The octets of a capture, and those of the text behind it.
-ghost use Rattle.std.specs.Prelude.{◌≡◌};
+ghost use Rattle.std.specs.Prelude.{◌≡◌, ◌≤◌, length, IfSome};
 ghost use Rattle.std.specs.Option.{option_map};
 ghost use Rattle.bstr.specs.Text.{without_terminator};
 ghost use Rattle.audit_form.specs.Audit.{is_line, parts_of};
@@ -29,7 +29,8 @@ fn is_line(word: &[u8], line: &[u8]) -> bool
 
 /// The octets before the first line `%%%` behind the first line `%%`, and those behind that line.
 pub fn parts_of(bytes: &[u8]) -> Option<(&[u8], &[u8])>
-    ensures { option_map (λ p. (p.0.now, p.1.now)) result ≡ parts_of bytes.now }
+    ensures value { option_map (λ p. (p.0.now, p.1.now)) result ≡ parts_of bytes.now }
+    ensures short { IfSome result (λ p. length p.1.now ≤ length bytes.now) }
 {
     let mut lines = bytes.lines_with_terminator();
     let mut headed = false;

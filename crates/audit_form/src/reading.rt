@@ -1,6 +1,7 @@
 //! A capture, and the text behind it.
-ghost use Rattle.std.specs.Prelude.{◌≤◌, [], length, IsTrue, IfOk};
+ghost use Rattle.std.specs.Prelude.{◌≡◌, ◌≤◌, [], length, IsTrue, IfOk};
 ghost use Rattle.relay_base.specs.Giving.{RefusesOrMemory};
+ghost use Rattle.relay_base.specs.declared.limits.TheConstants.{MOST_BYTES};
 ghost use Rattle.node_head.specs.Addable.{are_addable};
 ghost use Rattle.node_head.specs.Ranges.{IsHead};
 ghost use Rattle.capture_form.specs.Events.{all_events, IsStamped};
@@ -37,6 +38,7 @@ fn unparted(alloc: Global, bytes: &[u8]) -> AuditFault
 /// The capture that some octets are, with the text behind it.
 fn of_parts(alloc: Global, capture: &[u8], text: &[u8]) -> Result<AuditInput, AuditFault>
     ensures value { Reads result (of_parts (capture.now, text.now)) }
+    ensures text { IfOk result (λ a. a.text ≡ text.now) }
     ensures stamped { IfOk result (λ a. IsStamped a.capture.head a.capture.phases) }
     ensures linked { IfOk result (λ a. AreLinked a.capture.phases) }
     ensures few { IfOk result (λ a. length (all_events a.capture.phases) ≤ MOST_LINES) }
@@ -55,6 +57,7 @@ fn of_parts(alloc: Global, capture: &[u8], text: &[u8]) -> Result<AuditInput, Au
 #[tactic(auto, unfolding(crate::specs::Audit::audit_of))]
 pub fn read_audit(alloc: Global, bytes: &[u8]) -> Result<AuditInput, AuditFault>
     ensures value { Reads result (audit_of bytes.now) }
+    ensures short { IfOk result (λ a. length a.text ≤ MOST_BYTES) }
     ensures stamped { IfOk result (λ a. IsStamped a.capture.head a.capture.phases) }
     ensures linked { IfOk result (λ a. AreLinked a.capture.phases) }
     ensures few { IfOk result (λ a. length (all_events a.capture.phases) ≤ MOST_LINES) }

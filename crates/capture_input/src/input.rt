@@ -1,15 +1,15 @@
 //! The input of a command.
 ghost use Rattle.std.specs.Prelude.{◌≡◌, ◌≢◌, IfOk, IfErr, Ok, Err};
 ghost use Rattle.relay_base.specs.Causes.{Rose};
-ghost use Rattle.chain_form.specs.Chain.{chain_of};
-ghost use Rattle.m3ua_capture.specs.Streams.{Reads};
-ghost use Rattle.capture_input.specs.Input.{bytes, chain_refusal, of_chain, input_of, IsReady, ReadAs};
-ghost use Rattle.capture_input.specs.Stops.{TakesNone};
+ghost use Rattle.capture_input.specs.Input.{bytes, input_of, IsReady, ReadAs};
+ghost use Rattle.capture_input.specs.Stops.{Reads, TakesNone};
 
+use crate::fault::InputFault;
 use crate::stop::{Stop, refusal};
-use capture_form::{Capture, CaptureFault, read_capture};
-use chain_form::{ChainFault, ChainInput, read_chain};
-use m3ua_capture::{StreamFault, read_stream};
+use audit_form::{AuditInput, read_audit};
+use capture_form::{Capture, read_capture};
+use chain_form::{ChainInput, read_chain};
+use m3ua_capture::read_stream;
 use relay_base::limits::MOST_BYTES;
 use relay_base::{ReadAllFault, Source, read_all};
 use std::alloc::Global;
@@ -23,6 +23,8 @@ pub enum Form {
     Stream,
     /// A number of nodes, and their steps.
     Steps,
+    /// A head and lines, and the text of a journal behind them.
+    Audited,
 }
 
 /// What an input states.
@@ -32,40 +34,20 @@ pub enum Input {
     Capture(Capture),
     /// What nodes in a row do.
     Chain(ChainInput),
-}
-
-/// The fault of steps as that of any input.
-fn chain_refusal(fault: ChainFault) -> StreamFault
-    ensures { result ≡ chain_refusal fault }
-{
-    let fault = match fault {
-        ChainFault::Line(fault) => CaptureFault::Line(fault),
-        ChainFault::TooLong(limit) => CaptureFault::TooLong(limit),
-        ChainFault::Memory => CaptureFault::Memory,
-    };
-    StreamFault::Capture(fault)
-}
-
-/// The steps that an input states.
-fn chain_in(alloc: Global, bytes: &[u8]) -> Result<Input, StreamFault>
-    ensures value { Reads result (of_chain (chain_of bytes.now)) }
-    ensures ready { IfOk result IsReady }
-{
-    match read_chain(alloc, bytes) {
-        Ok(chain) => Ok(Input::Chain(chain)),
-        Err(fault) => Err(chain_refusal(fault)),
-    }
+    /// What a node hears, and the text of a journal that is said to be of it.
+    Audited(AuditInput),
 }
 
 /// What an input states.
-fn input_in(alloc: Global, form: Form, bytes: &[u8]) -> Result<Input, StreamFault>
+fn input_in(alloc: Global, form: Form, bytes: &[u8]) -> Result<Input, InputFault>
     ensures value { Reads result (input_of form bytes.now) }
     ensures ready { IfOk result IsReady }
 {
     match form {
         Form::Lines => Ok(Input::Capture(read_capture(alloc, bytes)?)),
         Form::Stream => Ok(Input::Capture(read_stream(alloc, bytes)?)),
-        Form::Steps => chain_in(alloc, bytes),
+        Form::Steps => Ok(Input::Chain(read_chain(alloc, bytes)?)),
+        Form::Audited => Ok(Input::Audited(read_audit(alloc, bytes)?)),
     }
 }
 

@@ -1,9 +1,11 @@
 //! Why a command stops, with the status and the note of each reason.
 ghost use Rattle.std.specs.Prelude.{◌≡◌};
-ghost use Rattle.capture_input.specs.Stops.{StopsFor, note_of, refusal_status, status_of};
+ghost use Rattle.capture_input.specs.Input.{refusal_status};
+ghost use Rattle.capture_input.specs.Stops.{StopsFor, note_of, status_of};
 
+use crate::fault::{InputFault, input_note};
 use capture_form::{CaptureFault, WriteFault};
-use m3ua_capture::{StreamFault, stream_note};
+use m3ua_capture::StreamFault;
 use relay_base::Octets;
 use std::alloc::Global;
 
@@ -11,11 +13,13 @@ use std::alloc::Global;
 #[derive(Drop)]
 pub enum Stop {
     Usage,
-    Refused(StreamFault, Octets),
+    Refused(InputFault, Octets),
     Bytes,
     ReadFault,
     WriteFault,
     Memory,
+    /// The text of a journal is illegal, and that was written.
+    Illegal,
 }
 
 impl From<WriteFault> for Stop {
@@ -32,13 +36,13 @@ impl From<WriteFault> for Stop {
 }
 
 /// The stop for an input that is refused.
-pub fn refusal(alloc: Global, fault: StreamFault) -> Stop
+pub fn refusal(alloc: Global, fault: InputFault) -> Stop
     ensures { StopsFor fault result }
 {
-    if let StreamFault::Capture(CaptureFault::Memory) = &fault {
+    if let InputFault::Stream(StreamFault::Capture(CaptureFault::Memory)) = &fault {
         return Stop::Memory;
     }
-    match stream_note(alloc, &fault) {
+    match input_note(alloc, &fault) {
         Ok(note) => Stop::Refused(fault, note),
         Err(_) => Stop::Memory,
     }
@@ -55,19 +59,21 @@ pub fn note_of(stop: &Stop) -> &[u8]
         Stop::ReadFault => b"read fault\n",
         Stop::WriteFault => b"write fault\n",
         Stop::Memory => b"memory\n",
+        Stop::Illegal => b"",
     }
 }
 
 /// The status that a refused input ends with.
-fn refusal_status(fault: &StreamFault) -> u8
+fn refusal_status(fault: &InputFault) -> u8
     ensures { result ≡ refusal_status fault.now }
 {
     match fault {
-        StreamFault::Capture(CaptureFault::Head(_)) => 2,
-        StreamFault::Capture(CaptureFault::Line(_)) => 3,
-        StreamFault::Capture(CaptureFault::TooLong(_)) => 4,
-        StreamFault::Capture(CaptureFault::Memory) => 7,
-        StreamFault::Port(_) => 8,
+        InputFault::Stream(StreamFault::Capture(CaptureFault::Head(_))) => 2,
+        InputFault::Stream(StreamFault::Capture(CaptureFault::Line(_))) => 3,
+        InputFault::Stream(StreamFault::Capture(CaptureFault::TooLong(_))) => 4,
+        InputFault::Stream(StreamFault::Capture(CaptureFault::Memory)) => 7,
+        InputFault::Stream(StreamFault::Port(_)) => 8,
+        InputFault::NoJournal => 10,
     }
 }
 
@@ -82,5 +88,6 @@ pub fn status_of(stop: &Stop) -> u8
         Stop::ReadFault => 5,
         Stop::WriteFault => 6,
         Stop::Memory => 7,
+        Stop::Illegal => 9,
     }
 }

@@ -15,7 +15,7 @@ use Rattle.relay_base.specs.Decimal.{is_number, digits_value, number_of}
 use Rattle.command_words.specs.Commands.{same, within, number_in, generate_of, generate_in, stream_in, command_of_word, command_in}
 use Rattle.command_words.specs.Inner.Parser.{texts, generate_app, relay_app, command_found, command_of_rows, is_refused}
 use Rattle.command_words.specs.declared.command.Command.{Command}
-use Rattle.command_words.specs.declared.command.Command.TheVariants.{Run, Stream, Frames, Chain}
+use Rattle.command_words.specs.declared.command.Command.TheVariants.{Run, Stream, Frames, Chain, Audit}
 
 -- ---- what the parser makes of the words of a command
 
@@ -61,6 +61,14 @@ chain_taken = refl
 chain_found : given_in (subcommand_of relay_app (codes "chain" ∷ [])) ≡ Some (codes "chain", None, None, None)
 unfolding clap_on_literals
 chain_found = refl
+
+audit_taken : takes relay_app (codes "audit" ∷ []) ≡ true
+unfolding clap_on_literals
+audit_taken = refl
+
+audit_found : given_in (subcommand_of relay_app (codes "audit" ∷ [])) ≡ Some (codes "audit", None, None, None)
+unfolding clap_on_literals
+audit_found = refl
 
 -- ---- a word that no dash begins, after a subcommand
 
@@ -217,6 +225,9 @@ frames-holds = holds-by (codes "m3ua" ∷ codes "frames" ∷ []) (codes "m3ua", 
 chain-holds : Holds (codes "chain" ∷ [])
 chain-holds = holds-by (codes "chain" ∷ []) (codes "chain", None, None, None) chain_taken refl chain_found refl
 
+audit-holds : Holds (codes "audit" ∷ [])
+audit-holds = holds-by (codes "audit" ∷ []) (codes "audit", None, None, None) audit_taken refl audit_found refl
+
 gen-found : (a b : ℕ) (xs ys : List ℕ) → (a == 45) ≡ false → (b == 45) ≡ false
     → command_of_rows (subcommand_of relay_app (gen_words a xs b ys)) (gen_words a xs b ys) ≡ generate_in (a ∷ xs) (b ∷ ys)
 gen-found a b xs ys first second =
@@ -244,14 +255,15 @@ of-text : (P : Text → Type 0) (word text : Text) → same word text ≡ true �
 of-text P word text e p = subst P (sym (same_text word text (sym e))) p
 
 word-holds : (word : Text) (c : Command) → command_of_word word ≡ Some c → Holds (word ∷ [])
-word-holds word c h = by (same word (codes "run")) (same word (codes "m3ua")) (same word (codes "chain")) refl refl refl h
+word-holds word c h = by (same word (codes "run")) (same word (codes "m3ua")) (same word (codes "chain")) (same word (codes "audit")) refl refl refl refl h
   where
-    by : (run stream chain : Bool) → same word (codes "run") ≡ run → same word (codes "m3ua") ≡ stream → same word (codes "chain") ≡ chain
-        → cond run (Some Run) (cond stream (Some Stream) (cond chain (Some Chain) None)) ≡ Some c → Holds (word ∷ [])
-    by true stream chain e f i g = of-text (λ w. Holds (w ∷ [])) word (codes "run") e run-holds
-    by false true chain e f i g = of-text (λ w. Holds (w ∷ [])) word (codes "m3ua") f stream-holds
-    by false false true e f i g = of-text (λ w. Holds (w ∷ [])) word (codes "chain") i chain-holds
-    by false false false e f i g = cc
+    by : (run stream chain audit : Bool) → same word (codes "run") ≡ run → same word (codes "m3ua") ≡ stream → same word (codes "chain") ≡ chain → same word (codes "audit") ≡ audit
+        → cond run (Some Run) (cond stream (Some Stream) (cond chain (Some Chain) (cond audit (Some Audit) None))) ≡ Some c → Holds (word ∷ [])
+    by true stream chain audit e f i j g = of-text (λ w. Holds (w ∷ [])) word (codes "run") e run-holds
+    by false true chain audit e f i j g = of-text (λ w. Holds (w ∷ [])) word (codes "m3ua") f stream-holds
+    by false false true audit e f i j g = of-text (λ w. Holds (w ∷ [])) word (codes "chain") i chain-holds
+    by false false false true e f i j g = of-text (λ w. Holds (w ∷ [])) word (codes "audit") j audit-holds
+    by false false false false e f i j g = cc
 
 words-hold : (word output : Text) (c : Command) → cond (same word (codes "m3ua")) (stream_in output) None ≡ Some c → Holds (word ∷ output ∷ [])
 words-hold word output c h =

@@ -4,7 +4,7 @@ use lib.Pointwise.{pointwise}
 use Rattle.relay_base.specs.Decimal.{number_of}
 use Rattle.relay_base.specs.declared.limits.TheConstants.{MOST_GENERATED_LINES}
 use Rattle.command_words.specs.declared.command.Command.{Command}
-use Rattle.command_words.specs.declared.command.Command.TheVariants.{Run, Generate, Stream, Frames, Chain}
+use Rattle.command_words.specs.declared.command.Command.TheVariants.{Run, Generate, Stream, Frames, Chain, Audit}
 
 -- the word is this text
 abbrev pub same : List ℕ → List ℕ → Bool
@@ -36,13 +36,14 @@ command_of_word word =
     if same word (codes "run") then Some Run
     else if same word (codes "m3ua") then Some Stream
     else if same word (codes "chain") then Some Chain
+    else if same word (codes "audit") then Some Audit
     else None
 
 -- what `m3ua` is given: that it writes frames
 abbrev pub stream_in : List ℕ → Option Command
 stream_in output = if same output (codes "frames") then Some Frames else None
 
--- the command that words state: `run` alone, `gen` with a number and lines, `m3ua` alone, `m3ua frames`, or `chain` alone
+-- the command that words state: `run` alone, `gen` with a number and lines, `m3ua` alone, `m3ua frames`, `chain` alone, or `audit` alone
 abbrev pub command_in : List (List ℕ) → Option Command
 command_in [] = None
 command_in (word ∷ []) = command_of_word word

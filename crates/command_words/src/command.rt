@@ -13,4 +13,6 @@ pub enum Command {
     Frames,
     /// Take the steps of nodes in a row that are read.
     Chain,
+    /// Judge the text of a journal that is read behind its capture.
+    Audit,
 }

@@ -42,16 +42,17 @@ fn top_parser<'a>(alloc: Global) -> Command<'a>
         .subcommand_required(true)
 }
 
-/// The parser of the subcommands without arguments, `run` and `chain`.
+/// The parser of the subcommands without arguments, `run`, `chain` and `audit`.
 fn plain_parser<'a>(alloc: Global) -> Result<Command<'a>, AllocError>
     ensures { IfOk result (λ r. app_of r ≡ plain_app) }
 {
     top_parser(alloc)
         .subcommand(Command::new(alloc, "run"))?
-        .subcommand(Command::new(alloc, "chain"))
+        .subcommand(Command::new(alloc, "chain"))?
+        .subcommand(Command::new(alloc, "audit"))
 }
 
-/// The parser of `run`, `chain`, `gen` and `m3ua`.
+/// The parser of `run`, `chain`, `audit`, `gen` and `m3ua`.
 pub fn parser<'a>(alloc: Global) -> Result<Command<'a>, AllocError>
     ensures { IfOk result (λ r. app_of r ≡ relay_app) }
 {

@@ -73,6 +73,8 @@ fn command_of_word(word: &str) -> Option<Command>
         Some(Command::Stream)
     } else if word == "chain" {
         Some(Command::Chain)
+    } else if word == "audit" {
+        Some(Command::Audit)
     } else {
         None
     }
@@ -151,7 +153,7 @@ fn parsed(alloc: Global, words: &[String]) -> Result<Option<Command>, Memory>
 }
 
 /// The command that the words state. There is one exactly where they are `run`; or `gen`, a number, 0 to 4,294,967,295, and
-/// lines, 1 to 199,000, each in 1 to 10 decimal digits; or `m3ua`; or `m3ua frames`; or `chain`.
+/// lines, 1 to 199,000, each in 1 to 10 decimal digits; or `m3ua`; or `m3ua frames`; or `chain`; or `audit`.
 ///
 /// Words of which one begins with a dash, or the first is `help`, are refused before they are parsed.
 pub fn command_of(alloc: Global, words: &[String]) -> Result<Option<Command>, Memory>

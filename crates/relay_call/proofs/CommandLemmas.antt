@@ -3,7 +3,7 @@ use Rattle.std.proofs.Common.{◌≡◌, ℕ, ◌≤◌, ◌&&◌, nat_le, codes
 use Rattle.std.specs.Prelude.{Option}
 use Rattle.relay_base.specs.declared.limits.TheConstants.{MOST_GENERATED_LINES}
 use Rattle.command_words.specs.declared.command.Command.{Command}
-use Rattle.command_words.specs.declared.command.Command.TheVariants.{Run, Generate, Stream, Frames, Chain}
+use Rattle.command_words.specs.declared.command.Command.TheVariants.{Run, Generate, Stream, Frames, Chain, Audit}
 use Rattle.relay_base.specs.Decimal.{number_of}
 use Rattle.command_words.specs.Commands.{same, within, number_in, generate_of, generate_in, command_in}
 
@@ -38,11 +38,13 @@ only-if true x number lines most f e = f e
 only-if false x number lines most f e = absurd (cc)
 
 -- one word, and two, make no capture
-word-makes-none : (run stream chain : Bool) (number lines : ℕ) → (if run then Some Run else (if stream then Some Stream else (if chain then Some Chain else None))) ≡ Some (Generate number lines) → ⊥
-word-makes-none true stream chain number lines e = cc
-word-makes-none false true chain number lines e = cc
-word-makes-none false false true number lines e = cc
-word-makes-none false false false number lines e = cc
+word-makes-none : (run stream chain audit : Bool) (number lines : ℕ)
+    → (if run then Some Run else (if stream then Some Stream else (if chain then Some Chain else (if audit then Some Audit else None)))) ≡ Some (Generate number lines) → ⊥
+word-makes-none true stream chain audit number lines e = cc
+word-makes-none false true chain audit number lines e = cc
+word-makes-none false false true audit number lines e = cc
+word-makes-none false false false true number lines e = cc
+word-makes-none false false false false number lines e = cc
 
 words-make-none : (stream frames : Bool) (number lines : ℕ) → (if stream then (if frames then Some Frames else None) else None) ≡ Some (Generate number lines) → ⊥
 words-make-none true true number lines e = cc
@@ -52,7 +54,7 @@ words-make-none false frames number lines e = cc
 -- `gen` has at most 199,000 lines
 pub lines-most : (words : List (List ℕ)) (number lines : ℕ) → command_in words ≡ Some (Generate number lines) → lines ≤ MOST_GENERATED_LINES
 lines-most [] number lines e = absurd (cc)
-lines-most (word ∷ []) number lines e = absurd (word-makes-none (same word (codes "run")) (same word (codes "m3ua")) (same word (codes "chain")) number lines e)
+lines-most (word ∷ []) number lines e = absurd (word-makes-none (same word (codes "run")) (same word (codes "m3ua")) (same word (codes "chain")) (same word (codes "audit")) number lines e)
 lines-most (word ∷ output ∷ []) number lines e = absurd (words-make-none (same word (codes "m3ua")) (same output (codes "frames")) number lines e)
 lines-most (word ∷ first ∷ last ∷ []) number lines e =
     only-if (same word (codes "gen")) (generate_in first last) number lines MOST_GENERATED_LINES

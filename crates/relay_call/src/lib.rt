@@ -41,19 +41,22 @@ pub fn lacks_memory<N: Sink>(notes: &mut N) -> u8
 /// The word `run` reads a capture from `source`, runs it, fills `book` and writes its print to `out`. The words `gen`, a number and a count
 /// of lines make a capture, leave `source` as it is, and write one line of counts. The word `m3ua` reads a head and a stream of M3UA
 /// messages, whose events are those of link 1 in one phase, and writes the print; `m3ua frames` writes in its place the M3UA messages that
-/// carry all that is sent. The word `chain` reads the steps of nodes in a row, leaves `book` empty, and writes what their users are told.
+/// carry all that is sent. The word `chain` reads the steps of nodes in a row, leaves `book` empty, and writes what their users are told. The
+/// word `audit` reads a capture, a line `%%%` and the text of a journal, leaves `book` empty, and writes `legal` or the first fault of the text.
 ///
 /// | Status | Comes |
 /// |---|---|
-/// | 0 | the input was read to its end, and all output was written |
+/// | 0 | the input was read to its end, and all output was written; a text that was judged is legal |
 /// | 1 | exactly where the words are no stated command |
 /// | 2 | exactly where the first fault of the input is of its head |
-/// | 3 | exactly where the first fault is of a line of a capture, or of a step |
+/// | 3 | exactly where the first fault is of a line of a capture, also of one with a text behind it, or of a step |
 /// | 4 | exactly where a limit is passed before any other fault |
 /// | 5 | only where the source failed in this call |
 /// | 6 | only where `out` failed in this call |
 /// | 7 | memory ran out |
 /// | 8 | exactly where the first fault is of an M3UA message |
+/// | 9 | as 0, but the text of a journal that was judged is illegal |
+/// | 10 | exactly where the head of an audited capture is right and no line `%%%` follows its `%%` |
 pub fn relay<R: Threads + Wait + Sync, S: Source, K: Sink, N: Sink, P: Pace>(
     rt: &R,
     alloc: Global,

@@ -9,13 +9,15 @@ ghost use Rattle.command_words.specs.Commands.{command_in};
 ghost use Rattle.command_words.specs.declared.command.Command.TheVariants.{Generate};
 ghost use Rattle.capture_generator.specs.Generator.{generated_capture};
 ghost use Rattle.chain_form.specs.Chain.{IsInput};
-ghost use Rattle.capture_input.specs.Input.{bytes, IsRunnable, IsReady};
+ghost use Rattle.capture_input.specs.Input.{bytes, IsRunnable, IsAuditable, IsReady};
 ghost use Rattle.capture_input.specs.declared.input.Input.TheVariants as input;
 ghost use Rattle.book_output.specs.Report.{report_text};
-ghost use Rattle.relay_call.specs.Outcome.{GivesAs, Wrote, WrotePart, Filled, FilledBy, IsDone};
+ghost use Rattle.journal_audit.specs.Audit.{IsFinding, finding_text};
+ghost use Rattle.relay_call.specs.Outcome.{GivesAs, Wrote, WrotePart, WroteAll, Filled, FilledBy, IsDone, finding_status};
 ghost use Rattle.relay_call.specs.Inner.Reports.{report_of};
-ghost use Rattle.relay_call.specs.Inner.Stops.{LacksInput, StoppedLate, Stopped};
+ghost use Rattle.relay_call.specs.Inner.Stops.{LacksInput, Judged, StoppedJudging, StoppedLate, Stopped};
 
+use audit_form::AuditInput;
 use book_output::{Report, write_report};
 use capture_form::{Book, Capture};
 use capture_generator::generated;
@@ -23,6 +25,7 @@ use capture_input::{Form, Input, Stop, take_input};
 use chain_form::ChainInput;
 use chain_text::run_chain;
 use command_words::{Command, command_of};
+use journal_audit::{Finding, judge, write_finding};
 use node_engine::run_capture;
 use node_head::Head;
 use relay_base::{Pace, Sink, Source};
@@ -62,6 +65,7 @@ fn input_of<S: Source>(alloc: Global, command: Command, source: &mut S) -> Resul
         Command::Stream => take_input(alloc, Form::Stream, source),
         Command::Frames => take_input(alloc, Form::Stream, source),
         Command::Chain => take_input(alloc, Form::Steps, source),
+        Command::Audit => take_input(alloc, Form::Audited, source),
     }
 }
 
@@ -91,7 +95,7 @@ fn report_of(command: Command, head: &Head) -> Report
     match command {
         Command::Generate { lines, .. } => Report::Counts { lines },
         Command::Frames => Report::Frames { own: head.point },
-        Command::Run | Command::Stream | Command::Chain => Report::Print,
+        Command::Run | Command::Stream | Command::Chain | Command::Audit => Report::Print,
     }
 }
 
@@ -122,7 +126,7 @@ fn serve_capture<R: Threads + Wait + Sync, K: Sink, P: Pace>(
     requires ready { IsRunnable capture }
     requires empty { IsEmpty book.old }
     ensures ok { let written = bytes (K.held out.old) (K.held out.new) in
-        OnOk result (Filled (Wrote written) command (input.Capture capture) book.new) }
+        OnOk result (Filled (WroteAll written 0) command (input.Capture capture) book.new) }
     ensures stopped { let written = bytes (K.held out.old) (K.held out.new) in
         IfErr result (StoppedLate command written (input.Capture capture) book.new) }
     ensures fault { result ≡ Err Stop.WriteFault → Rose (K.faults out.old) (K.faults out.new) }
@@ -148,6 +152,60 @@ fn serve_chain<K: Sink>(alloc: Global, steps: &ChainInput, out: &mut K) -> Resul
     Ok(())
 }
 
+/// What is found of the text of a journal.
+fn finding_in(alloc: Global, audited: &AuditInput) -> Result<Finding, Stop>
+    requires { IsAuditable audited.now }
+    ensures found { let capture = audited.now.capture in
+        IfOk result (IsFinding capture.head capture.phases audited.now.text) }
+    ensures stopped { IfErr result (λ stop. stop ≡ Stop.Memory) }
+{
+    match judge(alloc, &audited.capture, audited.text.as_slice()) {
+        Ok(finding) => Ok(finding),
+        Err(_) => Err(Stop::Memory),
+    }
+}
+
+/// Writes the line of a finding.
+fn write_line<K: Sink>(alloc: Global, finding: Finding, out: &mut K) -> Result<(), Stop>
+    ensures ok { let written = bytes (K.held out.old) (K.held out.new) in
+        OnOk result (Wrote written (finding_text finding)) }
+    ensures err { let written = bytes (K.held out.old) (K.held out.new) in
+        OnErr result (WrotePart written (finding_text finding)) }
+    ensures why { IfErr result (λ stop. (stop ≡ Stop.WriteFault) ⊎ (stop ≡ Stop.Memory)) }
+    ensures fault { result ≡ Err Stop.WriteFault → Rose (K.faults out.old) (K.faults out.new) }
+    ensures kept { result ≢ Err Stop.WriteFault → K.faults out.new ≡ K.faults out.old }
+{
+    write_finding(alloc, finding, out)?;
+    Ok(())
+}
+
+/// How a command ends that wrote a finding.
+fn ending(finding: Finding) -> Result<(), Stop>
+    ensures ok { OnOk result (finding_status finding ≡ 0) }
+    ensures stopped { IfErr result (λ stop.
+        (stop ≡ Stop.Illegal) × (finding_status finding ≡ 9)) }
+{
+    match finding {
+        Finding::Legal => Ok(()),
+        Finding::Illegal { .. } => Err(Stop::Illegal),
+    }
+}
+
+/// Judges the text of a journal beside its capture, and writes what is found.
+fn serve_audit<K: Sink>(alloc: Global, audited: &AuditInput, out: &mut K) -> Result<(), Stop>
+    requires { IsAuditable audited.now }
+    ensures ok { let written = bytes (K.held out.old) (K.held out.new) in
+        OnOk result (Judged (WroteAll written 0) audited.now) }
+    ensures stopped { let written = bytes (K.held out.old) (K.held out.new) in
+        IfErr result (StoppedJudging written audited.now) }
+    ensures fault { result ≡ Err Stop.WriteFault → Rose (K.faults out.old) (K.faults out.new) }
+    ensures kept { result ≢ Err Stop.WriteFault → K.faults out.new ≡ K.faults out.old }
+{
+    let finding = finding_in(alloc, audited)?;
+    write_line(alloc, finding, out)?;
+    ending(finding)
+}
+
 /// Does a command with its input, and writes what it writes.
 fn serve_input<R: Threads + Wait + Sync, K: Sink, P: Pace>(
     rt: &R,
@@ -161,7 +219,7 @@ fn serve_input<R: Threads + Wait + Sync, K: Sink, P: Pace>(
     requires ready { IsReady given }
     requires empty { IsEmpty book.old }
     ensures ok { let written = bytes (K.held out.old) (K.held out.new) in
-        OnOk result (Filled (Wrote written) command given book.new) }
+        OnOk result (Filled (WroteAll written 0) command given book.new) }
     ensures stopped { let written = bytes (K.held out.old) (K.held out.new) in
         IfErr result (StoppedLate command written given book.new) }
     ensures fault { result ≡ Err Stop.WriteFault → Rose (K.faults out.old) (K.faults out.new) }
@@ -170,6 +228,7 @@ fn serve_input<R: Threads + Wait + Sync, K: Sink, P: Pace>(
     match given {
         Input::Capture(capture) => serve_capture(rt, alloc, command, capture, out, pace, book),
         Input::Chain(steps) => serve_chain(alloc, &steps, out),
+        Input::Audited(audited) => serve_audit(alloc, &audited, out),
     }
 }
 
@@ -188,7 +247,7 @@ fn perform<R: Threads + Wait + Sync, S: Source, K: Sink, P: Pace>(
     requires empty { IsEmpty book.old }
     ensures ok { let read = bytes (S.left source.old) (S.left source.new) in
         let written = bytes (K.held out.old) (K.held out.new) in
-        OnOk result (FilledBy (Wrote written) command read book.new) }
+        OnOk result (FilledBy (WroteAll written 0) command read book.new) }
     ensures stopped { let read = bytes (S.left source.old) (S.left source.new) in
         let written = bytes (K.held out.old) (K.held out.new) in
         IfErr result (Stopped (Some command) read written book.new) }
@@ -220,7 +279,7 @@ pub fn serve<R: Threads + Wait + Sync, S: Source, K: Sink, P: Pace>(
     ensures ok { let command = command_in (map string_bytes words.now) in
         let read = bytes (S.left source.old) (S.left source.new) in
         let written = bytes (K.held out.old) (K.held out.new) in
-        OnOk result (IsDone command read written book.new) }
+        OnOk result (IsDone command read written book.new 0) }
     ensures stopped { let command = command_in (map string_bytes words.now) in
         let read = bytes (S.left source.old) (S.left source.new) in
         let written = bytes (K.held out.old) (K.held out.new) in

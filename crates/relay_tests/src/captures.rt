@@ -4,7 +4,7 @@ use std::alloc::{AllocError, Global};
 use std::test::Fail;
 
 /// Captures of management and edits, and their prints.
-const MANAGED: [(&str, &str); 3] = [
+pub const MANAGED: [(&str, &str); 3] = [
     // An edit that is seen by the next phase, and taken back.
     (
         "point = 100
@@ -91,7 +91,7 @@ fn management(rt: HostRuntime) -> Result<(), Fail> {
 }
 
 /// The head with two links, and a row that sends titles of digits 49 to point 300.
-const LINKS: &str = "point = 100
+pub const LINKS: &str = "point = 100
 users = [8]
 links = 2
 [[row]]
@@ -134,7 +134,7 @@ fn connection(r: u8) -> (u32, u32, &'static str) {
 }
 
 /// Forty connections of both classes over two links and four lanes: opened, accepted, with a unit each, ten ticks and an edit, released.
-fn realistic(alloc: Global) -> Result<String, AllocError> {
+pub fn realistic(alloc: Global) -> Result<String, AllocError> {
     let mut text = String::from_str(
         alloc,
         "point = 100\nusers = [8]\nconn_lanes = 4\ndata_lanes = 2\nlinks = 2\n%%\n",

@@ -136,7 +136,7 @@ impl Pace for Order {
 }
 
 /// Two edits of a row, with a unit and an opening behind each, in one phase, after `TITLE`.
-const EDITS: &str = "e add 4 0 1 4 4917 400/8/s
+pub const EDITS: &str = "e add 4 0 1 4 4917 400/8/s
 m 1 200 5 0900030b0d08120800120494712102420601aa
 m 1 200 4 01070000020200081208001204947121
 e del 4 0 1 4 4917
@@ -144,7 +144,7 @@ m 1 200 5 0900030b0d08120800120494712102420601aa
 m 1 200 4 01080000020200081208001204947121
 ";
 
-const EDITS_PRINTED: &str = "= control
+pub const EDITS_PRINTED: &str = "= control
 1.0.10 new e1
 1.0.13 new e2
 = conn 0

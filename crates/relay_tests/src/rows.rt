@@ -8,9 +8,10 @@ use relay_base::limits::MOST_BYTES;
 use std::test::Fail;
 
 /// The head with own point 100 and user 8, and a UDT for that user.
-const UNIT: &str = "point = 100\nusers = [8]\n%%\nm 1 200 5 090003050702420802420601aa\n";
+pub const UNIT: &str = "point = 100\nusers = [8]\n%%\nm 1 200 5 090003050702420802420601aa\n";
 
-const PRINTED: &str = "= control\n= conn 0\n= data 0\n1.1.4 e0 local 8\n < 8 unit 0 4208 4206 aa\n";
+pub const PRINTED: &str =
+    "= control\n= conn 0\n= data 0\n1.1.4 e0 local 8\n < 8 unit 0 4208 4206 aa\n";
 
 const EMPTY: &str = "= control\n= conn 0\n= data 0\n";
 

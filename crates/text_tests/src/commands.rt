@@ -28,6 +28,7 @@ fn commands(rt: HostRuntime) -> Result<(), Fail> {
         ("m3ua", Command::Stream),
         ("m3ua frames", Command::Frames),
         ("chain", Command::Chain),
+        ("audit", Command::Audit),
         (
             "gen 1 1",
             Command::Generate {
@@ -110,6 +111,10 @@ fn no_commands(rt: HostRuntime) -> Result<(), Fail> {
         "m3ua run",
         "m3ua Frames",
         "chain 1",
+        "audit 1",
+        "audit x",
+        "audits",
+        "Audit",
         "m3ua frames frames",
         "m3ua --frames",
         "m3ua help",

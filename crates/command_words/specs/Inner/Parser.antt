@@ -23,9 +23,10 @@ stream_app = with_rule (new_app (codes "m3ua")) (new_rule (codes "output"))
 abbrev pub top_app : App
 top_app = record { top = record (new_app (codes "relay")).top { no_binary_name = true; subcommand_required = true }; subs = [] }
 
--- `run` or `chain`
+-- `run`, `chain` or `audit`
 abbrev pub plain_app : App
-plain_app = with_subcommand (with_subcommand top_app (new_app (codes "run")).top) (new_app (codes "chain")).top
+plain_app =
+    with_subcommand (with_subcommand (with_subcommand top_app (new_app (codes "run")).top) (new_app (codes "chain")).top) (new_app (codes "audit")).top
 
 -- one of these, or `gen` or `m3ua` with its arguments
 abbrev pub relay_app : App

@@ -1,5 +1,7 @@
 -- What stands where a run stops.
-use Rattle.std.specs.Prelude.{◌≡◌, ◌⊎◌, Option, Some, None}
+use Rattle.std.specs.Prelude.{◌≡◌, ◌⊎◌, ℕ, List, Option, Some, None}
+use Rattle.std.specs.Io.KnownBytes.{Keeps}
+use Rattle.audit_form.specs.declared.reading.AuditInput.{AuditInput}
 use Rattle.journal_text.specs.declared.book.Book.{Book}
 use Rattle.command_words.specs.declared.command.Command.{Command}
 use Rattle.capture_input.specs.declared.input.Form.{Form}
@@ -8,12 +10,24 @@ use Rattle.capture_input.specs.declared.stop.Stop.{Stop}
 use Rattle.capture_input.specs.declared.stop.Stop.TheVariants as stop
 use Rattle.capture_input.specs.Input.{Bytes, ReadTooMuch}
 use Rattle.capture_input.specs.Stops.{NotedAs}
-use Rattle.relay_call.specs.Outcome.{form_read, WrotePart, Untouched, Filled, IsDonePartly}
+use Rattle.relay_call.specs.Outcome.{form_read, IsJudgement, WroteAll, WroteSome, Untouched, Filled, IsDone, IsDonePartly}
+
+-- the text of a journal was judged, and this is said of the line of what was found and of the status with which that ends
+abbrev pub Judged : (ℕ → List ℕ → Type 0) → AuditInput → Type 0
+Judged Written audited = (status : ℕ) × (text : List ℕ) × IsJudgement audited status text × Written status text
+
+-- what stands where judging it stopped
+abbrev pub StoppedJudging : Bytes → AuditInput → Stop → Type 0
+StoppedJudging written audited stop.Memory = Keeps written.before written.after ⊎ Judged (WroteSome written) audited
+StoppedJudging written audited stop.WriteFault = Judged (WroteSome written) audited
+StoppedJudging written audited stop.Illegal = Judged (WroteAll written 9) audited
+StoppedJudging written audited _ = ⊥
 
 -- what stands where a command stopped once its input was known
 abbrev pub StoppedLate : Command → Bytes → Input → Book → Stop → Type 0
-StoppedLate command written given book stop.Memory = Untouched written book ⊎ Filled (WrotePart written) command given book
-StoppedLate command written given book stop.WriteFault = Filled (WrotePart written) command given book
+StoppedLate command written given book stop.Memory = Untouched written book ⊎ Filled (WroteSome written) command given book
+StoppedLate command written given book stop.WriteFault = Filled (WroteSome written) command given book
+StoppedLate command written given book stop.Illegal = Filled (WroteAll written 9) command given book
 StoppedLate command written given book _ = ⊥
 
 -- why a command has no input: it is refused, or can't be read, or memory ran out
@@ -29,6 +43,7 @@ abbrev pub Stopped : Option Command → Bytes → Bytes → Book → Stop → Ty
 Stopped stated read written book stop.Usage = (stated ≡ None) × Untouched written book
 Stopped stated read written book stop.WriteFault = IsDonePartly stated read written book
 Stopped stated read written book stop.Memory = Untouched written book ⊎ IsDonePartly stated read written book
+Stopped stated read written book stop.Illegal = IsDone stated read written book 9
 Stopped stated read written book (stop.Refused fault note) = LacksInput stated read (stop.Refused fault note) × Untouched written book
 Stopped stated read written book stop.Bytes = LacksInput stated read stop.Bytes × Untouched written book
 Stopped stated read written book stop.ReadFault = LacksInput stated read stop.ReadFault × Untouched written book

@@ -7,8 +7,8 @@ use Rattle.audit_form.proofs.parts.parts_of.Goals as goal
 pub loop-line-init : goal.loop-line-init
 loop-line-init c = passed-none c.lines_with_terminator-lines.result c.args.bytes.now c.lines_with_terminator-lines.ensures.value
 
-pub returns-then-is_line : goal.returns-then-is_line
-returns-then-is_line c =
+pub returns-then-is_line-clause-value : goal.returns-then-is_line-clause-value
+returns-then-is_line-clause-value c =
     let l = c.loop-line in
     let line = c.in-Some.line.now in
     let parting : is_parting l.headed line ≡ true = ap₂ (λ a b. a && b) c.if-headed.true (sym c.is_line.ensures ∙ c.if-is_line.true) in
@@ -26,5 +26,5 @@ loop-line-preserved c =
     passed-more l.at l.headed (l.headed || c.is_line-headed.result) l.lines c.args.bytes.now line c.next.new.self l.invariant c.in-Some.ensures.steps other
     (ap (λ t. l.headed || t) c.is_line-headed.ensures)
 
-pub returns : goal.returns
-returns c = passed-all c.loop-line.at c.loop-line.headed c.loop-line.lines c.args.bytes.now c.loop-line.invariant c.in_default.ensures.steps.0
+pub returns-clause-value : goal.returns-clause-value
+returns-clause-value c = passed-all c.loop-line.at c.loop-line.headed c.loop-line.lines c.args.bytes.now c.loop-line.invariant c.in_default.ensures.steps.0
