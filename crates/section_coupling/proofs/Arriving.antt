@@ -1,6 +1,6 @@
 -- What a section acts upon, and what follows each event.
-use Rattle.std.proofs.Common.{◌≡◌, ◌<◌, ◌+◌, [], ◌∷◌, ◌++◌, length, get_or, drop, fold, ℕ, Bool, true, false, List, ap, ◌∙◌, refl, sym, subst}
-use Rattle.std.specs.Prelude.{IsTrue, Some, if◌then◌else◌}
+use Rattle.std.proofs.Common.{◌≡◌, ◌<◌, ◌+◌, [], length, get_or, drop, fold, ℕ, Bool, true, false, List, ap, ◌∙◌, refl, sym, subst}
+use Rattle.std.specs.Prelude.{IsTrue, Some, None, if◌then◌else◌}
 use Rattle.std.proofs.lemmas.Bool.{and_parts}
 use Rattle.relay_base.specs.declared.words.Event.{Event}
 use Rattle.relay_base.specs.declared.words.Event.TheVariants.{Message as Arrives, Asked as Requested, Tick}
@@ -28,20 +28,21 @@ use Rattle.std.specs.List.{list_any}
 use Rattle.connection_law.proofs.Flow.Flowing.{either}
 use Rattle.section_model.specs.Parameters.{Arrival}
 use Rattle.section_model.specs.Acting.{timed, is_sent, windows_after, by_line, by_windows, in_windows, section_hears}
-use Rattle.relay_base.specs.declared.words.Output.TheVariants.{Lost as Dropped}
-use Rattle.relay_base.specs.declared.words.Lost.TheVariants as lost
 use Rattle.section_model.specs.declared.cell.Timer.{Timer}
-use Rattle.section_model.specs.Coupling.{settles}
 use Rattle.std.proofs.lemmas.List.{drop_more}
 use Rattle.section_coupling.specs.declared.clock.Clock.{Clock}
 use Rattle.section_coupling.specs.declared.coming.Coming.{Coming}
-use Rattle.section_model.specs.Step.{fires, fires_next, is_from_elsewhere, in_touch, hears_message, hears, is_in_range, named, names, on_windows, on_each, after_event}
+use Rattle.section_model.specs.Step.{fires_next, is_from_elsewhere, in_touch, checked, hears_checked, hears, is_in_range, named, names, on_windows, on_each, after_event}
 use Rattle.section_model.specs.declared.cell.Cell.TheVariants.{Leave, Acknowledge}
 use Rattle.section_model.specs.declared.input.Input.{Input}
 use Rattle.section_model.specs.Windowed.{acknowledges}
 use Rattle.relay_base.specs.declared.words.Output.{Output}
-use Rattle.section_coupling.specs.Inner.Comings.{arrived_in, hears_coming, hears_on}
-use Rattle.section_coupling.specs.Inner.Acts.{untimed_acts}
+use Rattle.section_coupling.specs.Inner.Comings.{arrived_in, IsArrival, hears_coming}
+use Rattle.section_coupling.specs.Inner.Acts.{untimed_acts, section_acts}
+use Rattle.section_coupling.specs.Inner.Alone.{hears_alone}
+use Rattle.section_model.specs.declared.input.Input.TheVariants as input
+use Rattle.section_model.specs.Table.{section_cell}
+use Rattle.section_model.specs.Views.{seen_arrival, seen_parameters}
 
 -- a request that is heard is in its ranges
 pub range-of : (c : Connection) (e : Event) (ssn : ℕ) (r : Request) → e ≡ Requested ssn r → IsTrue (hears c e) → IsTrue (is_in_range r)
@@ -57,7 +58,7 @@ acts_arrived ticks c (Arrives point sls bytes) a x f =
 acts_arrived ticks c (Requested ssn r) a x f = absurd (cc)
 acts_arrived ticks c Tick a x f = absurd (cc)
 
-pub acts_heard : (ticks : Ticks) (c : Cell) (e : Event) (point : ℕ) (a : Arrival) (x : Section) → arrived_in e ≡ record { point = point; arrival = Some a }
+acts_heard : (ticks : Ticks) (c : Cell) (e : Event) (point : ℕ) (a : Arrival) (x : Section) → arrived_in e ≡ record { point = point; arrival = Some a }
     → timed ticks x (if in_windows c x then by_windows (windows_hear_event c e) x else by_line (line_hears_event c e) x) ≡ section_hears ticks c point a.parameters x
 acts_heard ticks c e point a x f =
     acts_arrived ticks c e a x (ap (λ r. r.arrival) f) ∙ ap (λ from. section_hears ticks c from a.parameters x) (ap (λ r. r.point) f)
@@ -111,22 +112,24 @@ in_time ticks x y z done acted old same e f g =
     ∙ ap (λ s. (wire s, acted)) (sym g)))
 
 -- a message from the section's point
-pub heard_near : (clock : Clock) (c : Coming) (x y : Section) (that : End) (acting : End × Acted) (r : Connection × List Output) → is_from_elsewhere c.point x.head ≡ false
-    → y ≡ in_touch clock.ticks x → hears_coming clock c y ≡ acting → settles clock.ticks acting that ≡ r → hears_on clock c x that ≡ r
-unfolding hears_message
-heard_near clock c x y that acting r near e f g =
-    let z : Section = in_touch clock.ticks x in
-    ap (λ b. if b then (record { this = wire x; that = that }, Dropped lost.Point ∷ []) else settles clock.ticks (hears_coming clock c z) that) near
-    ∙ (ap (λ a. settles clock.ticks a that) (subst (λ s. hears_coming clock c s ≡ acting) e f) ∙ g)
+pub heard_near : (clock : Clock) (c : Coming) (x y : Section) (r : End × Acted) → is_from_elsewhere c.point x.head ≡ false → y ≡ in_touch clock.ticks x → hears_coming clock c y ≡ r
+    → hears_alone clock c (wire x) ≡ r
+heard_near clock c x y r near e f = rw near (subst (λ s. hears_coming clock c s ≡ r) e f)
+
+-- a message that no check keeps from the cell
+pub heard_by_cell : (clock : Clock) (c : Coming) (k : Cell) (x : Section) (r : End × Acted) → checked c.arrival.occasion (seen_parameters c.arrival.parameters) x.head ≡ None → IsArrival c
+    → k ≡ section_cell x.head.state c.arrival.occasion → section_acts clock.ticks k (input.Event c.event) x ≡ r → hears_coming clock c x ≡ r
+heard_by_cell clock c k x r none arrives same e =
+    ap (hears_checked clock.ticks c.arrival.occasion c.point (seen_parameters c.arrival.parameters) x) none
+    ∙ (ap (λ o. section_hears clock.ticks o c.point (seen_parameters c.arrival.parameters) x) (sym same)
+    ∙ (sym (acts_heard clock.ticks k c.event.now c.point (seen_arrival c.arrival) x arrives) ∙ e))
 
 -- one timer more, and those to come
-pub fired_more : (ticks : Ticks) (c d : Connection) (outs more all : List Output) (timers : List Timer) (i : ℕ) (t : Timer) (r : Connection × List Output) → i < length timers
-    → fires ticks (get_or timers i t) c.this c.that ≡ (d, more) → all ≡ outs ++ more → fold (fires_next ticks) (c, outs) (drop i timers) ≡ r
-    → fold (fires_next ticks) (d, all) (drop (i + 1) timers) ≡ r
-fired_more ticks c d outs more all timers i t r within e f g =
-    subst (λ o. fold (fires_next ticks) (d, o) (drop (i + 1) timers) ≡ r) (sym f)
-    (subst (λ s. fold (fires_next ticks) (s.0, outs ++ s.1) (drop (i + 1) timers) ≡ r) e
-    (subst (λ ts. fold (fires_next ticks) (c, outs) ts ≡ r) (drop_more timers i t within) g))
+pub fired_more : (ticks : Ticks) (s t r : Connection × List Output) (timers : List Timer) (i : ℕ) (timer : Timer) → i < length timers
+    → fires_next ticks s (get_or timers i timer) ≡ t → fold (fires_next ticks) s (drop i timers) ≡ r → fold (fires_next ticks) t (drop (i + 1) timers) ≡ r
+fired_more ticks s t r timers i timer within e f =
+    subst (λ (u : Connection × List Output). fold (fires_next ticks) u (drop (i + 1) timers) ≡ r) e
+    (subst (λ ts. fold (fires_next ticks) s ts ≡ r) (drop_more timers i timer within) f)
 
 -- what waits leaves, and then what left is acknowledged
 pub followed : (ticks : Ticks) (r s t : Connection × List Output) → on_each (on_windows ticks (windows_turn Leave)) r ≡ s → on_each (on_windows ticks (windows_turn Acknowledge)) s ≡ t → after_event ticks r ≡ t

@@ -1,5 +1,5 @@
 -- The units that are said to have left had come in.
-use Rattle.std.proofs.Common.{◌≡◌, ℕ, ◌+◌, ◌-◌, ◌≤◌, ◌<◌, ◌==◌, ◌&&◌, ◌||◌, nat_le, nat_lt, not, Bool, true, false, List, [], ◌∷◌, ◌++◌, length, drop, get_or, map, fold, if◌then◌else◌, Some, None, is_some, refl, sym, subst, ap, ◌∙◌, arith, length-drop}
+use Rattle.std.proofs.Common.{◌≡◌, ℕ, ◌+◌, ◌-◌, ◌≤◌, ◌<◌, ◌==◌, ◌&&◌, ◌||◌, nat_le, nat_lt, not, Bool, true, false, List, [], ◌∷◌, ◌++◌, length, drop, get_or, map, fold, if◌then◌else◌, Some, None, is_some, refl, subst, ap, ◌∙◌, arith, length-drop}
 use Rattle.std.specs.Prelude.{Option}
 use Rattle.std.proofs.lemmas.Bool.{eqb-true, eqb-false, and_parts}
 use Rattle.std.proofs.lemmas.List.{length_push, drop_more}
@@ -34,7 +34,9 @@ use Rattle.section_model.specs.Ends.{no_effect}
 use Rattle.section_model.specs.Windowed.{HasCome}
 use Rattle.section_model.specs.Views.{seen_parameters}
 use Rattle.section_model.specs.Table.{section_cell}
-use Rattle.section_model.specs.Step.{checked, hears_checked, on_windows}
+use Rattle.section_model.specs.Step.{checked, hears_checked, on_windows, reason_against}
+use Rattle.relay_base.specs.declared.words.Reason.{Reason}
+use Rattle.section_model.specs.declared.cell.Timer.{Timer}
 use Rattle.section_class3.specs.Windows.{windows_turn}
 use Rattle.connection_law.specs.InStep.{Meets, connected, section_stage, IsInStep}
 use Rattle.connection_law.proofs.Flow.Acting.{ActsWindowed, acts_alone}
@@ -42,7 +44,8 @@ use Rattle.connection_law.proofs.Flow.Leaving.{leaves_kept, acknowledges_kept, o
 use Rattle.section_coupling.specs.declared.clock.Clock.{Clock}
 use Rattle.section_coupling.specs.declared.coming.Coming.{Coming}
 use Rattle.section_coupling.specs.declared.wire.Wire.{Wire}
-use Rattle.section_coupling.specs.Views.{section_at}
+use Rattle.section_coupling.specs.Views.{section_at, behind}
+use Rattle.section_coupling.specs.Inner.Alone.{turns_alone, fires_alone, asks_unless, asks_beside}
 use Rattle.section_coupling.specs.Inner.Comings.{hears_coming}
 use Rattle.section_coupling.specs.Sound.{came_in, HasComeAt, MayLeave, LeavesNone, LeaveNone, IsAlone, AreOfWhatCame, SoundHands}
 
@@ -58,9 +61,6 @@ owner-may (hand.Unit more body) u = tt
 owner-may _ u = tt
 
 -- What an end answers.
-
-Answers : End → End × Acted → Type 0
-Answers this r = AreOfWhatCame r.0 (hands_of r.1) this
 
 abbrev BySection : Ticks → Section → End → Section × Acted → Type 0
 BySection ticks x this done = AreOfWhatCame (timed ticks x done).0 (hands_of done.1) this
@@ -194,7 +194,7 @@ line-fire cell.ResetExpired ticks x that = (none-come (hand.End RELEASE_RESET_EX
 line-fire cell.PeerSilent ticks x that = (none-come (hand.End RELEASE_INACTIVITY_EXPIRED None None) that tt, tt, refl, tt)
 line-fire _ ticks x that = tt
 
-pub fires-come : (ticks : Ticks) (c : Cell) (x : Section) (that : End) → AreOfWhatCame (section_fires ticks c x).0 (hands_of (section_fires ticks c x).1) that
+fires-come : (ticks : Ticks) (c : Cell) (x : Section) (that : End) → AreOfWhatCame (section_fires ticks c x).0 (hands_of (section_fires ticks c x).1) that
 unfolding section_fires windowed_fires
 fires-come ticks c x that = either (BySection ticks x that) (in_windows c x) _ _ (λ _. tt) (λ _. line-fire c ticks x that)
 
@@ -235,7 +235,7 @@ units-come : (units : List DataUnit) (u : User) (that : End) → AreOfWhatCame (
 units-come [] u that = tt
 units-come (d ∷ units) u that = (none-come (handed d) that tt, tt, tt, units-leave-none units)
 
-pub asks-come : (c : Cell) (r : Request) (u : User) (that : End) → AreOfWhatCame (owner (user_asks c r u).0) (hands_of (user_asks c r u).1) that
+asks-come : (c : Cell) (r : Request) (u : User) (that : End) → AreOfWhatCame (owner (user_asks c r u).0) (hands_of (user_asks c r u).1) that
 unfolding user_asks
 asks-come cell.UserAccepts (request.Accept mine class credit body) u that = (none-come (hand.Accept class (agreed_credit class credit u.credit) None (given body) None) that tt, tt, tt, tt)
 asks-come cell.UserAccepts _ u that = tt
@@ -252,9 +252,9 @@ asks-come _ r u that = tt
 
 -- Effects that are taken one after another.
 
-behind : (u : User) (e that : End) (h : Hand) (hands : List Hand) → StaysAs (owner u) e → LeaveNone (h ∷ hands) → AreOfWhatCame e (h ∷ hands) that
-behind u (owner v) that h hands stays none = (none-come h that none.0, owner-may h v, tt, none.1)
-behind u (wire y) that h hands stays none = absurd stays
+after-first : (u : User) (e that : End) (h : Hand) (hands : List Hand) → StaysAs (owner u) e → LeaveNone (h ∷ hands) → AreOfWhatCame e (h ∷ hands) that
+after-first u (owner v) that h hands stays none = (none-come h that none.0, owner-may h v, tt, none.1)
+after-first u (wire y) that h hands stays none = absurd stays
 
 no-more : (h : Hand) (hands : List Hand) → h ∷ hands ≡ [] → ⊥
 no-more h hands e = absurd (cc)
@@ -266,7 +266,7 @@ next-come n ticks (wire x) that outs h (next ∷ hands) k = absurd (no-more next
 next-come n ticks (owner u) that outs h (next ∷ hands) k =
     let r : Connection × List Output = (record { this = owner u; that = that }, outs) in
     let c = (other_takes (exchange n ticks) ticks r h).0 in
-    behind u c.this c.that next hands (offered_goes n ticks (exchange_goes n ticks) r h (λ s. absurd s)).0 k.3
+    after-first u c.this c.that next hands (offered_goes n ticks (exchange_goes n ticks) r h (λ s. absurd s)).0 k.3
 
 pub one-taken : (n : ℕ) (ticks : Ticks) (r : Connection × List Output) (h : Hand) (hands : List Hand) → AreOfWhatCame r.0.this (h ∷ hands) r.0.that
     → (let c = (other_takes (exchange n ticks) ticks r h).0 in AreOfWhatCame c.this hands c.that)
@@ -315,13 +315,40 @@ coming-come clock c x that r within e =
     by_check (Some out) = tt
     by_check None = hears-come clock.ticks (section_cell x.head.state c.arrival.occasion) c.point (seen_parameters c.arrival.parameters) x that within
 
-pub turn-come : (c : Cell) (ticks : Ticks) (x : Section) (that : End) (r : End × Acted) → AreInStep (wire x) that → timed ticks x (by_windows (windows_turn c) x) ≡ r → AreOfWhatCame r.0 (hands_of r.1) that
-turn-come c ticks x that r k e = subst (λ (done : End × Acted). AreOfWhatCame done.0 (hands_of done.1) that) e (by_cell c)
-  where
-    by_cell : (c : Cell) → (let done = timed ticks x (by_windows (windows_turn c) x) in AreOfWhatCame done.0 (hands_of done.1) that)
-    by_cell cell.Leave = leaves-come ticks x that k
-    by_cell cell.Acknowledge = acknowledges-come ticks x that
-    by_cell _ = tt
+section-turns : (c : Cell) (ticks : Ticks) (x : Section) (that : End) → AreInStep (wire x) that → (let done = timed ticks x (by_windows (windows_turn c) x) in AreOfWhatCame done.0 (hands_of done.1) that)
+section-turns cell.Leave ticks x that k = leaves-come ticks x that k
+section-turns cell.Acknowledge ticks x that k = acknowledges-come ticks x that
+section-turns _ ticks x that k = tt
+
+end-turns : (c : Cell) (ticks : Ticks) (this that : End) → AreInStep this that → (let done = turns_alone ticks c this in AreOfWhatCame done.0 (hands_of done.1) that)
+end-turns c ticks (wire x) that k =
+    either (λ (done : End × Acted). AreOfWhatCame done.0 (hands_of done.1) that) (is_up x.head.state && x.head.class == 3) _ _ (λ _. section-turns c ticks x that k) (λ _. tt)
+end-turns c ticks (owner u) that k = tt
+
+pub turn-come : (c : Cell) (ticks : Ticks) (this that : End) (r : End × Acted) → AreInStep this that → turns_alone ticks c this ≡ r → AreOfWhatCame r.0 (hands_of r.1) that
+turn-come c ticks this that r k e = subst (λ (done : End × Acted). AreOfWhatCame done.0 (hands_of done.1) that) e (end-turns c ticks this that k)
+
+-- when a timer fires
+end-fires : (ticks : Ticks) (timer : Timer) (this that : End) → (let done = fires_alone ticks timer this in AreOfWhatCame done.0 (hands_of done.1) that)
+end-fires ticks timer (wire x) that = fires-come ticks _ _ that
+end-fires ticks timer (owner u) that = tt
+
+pub fire-come : (ticks : Ticks) (timer : Timer) (this that : End) (r : End × Acted) → fires_alone ticks timer this ≡ r → AreOfWhatCame r.0 (hands_of r.1) that
+fire-come ticks timer this that r e = subst (λ (done : End × Acted). AreOfWhatCame done.0 (hands_of done.1) that) e (end-fires ticks timer this that)
+
+-- upon a request
+unless-asks : (against : Option Reason) (r : Request) (u : User) (that : End) → (let done = asks_unless against r u in AreOfWhatCame (owner done.0) (hands_of done.1) that)
+unless-asks (Some why) r u that = tt
+unless-asks None r u that = asks-come _ r u that
+
+end-asks : (ssn : ℕ) (r : Request) (this that : End) → (let done = asks_beside ssn r this that in AreOfWhatCame done.0 (hands_of done.1) that)
+end-asks ssn r (owner u) (wire x) =
+    either (λ (done : User × Acted). AreOfWhatCame (owner done.0) (hands_of done.1) (wire x)) (u.ssn == ssn) _ _ (λ _. unless-asks (reason_against r u x) r u (wire x)) (λ _. tt)
+end-asks ssn r (owner u) (owner v) = tt
+end-asks ssn r (wire x) that = tt
+
+pub ask-come : (ssn : ℕ) (request : Request) (this that : End) (r : End × Acted) → asks_beside ssn request this that ≡ r → AreOfWhatCame r.0 (hands_of r.1) that
+ask-come ssn request this that r e = subst (λ (done : End × Acted). AreOfWhatCame done.0 (hands_of done.1) that) e (end-asks ssn request this that)
 
 -- and each turn keeps the ends in step
 nothing-kept : (ticks : Ticks) (x : Section) (that : End) → Meets connected (section_stage x.head.state) → (x.head.class == 3) ≡ true → AreInStep (wire x) that
@@ -347,26 +374,23 @@ taken-left ticks hands i h c r within k same taken =
     (subst (λ g. end_takes ticks g c.that ≡ r) same taken)
 
 -- and what it hands back has gone on
-pub offered-left : (n : ℕ) (ticks : Ticks) (c d p : Connection) (more : List Output) (hands : List Hand) (i : ℕ) (h : Hand) (e : End × Acted) → i < length hands
-    → h ≡ get_or hands i h → end_takes ticks h c.that ≡ e → exchange n ticks e c.this ≡ (d, more) → p ≡ turned d → AreOfWhatCame c.this (drop i hands) c.that
-    → AreOfWhatCame p.this (drop (i + 1) hands) p.that
-offered-left n ticks c d p more hands i h e within same taken given turn k =
+pub offered-left : (n : ℕ) (ticks : Ticks) (c d : Connection) (outs all : List Output) (hands : List Hand) (i : ℕ) (h : Hand) (e : End × Acted) → i < length hands
+    → h ≡ get_or hands i h → end_takes ticks h c.that ≡ e → behind outs (exchange n ticks e c.this) ≡ (d, all) → AreOfWhatCame c.this (drop i hands) c.that
+    → AreOfWhatCame d.that (drop (i + 1) hands) d.this
+offered-left n ticks c d outs all hands i h e within same taken given k =
     let rest = drop (i + 1) hands in
     let at_place : end_takes ticks (get_or hands i h) c.that ≡ e = subst (λ g. end_takes ticks g c.that ≡ e) same taken in
-    subst (λ (q : Connection). AreOfWhatCame q.this rest q.that) (sym turn)
-    (subst (λ (done : Connection × List Output). AreOfWhatCame (turned done.0).this rest (turned done.0).that) (ap (λ (acting : End × Acted). exchange n ticks acting c.this) at_place ∙ given)
-    (one-taken n ticks (c, []) (get_or hands i h) rest (subst (λ hs. AreOfWhatCame c.this hs c.that) (drop_more hands i h within) k)))
+    subst (λ (done : Connection × List Output). AreOfWhatCame done.0.that rest done.0.this) (ap (λ (acting : End × Acted). behind outs (exchange n ticks acting c.this)) at_place ∙ given)
+    (one-taken n ticks (c, outs) (get_or hands i h) rest (subst (λ hs. AreOfWhatCame c.this hs c.that) (drop_more hands i h within) k))
 
-pub offered-more : (n : ℕ) (ticks : Ticks) (c d p : Connection) (outs more all : List Output) (hands : List Hand) (i : ℕ) (h : Hand) (e : End × Acted) (r : Connection × List Output) → i < length hands
-    → h ≡ get_or hands i h → end_takes ticks h c.that ≡ e → exchange n ticks e c.this ≡ (d, more) → p ≡ turned d → all ≡ outs ++ more
-    → fold (other_takes (exchange n ticks) ticks) (c, outs) (drop i hands) ≡ r → fold (other_takes (exchange n ticks) ticks) (p, all) (drop (i + 1) hands) ≡ r
-offered-more n ticks c d p outs more all hands i h e r within same taken given turn joined k =
+pub offered-more : (n : ℕ) (ticks : Ticks) (c d : Connection) (outs all : List Output) (hands : List Hand) (i : ℕ) (h : Hand) (e : End × Acted) (r : Connection × List Output) → i < length hands
+    → h ≡ get_or hands i h → end_takes ticks h c.that ≡ e → behind outs (exchange n ticks e c.this) ≡ (d, all)
+    → fold (other_takes (exchange n ticks) ticks) (c, outs) (drop i hands) ≡ r → fold (other_takes (exchange n ticks) ticks) (turned d, all) (drop (i + 1) hands) ≡ r
+offered-more n ticks c d outs all hands i h e r within same taken given k =
     let rest = drop (i + 1) hands in
     let at_place : end_takes ticks (get_or hands i h) c.that ≡ e = subst (λ g. end_takes ticks g c.that ≡ e) same taken in
-    subst (λ o. fold (other_takes (exchange n ticks) ticks) (p, o) rest ≡ r) (sym joined)
-    (subst (λ (q : Connection). fold (other_takes (exchange n ticks) ticks) (q, outs ++ more) rest ≡ r) (sym turn)
-    (subst (λ (done : Connection × List Output). fold (other_takes (exchange n ticks) ticks) (turned done.0, outs ++ done.1) rest ≡ r) (ap (λ (acting : End × Acted). exchange n ticks acting c.this) at_place ∙ given)
-    (subst (λ hs. fold (other_takes (exchange n ticks) ticks) (c, outs) hs ≡ r) (drop_more hands i h within) k)))
+    subst (λ (done : Connection × List Output). fold (other_takes (exchange n ticks) ticks) (turned done.0, done.1) rest ≡ r) (ap (λ (acting : End × Acted). behind outs (exchange n ticks acting c.this)) at_place ∙ given)
+    (subst (λ hs. fold (other_takes (exchange n ticks) ticks) (c, outs) hs ≡ r) (drop_more hands i h within) k)
 
 pub hands-left : (hands : List Hand) (i : ℕ) (h : Hand) → i < length hands → SoundHands (drop i hands) → SoundHands (drop (i + 1) hands)
 hands-left hands i h within k = let all = subst SoundHands (drop_more hands i h within) k in (all.0.1, all.1.1)

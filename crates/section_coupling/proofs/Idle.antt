@@ -1,40 +1,24 @@
 -- What does nothing leaves the connection as it is.
-use Rattle.std.proofs.Common.{◌≡◌, ◌==◌, ℕ, zero, suc, true, false, List, [], ◌∷◌, ◌++◌, length, fold, refl, ap, ap₂, ◌∙◌, arith, append-nil}
-use Rattle.std.proofs.lemmas.Bool.{and_parts, or_parts, eqb-true}
+use Rattle.std.proofs.Common.{◌≡◌, false, List, [], ◌∷◌, ◌++◌, fold, refl, ap, ◌∙◌, append-nil}
+use Rattle.std.proofs.lemmas.Bool.{or_parts}
 use Rattle.plant_core.specs.declared.terms.Ticks.{Ticks}
 use Rattle.relay_base.specs.declared.words.Output.{Output}
 use Rattle.section_model.specs.declared.cell.Timer.{Timer}
 use Rattle.section_model.specs.declared.hand.Acted.{Acted}
 use Rattle.section_model.specs.Ends.{End, wire, owner, Connection}
-use Rattle.section_model.specs.Coupling.{exchange, other_takes, with_more}
 use Rattle.section_model.specs.Step.{fires_next, is_due_at, on_windows, on_each, after_event}
 use Rattle.section_model.specs.Windowed.{Windowed, leaves, acknowledges}
-use Rattle.section_coupling.specs.Inner.Idle.{hands_nothing, has_due, is_in_class_3}
-use Rattle.section_coupling.proofs.Exchanging.{one-turn}
+use Rattle.section_coupling.specs.Inner.Idle.{has_due, is_in_class_3}
 
-none-there : {X : Type 0} (xs : List X) → (length xs == 0) ≡ true → xs ≡ []
-none-there [] e = refl
-none-there (x ∷ xs) e = absurd (omega (arith, eqb-true (length (x ∷ xs)) 0 e))
+-- a timer that isn't due
+pub not_due : (ticks : Ticks) (timer : Timer) (c : Connection) (outs : List Output) → is_due_at timer c.this ≡ false → fires_next ticks (c, outs) timer ≡ (c, outs)
+not_due ticks timer c outs none = rw none (ap (λ (all : List Output). (c, all)) (append-nil outs))
 
-no_turn : (ticks : Ticks) (acting : End × Acted) (that : End) → exchange 0 ticks acting that ≡ (record { this = acting.0; that = that }, acting.1.outs)
-unfolding exchange
-no_turn ticks acting that = refl
-
-pub none_handed : (turns : ℕ) (ticks : Ticks) (acting : End × Acted) (that : End) → hands_nothing acting.1 ≡ true
-    → exchange turns ticks acting that ≡ (record { this = acting.0; that = that }, acting.1.outs)
-none_handed zero ticks acting that none = no_turn ticks acting that
-none_handed (suc turns) ticks acting that none =
-    let parts = and_parts (length acting.1.first == 0) (length acting.1.then == 0) none in
-    one-turn turns ticks acting that
-    ∙ ap₂ (λ first then. fold (other_takes (exchange turns ticks) ticks) (with_more acting.1.outs (fold (other_takes (exchange turns ticks) ticks) (record { this = acting.0; that = that }, []) first)) then)
-    (none-there acting.1.first parts.0) (none-there acting.1.then parts.1)
-
-pub none_fires : (ticks : Ticks) (c : Connection) (timers : List Timer) → has_due timers c.this ≡ false → fold (fires_next ticks) (c, []) timers ≡ (c, [])
-none_fires ticks c [] none = refl
-none_fires ticks c (timer ∷ timers) none =
+pub none_fires : (ticks : Ticks) (c : Connection) (outs : List Output) (timers : List Timer) → has_due timers c.this ≡ false → fold (fires_next ticks) (c, outs) timers ≡ (c, outs)
+none_fires ticks c outs [] none = refl
+none_fires ticks c outs (timer ∷ timers) none =
     let parts = or_parts (is_due_at timer c.this) (has_due timers c.this) none in
-    let first : fires_next ticks (c, []) timer ≡ (c, []) = rw parts.0 refl in
-    ap (λ r. fold (fires_next ticks) r timers) first ∙ none_fires ticks c timers parts.1
+    ap (λ r. fold (fires_next ticks) r timers) (not_due ticks timer c outs parts.0) ∙ none_fires ticks c outs timers parts.1
 
 no_windows : (ticks : Ticks) (act : Windowed → Windowed × Acted) (this that : End) → is_in_class_3 this ≡ false → on_windows ticks act this that ≡ (record { this = this; that = that }, [])
 no_windows ticks act (wire x) that none = rw none refl

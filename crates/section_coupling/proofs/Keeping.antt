@@ -1,5 +1,5 @@
 -- What the two ends of a connection keep of windows, as the code keeps it.
-use Rattle.std.proofs.Common.{◌≡◌, ◌∙◌, ◌≤◌, ℕ, List, Some, subst, ap}
+use Rattle.std.proofs.Common.{◌≡◌, ◌∙◌, ◌≤◌, ℕ, List, [], Some, subst, ap}
 use Rattle.std.specs.Prelude.{Option, IfSome, IsTrue, option_map}
 use Rattle.relay_base.specs.declared.limits.TheConstants.{GREATEST_CREDIT}
 use Rattle.relay_base.specs.declared.words.Event.{Event}
@@ -18,7 +18,8 @@ use Rattle.connection_law.proofs.Message.Sent.{data_sent, expedited_sent}
 use Rattle.section_coupling.specs.declared.side.Side.{Side}
 use Rattle.section_coupling.specs.declared.side.Side.TheVariants as side
 use Rattle.section_coupling.specs.declared.pair.Pair.{Pair}
-use Rattle.section_coupling.specs.Views.{end_at, connection_at}
+use Rattle.section_coupling.specs.Views.{end_at, connection_at, behind}
+use Rattle.section_model.specs.Ends.{Connection}
 
 -- timers are no part of it
 of-sides : (m n : ℕ) (this that : Side) → AreInStep (end_at m this) (end_at m that) → AreInStep (end_at n this) (end_at n that)
@@ -37,7 +38,7 @@ kept-after ticks now later event p q outs k e =
     at-any later 0 q (subst (λ r. IsInStep r.0) e (step_keeps ticks (connection_at now p) event (at-any 0 now p k)))
 
 -- in its two parts
-step_joined : (ticks : Ticks) (now later then : ℕ) (event : Event) (p q r : Pair) (outs more : List Output) → then ≡ later
+pub step_joined : (ticks : Ticks) (now later then : ℕ) (event : Event) (p q r : Pair) (outs more : List Output) → then ≡ later
     → event_step ticks (connection_at now p) event ≡ (connection_at later q, outs) → after_event ticks (connection_at then q, outs) ≡ (connection_at then r, more)
     → connection_step ticks (connection_at now p) event ≡ (connection_at later r, more)
 unfolding connection_step
@@ -49,6 +50,10 @@ pub kept-step : (ticks : Ticks) (now later then : ℕ) (event : Event) (p q r : 
     → IsInStep (connection_at 0 r)
 kept-step ticks now later then event p q r outs more k same e f =
     kept-after ticks now later event p r more k (step_joined ticks now later then event p q r outs more same e f)
+
+-- what stands behind no output
+pub behind_none : (none : List Output) (given r : Connection × List Output) → none ≡ [] → behind none given ≡ r → given ≡ r
+behind_none none given r e f = subst (λ os. behind os given ≡ r) e f
 
 -- what such a step sends
 pub data-step : (ticks : Ticks) (now later then : ℕ) (event : Event) (p q r : Pair) (outs more : List Output) → IsInStep (connection_at 0 p) → then ≡ later

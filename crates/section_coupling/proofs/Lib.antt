@@ -6,6 +6,7 @@ pub mod Arriving
 pub mod HandsCome
 pub mod Idle
 pub mod Exchanging
+pub mod Alone
 pub mod LaterTimers
 pub mod Fitting
 pub mod Opened

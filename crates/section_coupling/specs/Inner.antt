@@ -1,4 +1,5 @@
 pub mod Acts
 pub mod Idle
 pub mod Comings
+pub mod Alone
 pub mod Sizes

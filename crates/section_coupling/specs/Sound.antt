@@ -94,5 +94,8 @@ abbrev pub SoundSide : Side → Type 0
 SoundSide (side.Wire w) = SoundWire w
 SoundSide (side.User o) = SoundOwner o
 
+abbrev pub AreSound : Side → Side → Type 0
+AreSound this that = SoundSide this × SoundSide that
+
 abbrev pub SoundPair : Pair → Type 0
-SoundPair p = SoundSide p.this × SoundSide p.that
+SoundPair p = AreSound p.this p.that

@@ -1,5 +1,5 @@
 -- The connection that the code stands for, after so many ticks of its lane.
-use Rattle.std.specs.Prelude.{◌≡◌, ℕ, ◌-◌, List, Option, option_map}
+use Rattle.std.specs.Prelude.{◌≡◌, ℕ, ◌-◌, List, ◌++◌, Option, option_map}
 use Rattle.relay_base.specs.declared.words.Output.{Output}
 use Rattle.section_model.specs.declared.hand.Acted.{Acted}
 use Rattle.section_model.specs.Views.{section_of}
@@ -48,7 +48,7 @@ end_at now (side.User o) = owner (user_at o)
 abbrev pub connection_at : ℕ → Pair → Connection
 connection_at now p = record { this = end_at now p.this; that = end_at now p.that }
 
--- The same by a lane's clock, and what a part of a step makes of it.
+-- The same by a lane's clock, and what an act makes of it.
 
 abbrev pub timers_by : Clock → Timers → TicksLeft
 timers_by clock t = timers_at clock.taken t
@@ -62,13 +62,21 @@ end_by clock s = end_at clock.taken s
 abbrev pub connection_by : Clock → Pair → Connection
 connection_by clock p = connection_at clock.taken p
 
--- this is what the definition gives: the connection, and the outputs
-abbrev pub IsStep : Clock → Connection × List Output → Pair × List Output → Type 0
-IsStep clock given r = given ≡ (connection_by clock r.0, r.1)
+-- two ends
+abbrev pub ends_by : Clock → Side → Side → Connection
+ends_by clock this that = record { this = end_by clock this; that = end_by clock that }
 
--- the section, or the end, and what it hands over and gives
-abbrev pub IsAct : Clock → End × Acted → Wire × Acted → Type 0
-IsAct clock given r = given ≡ (wire (section_by clock r.0), r.1)
+-- two ends, and the outputs that are there
+abbrev pub standing : Clock → Side → Side → List Output → Connection × List Output
+standing clock this that outs = (ends_by clock this that, outs)
 
-abbrev pub IsEndAct : Clock → End × Acted → Side × Acted → Type 0
-IsEndAct clock given r = given ≡ (end_by clock r.0, r.1)
+-- a part of a step, behind the outputs that are there
+abbrev pub behind : List Output → Connection × List Output → Connection × List Output
+behind outs done = (done.0, outs ++ done.1)
+
+-- this is what the definition gives: the section, or the end, and what it hands over and gives
+abbrev pub IsAct : Clock → End × Acted → Wire → Acted → Type 0
+IsAct clock given w acted = given ≡ (wire (section_by clock w), acted)
+
+abbrev pub IsEndAct : Clock → End × Acted → Side → Acted → Type 0
+IsEndAct clock given s acted = given ≡ (end_by clock s, acted)

@@ -1,18 +1,18 @@
 //! A user's request on a connection (Q.714).
-ghost use Rattle.std.specs.Prelude.{◌≡◌, ◌≤◌, ◌==◌, ◌&&◌, ◌+◌, ℕ, List, nat_lt, None, IsTrue, IfOk};
+ghost use Rattle.std.specs.Prelude.{◌≡◌, ◌+◌, ℕ, List, nat_lt, IsTrue, IfOk, OnOk};
 ghost use Rattle.relay_base.specs.declared.words.Event.TheVariants.{Asked as Requested};
-ghost use Rattle.relay_base.specs.declared.words.Reason.TheVariants as reason;
 ghost use Rattle.relay_base.specs.declared.words.Request.TheVariants as request;
-ghost use Rattle.section_model.specs.Step.{asking_cell, refusal, reason_against, said_no, asks_owner, asks, asked_by, is_in_range};
+ghost use Rattle.section_model.specs.Ends.{gives};
+ghost use Rattle.section_model.specs.Step.{asking_cell, refusal, reason_against, said_no, asks, asked_by, is_in_range};
 ghost use Rattle.section_model.specs.UserEnd.{user_asks, unit_count};
 ghost use Rattle.section_coupling.specs.Inner.Comings.{IsRequest, IsInRange};
-ghost use Rattle.section_coupling.specs.Views.{user_at, section_at, section_by, end_by, connection_by, IsStep};
-ghost use Rattle.section_coupling.specs.Sound.{SoundWire, SoundOwner, SoundSide, SoundPair, SoundActed};
+ghost use Rattle.section_coupling.specs.Inner.Alone.{asks_unless, user_asks_beside, asks_beside};
+ghost use Rattle.section_coupling.specs.Views.{user_at, section_at, end_at, end_by, connection_by, standing, behind};
+ghost use Rattle.section_coupling.specs.Sound.{AreSound, SoundOwner, SoundSide, SoundPair, SoundActed};
 
-use crate::boxed::Boxed;
 use crate::clock::Clock;
 use crate::coming::Wanting;
-use crate::coupling::settle_user;
+use crate::coupling::settle;
 use crate::owner::Owner;
 use crate::pair::Pair;
 use crate::side::Side;
@@ -111,15 +111,14 @@ fn refusal(request: &Request, user: &Owner, wire: &Wire) -> Option<Reason>
 }
 
 /// The user is told why its request is refused.
-fn said_no(alloc: Global, ssn: Ssn, reason: Reason) -> Result<Outs, Memory>
-    ensures { IfOk result (λ outs. outs ≡ said_no ssn reason) }
+fn said_no(alloc: Global, ssn: Ssn, reason: Reason) -> Result<Acted, Memory>
+    ensures { IfOk result (λ acted. acted ≡ gives (said_no ssn reason)) }
 {
-    let mut outs = Outs::new(alloc);
-    outs.push(Output::Told {
+    let output = Output::Told {
         ssn,
         tell: Tell::No(reason),
-    })?;
-    Ok(outs)
+    };
+    Acted::giving(alloc, output)
 }
 
 /// Why a request has no effect: no cell is named for it, or it is refused.
@@ -136,108 +135,134 @@ fn reason_against(request: &Request, user: &Owner, wire: &Wire) -> Option<Reason
 /// A user's end does what is asked.
 fn user_asks(
     alloc: Global,
-    user: Owner,
+    user: &mut Owner,
     request: &Request,
     event: &Event,
-) -> Result<(Owner, Acted), Memory>
-    requires user { SoundOwner user }
+) -> Result<Acted, Memory>
+    requires user { SoundOwner user.old }
     requires range { IsTrue (is_in_range request.now) }
-    requires event { event.now ≡ Requested user.side.ssn request.now }
-    ensures asks { IfOk result (λ r.
-        user_asks (asking_cell user.side.state request.now) request.now (user_at user)
-        ≡ (user_at r.0, r.1)) }
-    ensures sound { IfOk result (λ r. SoundOwner r.0 × SoundActed r.1) }
+    requires event { event.now ≡ Requested user.old.side.ssn request.now }
+    ensures asks { let cell = asking_cell user.old.side.state request.now in
+        IfOk result (λ acted.
+        user_asks cell request.now (user_at user.old) ≡ (user_at user.new, acted)) }
+    ensures sound { IfOk result (λ acted. SoundOwner user.new × SoundActed acted) }
 {
     let cell = asking_cell(user.side.state, request);
     user.ask(alloc, cell, event)
 }
 
-/// A request of the user itself.
+/// A request of the user itself, beside the section at the other end.
 fn ask_owner(
     alloc: Global,
-    clock: &Clock,
     request: &Request,
     event: &Event,
-    user: Owner,
-    wire: Boxed<Wire>,
-) -> Result<(Pair, Outs), Memory>
-    requires user { SoundOwner user }
-    requires section { SoundWire wire }
+    user: &mut Owner,
+    wire: &Wire,
+) -> Result<Acted, Memory>
+    requires user { SoundOwner user.old }
     requires range { IsTrue (is_in_range request.now) }
-    requires event { event.now ≡ Requested user.side.ssn request.now }
-    ensures asks { IfOk result (IsStep clock.now
-        (asks_owner clock.now.ticks request.now (user_at user) (section_by clock.now wire))) }
-    ensures sound { IfOk result (λ r. SoundPair r.0) }
+    requires event { event.now ≡ Requested user.old.side.ssn request.now }
+    ensures asks { IfOk result (λ acted. (now : ℕ) →
+        let against = reason_against request.now (user_at user.old) (section_at now wire.now) in
+        asks_unless against request.now (user_at user.old) ≡ (user_at user.new, acted)) }
+    ensures sound { IfOk result (λ acted. SoundOwner user.new × SoundActed acted) }
 {
-    let ssn = user.ssn();
-    let against = reason_against(request, &user, wire.get());
-    let that = Side::Wire(wire);
-    if let Some(reason) = against {
-        let outs = said_no(alloc, ssn, reason)?;
-        let this = Side::of_user(alloc, user)?;
-        return Ok((Pair { this, that }, outs));
+    match reason_against(request, user, wire) {
+        Some(reason) => said_no(alloc, user.ssn(), reason),
+        None => user_asks(alloc, user, request, event),
     }
-    let (user, acted) = user_asks(alloc, user, request, event)?;
-    settle_user(alloc, clock, user, acted, that)
 }
 
-/// A request of a subsystem that isn't the user of the connection.
-fn not_owner(alloc: Global, ssn: Ssn, this: Side, that: Side) -> Result<(Pair, Outs), Memory>
-    ensures { IfOk result (λ r.
-        (r.0 ≡ record { this = this; that = that }) × (r.1 ≡ said_no ssn reason.Owner)) }
+/// A request of a subsystem on a user's end, beside the other end.
+fn ask_user(
+    alloc: Global,
+    wanting: &Wanting<'_>,
+    user: &mut Owner,
+    that: &Side,
+) -> Result<Acted, Memory>
+    requires user { SoundOwner user.old }
+    requires range { IsInRange wanting.now }
+    requires event { IsRequest wanting.now }
+    ensures asks { let w = wanting.now in IfOk result (λ acted. (now : ℕ) →
+        user_asks_beside w.ssn w.request.now (user_at user.old) (end_at now that.now) ≡
+        (user_at user.new, acted)) }
+    ensures sound { IfOk result (λ acted. SoundOwner user.new × SoundActed acted) }
 {
-    let outs = said_no(alloc, ssn, Reason::Owner)?;
-    Ok((Pair { this, that }, outs))
+    match that {
+        Side::Wire(wire) if user.side.ssn == wanting.ssn => ask_owner(
+            alloc,
+            wanting.request,
+            wanting.event,
+            user,
+            wire.get(),
+        ),
+        _ => said_no(alloc, wanting.ssn, Reason::Owner),
+    }
 }
 
-/// A request of a subsystem, on a connection whose user stands at this end if it has one.
-#[tactic(auto, unfolding(section_model::specs::Step::asks))]
+impl Side {
+    /// A request of a subsystem on this end, beside the other one.
+    fn ask(&mut self, alloc: Global, wanting: &Wanting<'_>, that: &Side) -> Result<Acted, Memory>
+        requires end { SoundSide self.old }
+        requires range { IsInRange wanting.now }
+        requires event { IsRequest wanting.now }
+        ensures asks { let w = wanting.now in IfOk result (λ acted. (now : ℕ) →
+            asks_beside w.ssn w.request.now (end_at now self.old) (end_at now that.now) ≡
+            (end_at now self.new, acted)) }
+        ensures sound { IfOk result (λ acted. SoundSide self.new × SoundActed acted) }
+    {
+        match self {
+            Side::User(user) => ask_user(alloc, wanting, user.get_mut(), that),
+            Side::Wire(_) => said_no(alloc, wanting.ssn, Reason::Owner),
+        }
+    }
+}
+
+/// A request of a subsystem, on a connection whose user stands at this end if it has one, behind these outputs.
 fn ask_this(
     alloc: Global,
     clock: &Clock,
     wanting: &Wanting<'_>,
-    pair: Pair,
-) -> Result<(Pair, Outs), Memory>
-    requires pair { SoundPair pair }
+    this: &mut Side,
+    that: &mut Side,
+    outs: &mut Outs,
+) -> Result<(), Memory>
+    requires sound { AreSound this.old that.old }
     requires range { IsInRange wanting.now }
     requires event { IsRequest wanting.now }
     ensures asks { let w = wanting.now in
-        let this = end_by clock.now pair.this in
-        let that = end_by clock.now pair.that in
-        IfOk result (IsStep clock.now (asks clock.now.ticks w.ssn w.request.now this that)) }
-    ensures sound { IfOk result (λ r. SoundPair r.0) }
+        let this_end = end_by clock.now this.old in
+        let that_end = end_by clock.now that.old in
+        let done = asks clock.now.ticks w.ssn w.request.now this_end that_end in
+        OnOk result (behind outs.old done ≡ standing clock.now this.new that.new outs.new) }
+    ensures sound { OnOk result (AreSound this.new that.new) }
 {
-    let ssn = wanting.ssn;
-    let Pair { this, that } = pair;
-    match this {
-        Side::User(user) => match that {
-            Side::Wire(wire) if user.get().side.ssn == ssn => {
-                let user = user.into_inner();
-                ask_owner(alloc, clock, wanting.request, wanting.event, user, wire)
-            }
-            that => not_owner(alloc, ssn, Side::User(user), that),
-        },
-        this => not_owner(alloc, ssn, this, that),
-    }
+    let acted = this.ask(alloc, wanting, that)?;
+    settle(alloc, clock, this, acted, that, outs)
 }
 
-/// A request of a subsystem.
+/// A request of a subsystem, behind these outputs.
+#[tactic(auto, using(crate::proofs::Alone::other_done))]
 pub fn ask(
     alloc: Global,
     clock: &Clock,
     wanting: &Wanting<'_>,
-    pair: Pair,
-) -> Result<(Pair, Outs), Memory>
-    requires pair { SoundPair pair }
+    pair: &mut Pair,
+    outs: &mut Outs,
+) -> Result<(), Memory>
+    requires pair { SoundPair pair.old }
     requires range { IsInRange wanting.now }
     requires event { IsRequest wanting.now }
-    ensures asks { let w = wanting.now in IfOk result (IsStep clock.now
-        (asked_by clock.now.ticks w.ssn w.request.now (connection_by clock.now pair))) }
-    ensures sound { IfOk result (λ r. SoundPair r.0) }
+    ensures asks { let w = wanting.now in
+        let before = connection_by clock.now pair.old in
+        let done = asked_by clock.now.ticks w.ssn w.request.now before in
+        OnOk result (behind outs.old done ≡ (connection_by clock.now pair.new, outs.new)) }
+    ensures sound { OnOk result (SoundPair pair.new) }
 {
-    if matches!(pair.this, Side::User(_)) {
-        return ask_this(alloc, clock, wanting, pair);
+    let Pair { this, that } = pair;
+    if matches!(this, Side::User(_)) {
+        ask_this(alloc, clock, wanting, this, that, outs)
+    } else {
+        ask_this(alloc, clock, wanting, that, this, outs)
     }
-    let (pair, outs) = ask_this(alloc, clock, wanting, pair.turned())?;
-    Ok((pair.turned(), outs))
 }

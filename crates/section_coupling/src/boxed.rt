@@ -1,6 +1,4 @@
 //! Values in memory of their own.
-ghost use Rattle.std.specs.Prelude.{◌≡◌, IfOk};
-
 use relay_base::Memory;
 use std::alloc::Global;
 use std::marker::Model;
@@ -18,6 +16,10 @@ impl<T: Drop> Model for Boxed<T> {
 }
 
 impl<T: Drop> Boxed<T> {
+    ghost use Rattle.std.specs.Prelude.{◌≡◌, IfOk};
+    ghost use Rattle.std.specs.Borrow.{Lends, sem};
+    ghost use Rattle.section_coupling.specs.contracts.boxed.Boxed.{the_row};
+
     pub fn new(alloc: Global, value: T) -> Result<Boxed<T>, Memory>
         ensures { IfOk result (λ b. b ≡ value) }
     {
@@ -31,10 +33,10 @@ impl<T: Drop> Boxed<T> {
         &self.value
     }
 
-    pub fn into_inner(self) -> T
-        ensures { result ≡ self }
+    pub fn get_mut(&mut self) -> &mut T
+        ensures* writes_back { sem 𝓛 (Lends (the_row T.row) T.row self.entry result (λ w. w)) }
+        ensures value { result.now ≡ self.old }
     {
-        let Boxed { value } = self;
-        Box::into_inner(value)
+        &mut self.value
     }
 }

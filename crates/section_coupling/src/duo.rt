@@ -1,13 +1,13 @@
 //! A connection: two coupled ends.
 ghost use Rattle.section_coupling.specs.declared.duo.TheConstants.{TIMERS};
-ghost use Rattle.std.specs.Prelude.{◌≡◌, ◌≤◌, ◌<◌, ◌+◌, ℕ, [], Some, IsTrue, IfOk, IfSome};
+ghost use Rattle.std.specs.Prelude.{◌≡◌, ◌≤◌, ◌<◌, ◌+◌, ℕ, [], Some, IsTrue, IfOk, OnOk, IfSome};
 ghost use Rattle.section_model.specs.Step.{connection_step, event_step, hears, is_over, end_is_gone, destination_of, names, named, is_in_range};
 ghost use Rattle.std.specs.Option.{option_map};
 ghost use Rattle.section_model.specs.Lane.{reference_of};
 ghost use Rattle.section_model.specs.Opening.{wish_of, slots_needed, opened};
 ghost use Rattle.section_coupling.specs.Openings.{IsAnswered};
 ghost use Rattle.section_model.specs.Parameters.{arrival_in};
-ghost use Rattle.section_coupling.specs.Views.{connection_at, left_at, IsStep};
+ghost use Rattle.section_coupling.specs.Views.{connection_at, connection_by, behind, left_at};
 ghost use Rattle.section_coupling.specs.Sound.{IsCredit, SoundPair};
 ghost use Rattle.connection_law.specs.InStep.{IsInStep};
 ghost use Rattle.connection_law.specs.FlowLaw.{FlowKept};
@@ -61,21 +61,22 @@ pub struct Heard {
     pub outs: Outs,
 }
 
-/// The connection after an event before which the lane took so many ticks, and its outputs, but for what follows each event in class 3.
-/// The clock has the event already.
+/// What an event does to a connection before which the lane took so many ticks, but for what follows each event in class 3. The clock
+/// has the event already. The outputs stand behind those that are there.
 fn take(
     alloc: Global,
     clock: &Clock,
     now: u32,
     event: &Event,
-    pair: Pair,
-) -> Result<(Pair, Outs), Memory>
+    pair: &mut Pair,
+    outs: &mut Outs,
+) -> Result<(), Memory>
     requires clock { clock.now.taken ≡ taken_after now event.now }
-    requires pair { SoundPair pair }
-    requires hears { IsTrue (hears (connection_at now pair) event.now) }
-    ensures step { IfOk result (IsStep clock.now
-        (event_step clock.now.ticks (connection_at now pair) event.now)) }
-    ensures sound { IfOk result (λ r. SoundPair r.0) }
+    requires pair { SoundPair pair.old }
+    requires hears { IsTrue (hears (connection_at now pair.old) event.now) }
+    ensures step { let done = event_step clock.now.ticks (connection_at now pair.old) event.now in
+        OnOk result (behind outs.old done ≡ (connection_by clock.now pair.new, outs.new)) }
+    ensures sound { OnOk result (SoundPair pair.new) }
 {
     match event {
         Event::Message { opc, bytes, .. } => match arrival_in(bytes.as_slice()) {
@@ -85,9 +86,9 @@ fn take(
                     point: *opc,
                     arrival,
                 };
-                hear_message(alloc, clock, &coming, pair)
+                hear_message(alloc, clock, &coming, pair, outs)
             }
-            None => Ok((pair, Outs::new(alloc))),
+            None => Ok(()),
         },
         Event::Asked { ssn, request } => {
             let wanting = Wanting {
@@ -95,9 +96,9 @@ fn take(
                 ssn: *ssn,
                 request,
             };
-            ask(alloc, clock, &wanting, pair)
+            ask(alloc, clock, &wanting, pair, outs)
         }
-        Event::Tick => tick(alloc, clock, now, pair),
+        Event::Tick => tick(alloc, clock, now, pair, outs),
     }
 }
 
@@ -179,7 +180,6 @@ impl Duo {
     /// 0 to 4,294,967,295. It works on a copy. The law of the windows holds of what it leaves, as of every connection: what was sent is the first
     /// of what came in at the other end, and no window is overrun. Of its outputs the DT2 are, octet for octet, the next units of either end,
     /// numbered on; of ED there is at most one on a section, and none while one is unanswered.
-    #[tactic(auto, unfolding(section_model::specs::Step::connection_step))]
     pub fn hear(&self, now: u64, event: &Event) -> Result<Heard, Memory>
         requires now { now ≤ 4_294_967_295 }
         requires hears { IsTrue (hears (duo_at now self.now) event.now) }
@@ -194,14 +194,19 @@ impl Duo {
         ensures expedited { IfOk result (λ heard.
             SendsExpedited self.now.ticks (duo_at now self.now) event.now heard.outs) }
     {
-        let Duo { alloc, ticks, pair } = self.copy()?;
+        let Duo {
+            alloc,
+            ticks,
+            mut pair,
+        } = self.copy()?;
         let before = now as u32;
         let clock = Clock {
             ticks,
             taken: taken_after(before, event),
         };
-        let (pair, outs) = take(alloc, &clock, before, event, pair)?;
-        let (pair, outs) = follow(alloc, &clock, pair, outs)?;
+        let mut outs = Outs::new(alloc);
+        take(alloc, &clock, before, event, &mut pair, &mut outs)?;
+        follow(alloc, &clock, &mut pair, &mut outs)?;
         let duo = Duo { alloc, ticks, pair };
         Ok(Heard { duo, outs })
     }

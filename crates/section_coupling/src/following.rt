@@ -1,23 +1,23 @@
 //! What follows each event in class 3 (Q.714, 3.5.2 and 3.6): what waits leaves, and what left is
 //! acknowledged.
-ghost use Rattle.std.specs.Prelude.{◌≡◌, ◌≤◌, ◌==◌, ◌&&◌, ℕ, IfOk};
+ghost use Rattle.std.specs.Prelude.{◌≡◌, ◌==◌, ◌&&◌, ℕ, IfOk, OnOk};
 ghost use Rattle.section_model.specs.Ends.{is_up, wire as end};
 ghost use Rattle.section_class3.specs.Windows.{windows_turn};
 ghost use Rattle.section_model.specs.Views.{section_of};
-ghost use Rattle.section_model.specs.Coupling.{and_then};
 ghost use Rattle.section_model.specs.Step.{on_windows, on_each, after_event};
 ghost use Rattle.connection_law.specs.InStep.{AreInStep, IsInStep};
-ghost use Rattle.section_coupling.specs.Views.{section_by, end_at, end_by, connection_by, IsStep};
+ghost use Rattle.section_coupling.specs.Views.{section_by, end_at, end_by, connection_by, standing, behind, IsAct, IsEndAct};
+ghost use Rattle.section_coupling.specs.Inner.Alone.{turns_alone};
 ghost use Rattle.section_coupling.specs.Inner.Idle.{is_in_class_3};
-ghost use Rattle.section_coupling.specs.Sound.{SoundWire, SoundSide, SoundPair};
+ghost use Rattle.section_coupling.specs.Sound.{AreSound, SoundActed, SoundWire, SoundSide, SoundPair};
 
 use crate::clock::Clock;
-use crate::coupling::settle_wire;
+use crate::coupling::settle;
 use crate::pair::Pair;
 use crate::side::Side;
 use crate::wire::Wire;
 use relay_base::{Memory, Outs};
-use section_grid::{Cell, SectionState, WireHead};
+use section_grid::{Acted, Cell, SectionState, WireHead};
 use std::alloc::Global;
 
 /// Whether a section is one of class 3 that is up.
@@ -28,86 +28,73 @@ fn has_windows(head: &WireHead) -> bool
 }
 
 /// A part of it on a section.
-fn on_section(
-    alloc: Global,
-    clock: &Clock,
-    cell: Cell,
-    wire: Wire,
-    that: Side,
-) -> Result<(Pair, Outs), Memory>
-    requires section { SoundWire wire }
-    requires that { SoundSide that }
-    requires steps { AreInStep (end (section_by clock.now wire)) (end_by clock.now that) }
-    ensures follows { let this = end (section_by clock.now wire) in
-        let part = on_windows clock.now.ticks (windows_turn cell) in
-        IfOk result (IsStep clock.now (part this (end_by clock.now that))) }
-    ensures sound { IfOk result (λ r. SoundPair r.0) }
+fn turn_section(alloc: Global, clock: &Clock, cell: Cell, wire: &mut Wire) -> Result<Acted, Memory>
+    requires { SoundWire wire.old }
+    ensures turns { let this = end (section_by clock.now wire.old) in
+        IfOk result (IsAct clock.now (turns_alone clock.now.ticks cell this) wire.new) }
+    ensures sound { IfOk result (λ acted. SoundWire wire.new × SoundActed acted) }
 {
     if !has_windows(&wire.head) {
-        let this = Side::of_wire(alloc, wire)?;
-        return Ok((Pair { this, that }, Outs::new(alloc)));
+        return Ok(Acted::nothing(alloc));
     }
-    let (wire, acted) = wire.take_turn(alloc, clock, cell)?;
-    settle_wire(alloc, clock, wire, acted, that)
+    wire.take_turn(alloc, clock, cell)
 }
 
-/// A part of it on this end.
-fn on_this(alloc: Global, clock: &Clock, cell: Cell, pair: Pair) -> Result<(Pair, Outs), Memory>
-    requires pair { SoundPair pair }
-    requires steps { IsInStep (connection_by clock.now pair) }
-    ensures follows { let part = on_windows clock.now.ticks (windows_turn cell) in
-        IfOk result (IsStep clock.now
-        (part (end_by clock.now pair.this) (end_by clock.now pair.that))) }
-    ensures sound { IfOk result (λ r. SoundPair r.0) }
-    ensures steps { IfOk result (λ r. IsInStep (connection_by clock.now r.0)) }
-{
-    let Pair { this, that } = pair;
-    match this {
-        Side::Wire(wire) => on_section(alloc, clock, cell, wire.into_inner(), that),
-        Side::User(_) => Ok((Pair { this, that }, Outs::new(alloc))),
+impl Side {
+    /// A part of it on this end alone.
+    fn turn(&mut self, alloc: Global, clock: &Clock, cell: Cell) -> Result<Acted, Memory>
+        requires { SoundSide self.old }
+        ensures turns { let this = end_by clock.now self.old in
+            IfOk result (IsEndAct clock.now (turns_alone clock.now.ticks cell this) self.new) }
+        ensures sound { IfOk result (λ acted. SoundSide self.new × SoundActed acted) }
+    {
+        match self {
+            Side::Wire(wire) => turn_section(alloc, clock, cell, wire.get_mut()),
+            Side::User(_) => Ok(Acted::nothing(alloc)),
+        }
     }
 }
 
 /// A part of it on this end, behind these outputs.
-fn then_on_this(
+fn on_this(
     alloc: Global,
     clock: &Clock,
     cell: Cell,
-    pair: Pair,
-    outs: Outs,
-) -> Result<(Pair, Outs), Memory>
-    requires pair { SoundPair pair }
-    requires steps { IsInStep (connection_by clock.now pair) }
+    this: &mut Side,
+    that: &mut Side,
+    outs: &mut Outs,
+) -> Result<(), Memory>
+    requires sound { AreSound this.old that.old }
+    requires steps { AreInStep (end_by clock.now this.old) (end_by clock.now that.old) }
     ensures follows { let part = on_windows clock.now.ticks (windows_turn cell) in
-        IfOk result (IsStep clock.now
-        (and_then (λ c. part c.this c.that) (connection_by clock.now pair, outs))) }
-    ensures sound { IfOk result (λ r. SoundPair r.0) }
-    ensures steps { IfOk result (λ r. IsInStep (connection_by clock.now r.0)) }
+        let done = part (end_by clock.now this.old) (end_by clock.now that.old) in
+        OnOk result (behind outs.old done ≡ standing clock.now this.new that.new outs.new) }
+    ensures sound { OnOk result (AreSound this.new that.new) }
+    ensures steps { OnOk result
+        (AreInStep (end_by clock.now this.new) (end_by clock.now that.new)) }
 {
-    let mut outs = outs;
-    let (pair, more) = on_this(alloc, clock, cell, pair)?;
-    outs.append(more)?;
-    Ok((pair, outs))
+    let acted = this.turn(alloc, clock, cell)?;
+    settle(alloc, clock, this, acted, that, outs)
 }
 
-/// A part of it on this end, and then on the other one.
+/// A part of it on this end, and then on the other one, behind these outputs.
 fn on_each(
     alloc: Global,
     clock: &Clock,
     cell: Cell,
-    pair: Pair,
-    outs: Outs,
-) -> Result<(Pair, Outs), Memory>
-    requires pair { SoundPair pair }
-    requires steps { IsInStep (connection_by clock.now pair) }
+    pair: &mut Pair,
+    outs: &mut Outs,
+) -> Result<(), Memory>
+    requires pair { SoundPair pair.old }
+    requires steps { IsInStep (connection_by clock.now pair.old) }
     ensures follows { let part = on_windows clock.now.ticks (windows_turn cell) in
-        IfOk result (IsStep clock.now (on_each part (connection_by clock.now pair, outs))) }
-    ensures sound { IfOk result (λ r. SoundPair r.0) }
-    ensures steps { IfOk result (λ r. IsInStep (connection_by clock.now r.0)) }
+        let done = on_each part (connection_by clock.now pair.old, outs.old) in
+        OnOk result (done ≡ (connection_by clock.now pair.new, outs.new)) }
+    ensures sound { OnOk result (SoundPair pair.new) }
+    ensures steps { OnOk result (IsInStep (connection_by clock.now pair.new)) }
 {
-    let (pair, outs) = then_on_this(alloc, clock, cell, pair, outs)?;
-    let (pair, outs) = then_on_this(alloc, clock, cell, pair.turned(), outs)?;
-    Ok((pair.turned(), outs))
+    on_this(alloc, clock, cell, &mut pair.this, &mut pair.that, outs)?;
+    on_this(alloc, clock, cell, &mut pair.that, &mut pair.this, outs)
 }
 
 /// Whether this end is a section of class 3 that is up.
@@ -122,16 +109,17 @@ fn is_in_class_3(side: &Side) -> bool
 
 /// What follows an event that gave these outputs: on each end what waits leaves, and then on each what left is acknowledged.
 #[tactic(auto, unfolding(section_model::specs::Step::after_event), using(crate::proofs::Idle::none_follows))]
-pub fn follow(alloc: Global, clock: &Clock, pair: Pair, outs: Outs) -> Result<(Pair, Outs), Memory>
-    requires pair { SoundPair pair }
-    requires steps { IsInStep (connection_by clock.now pair) }
-    ensures follows { IfOk result (IsStep clock.now
-        (after_event clock.now.ticks (connection_by clock.now pair, outs))) }
-    ensures sound { IfOk result (λ r. SoundPair r.0) }
+pub fn follow(alloc: Global, clock: &Clock, pair: &mut Pair, outs: &mut Outs) -> Result<(), Memory>
+    requires pair { SoundPair pair.old }
+    requires steps { IsInStep (connection_by clock.now pair.old) }
+    ensures follows { OnOk result
+        (after_event clock.now.ticks (connection_by clock.now pair.old, outs.old) ≡
+        (connection_by clock.now pair.new, outs.new)) }
+    ensures sound { OnOk result (SoundPair pair.new) }
 {
     if !is_in_class_3(&pair.this) && !is_in_class_3(&pair.that) {
-        return Ok((pair, outs));
+        return Ok(());
     }
-    let (pair, outs) = on_each(alloc, clock, Cell::Leave, pair, outs)?;
+    on_each(alloc, clock, Cell::Leave, pair, outs)?;
     on_each(alloc, clock, Cell::Acknowledge, pair, outs)
 }

@@ -1,20 +1,20 @@
 //! A message on a connection section (Q.714): the checks before the table's cell, and the cell.
-ghost use Rattle.std.specs.Prelude.{◌≡◌, ◌∷◌, [], Some, IfOk};
-ghost use Rattle.std.specs.Option.{option_map};
-ghost use Rattle.relay_base.specs.declared.words.Output.TheVariants.{Sent, Lost as Dropped};
-ghost use Rattle.relay_base.specs.declared.words.Lost.TheVariants as lost;
+ghost use Rattle.std.specs.Prelude.{◌≡◌, Some, IfOk, OnOk};
+ghost use Rattle.relay_base.specs.declared.words.Output.TheVariants.{Sent};
 ghost use Rattle.q713_codec.specs.declared.message.Message.TheVariants.{Err as Error};
 ghost use Rattle.q713_codec.specs.Writing.{spelling_of};
-ghost use Rattle.section_model.specs.Ends.{wire};
+ghost use Rattle.section_model.specs.Ends.{End, wire};
+ghost use Rattle.section_model.specs.Laws.{hands_of};
 ghost use Rattle.section_model.specs.Views.{seen_arrival, seen_parameters, section_of};
 ghost use Rattle.section_model.specs.Step.{names_both, ends_both, names_another, is_of_class_2, is_of_class_3, is_of_other_class, checked, is_from_elsewhere, in_touch, keeps, at_this, heard_by};
+ghost use Rattle.section_coupling.specs.Inner.Alone.{hears_alone};
 ghost use Rattle.section_coupling.specs.Inner.Comings.{IsArrival, hears_coming, hears_on};
-ghost use Rattle.section_coupling.specs.Views.{section_by, end_by, connection_by, IsStep, IsAct};
-ghost use Rattle.section_coupling.specs.Sound.{SoundWire, SoundSide, SoundPair, SoundActed};
+ghost use Rattle.section_coupling.specs.Views.{section_by, end_by, ends_by, connection_by, standing, behind, IsAct, IsEndAct};
+ghost use Rattle.section_coupling.specs.Sound.{AreSound, AreOfWhatCame, SoundWire, SoundSide, SoundPair, SoundActed};
 
 use crate::clock::Clock;
 use crate::coming::Coming;
-use crate::coupling::settle_wire;
+use crate::coupling::settle;
 use crate::pair::Pair;
 use crate::side::Side;
 use crate::wire::{Wire, is_sent};
@@ -122,46 +122,34 @@ fn checked(
 
 impl Wire {
     /// A message from the section's point starts its receive inactivity timer again.
-    fn in_touch(self, clock: &Clock) -> Wire
-        ensures value { section_by clock.now result ≡
-            in_touch clock.now.ticks (section_by clock.now self) }
-        ensures sound { SoundWire self → SoundWire result }
+    fn keep_in_touch(&mut self, clock: &Clock)
+        ensures value { section_by clock.now self.new ≡
+            in_touch clock.now.ticks (section_by clock.now self.old) }
+        ensures sound { SoundWire self.old → SoundWire self.new }
     {
-        Wire {
-            timers: self.timers.heard_again(clock),
-            ..self
-        }
+        self.timers = self.timers.heard_again(clock);
     }
 
     /// Gives an output, and keeps its state.
-    fn keep(self, alloc: Global, clock: &Clock, output: Output) -> Result<(Wire, Acted), Memory>
-        ensures sound { SoundWire self → IfOk result (λ r. SoundWire r.0 × SoundActed r.1) }
-        ensures keeps { IfOk result (IsAct clock.now
-            (keeps clock.now.ticks output (section_by clock.now self))) }
+    fn keep(&mut self, alloc: Global, clock: &Clock, output: Output) -> Result<Acted, Memory>
+        ensures sound { SoundWire self.old →
+            IfOk result (λ acted. SoundWire self.new × SoundActed acted) }
+        ensures keeps { let x = section_by clock.now self.old in
+            IfOk result (IsAct clock.now (keeps clock.now.ticks output x) self.new) }
     {
         let state = self.head.state();
-        let is_sent = is_sent(&output);
-        let acted = Acted::giving(alloc, output)?;
-        let wire = Wire {
-            timers: self.timers.after(clock, state, state, is_sent),
-            ..self
-        };
-        Ok((wire, acted))
+        self.timers = self.timers.after(clock, state, state, is_sent(&output));
+        Acted::giving(alloc, output)
     }
 
-    /// Hears a message, by a check or by the cell.
-    #[tactic(auto, unfolding(section_model::specs::Acting::section_hears), using(crate::proofs::ByTable::sets_up_once, crate::proofs::Arriving::acts_heard))]
-    fn hear(
-        self,
-        alloc: Global,
-        clock: &Clock,
-        coming: &Coming<'_>,
-    ) -> Result<(Wire, Acted), Memory>
-        requires section { SoundWire self }
+    /// Hears a message from its point, by a check or by the cell.
+    #[tactic(auto, using(crate::proofs::ByTable::sets_up_once))]
+    fn hear(&mut self, alloc: Global, clock: &Clock, coming: &Coming<'_>) -> Result<Acted, Memory>
+        requires section { SoundWire self.old }
         requires arrives { IsArrival coming.now }
-        ensures hears { IfOk result (IsAct clock.now
-            (hears_coming clock.now coming.now (section_by clock.now self))) }
-        ensures sound { IfOk result (λ r. SoundWire r.0 × SoundActed r.1) }
+        ensures hears { let x = section_by clock.now self.old in
+            IfOk result (IsAct clock.now (hears_coming clock.now coming.now x) self.new) }
+        ensures sound { IfOk result (λ acted. SoundWire self.new × SoundActed acted) }
     {
         match checked(alloc, &coming.arrival, &self.head)? {
             Some(output) => self.keep(alloc, clock, output),
@@ -171,79 +159,90 @@ impl Wire {
             }
         }
     }
-}
 
-/// A message that comes from another point than the section's is lost.
-fn lost_from_elsewhere(alloc: Global, this: Side, that: Side) -> Result<(Pair, Outs), Memory>
-    ensures { IfOk result (λ r.
-        (r.0 ≡ record { this = this; that = that }) × (r.1 ≡ Dropped lost.Point ∷ [])) }
-{
-    let mut outs = Outs::new(alloc);
-    outs.push(Output::Lost(Lost::Point))?;
-    Ok((Pair { this, that }, outs))
-}
-
-/// A message on a section.
-#[tactic(auto, unfolding(section_model::specs::Step::hears_message))]
-fn hear_on(
-    alloc: Global,
-    clock: &Clock,
-    coming: &Coming<'_>,
-    wire: Wire,
-    that: Side,
-) -> Result<(Pair, Outs), Memory>
-    requires section { SoundWire wire }
-    requires that { SoundSide that }
-    requires arrives { IsArrival coming.now }
-    ensures hears { IfOk result (IsStep clock.now
-        (hears_on clock.now coming.now (section_by clock.now wire) (end_by clock.now that))) }
-    ensures sound { IfOk result (λ r. SoundPair r.0) }
-{
-    if is_from_elsewhere(coming.point, &wire.head) {
-        return lost_from_elsewhere(alloc, Side::of_wire(alloc, wire)?, that);
+    /// Hears a message; one that comes from another point than the section's is lost.
+    fn hear_from(
+        &mut self,
+        alloc: Global,
+        clock: &Clock,
+        coming: &Coming<'_>,
+    ) -> Result<Acted, Memory>
+        requires section { SoundWire self.old }
+        requires arrives { IsArrival coming.now }
+        ensures hears { let this = wire (section_by clock.now self.old) in
+            IfOk result (IsAct clock.now (hears_alone clock.now coming.now this) self.new) }
+        ensures sound { IfOk result (λ acted. SoundWire self.new × SoundActed acted) }
+        ensures left { let this = wire (section_by clock.now self.new) in
+            IfOk result (λ acted. (that : End) → AreOfWhatCame this (hands_of acted) that) }
+    {
+        if is_from_elsewhere(coming.point, &self.head) {
+            return Acted::giving(alloc, Output::Lost(Lost::Point));
+        }
+        self.windows.keeps_windows();
+        self.keep_in_touch(clock);
+        self.hear(alloc, clock, coming)
     }
-    wire.windows.keeps_windows();
-    let (wire, acted) = wire.in_touch(clock).hear(alloc, clock, coming)?;
-    settle_wire(alloc, clock, wire, acted, that)
 }
 
-/// A message on this end; one for a user's end has no effect.
+impl Side {
+    /// A message on this end alone; one for a user's end has no effect.
+    fn hear(&mut self, alloc: Global, clock: &Clock, coming: &Coming<'_>) -> Result<Acted, Memory>
+        requires end { SoundSide self.old }
+        requires arrives { IsArrival coming.now }
+        ensures hears { let this = end_by clock.now self.old in
+            IfOk result (IsEndAct clock.now (hears_alone clock.now coming.now this) self.new) }
+        ensures sound { IfOk result (λ acted. SoundSide self.new × SoundActed acted) }
+        ensures left { let this = end_by clock.now self.new in
+            IfOk result (λ acted. (that : End) → AreOfWhatCame this (hands_of acted) that) }
+    {
+        match self {
+            Side::Wire(wire) => wire.get_mut().hear_from(alloc, clock, coming),
+            Side::User(_) => Ok(Acted::nothing(alloc)),
+        }
+    }
+}
+
+/// A message on this end, behind these outputs.
 fn hear_at_this(
     alloc: Global,
     clock: &Clock,
     coming: &Coming<'_>,
-    pair: Pair,
-) -> Result<(Pair, Outs), Memory>
-    requires pair { SoundPair pair }
+    this: &mut Side,
+    that: &mut Side,
+    outs: &mut Outs,
+) -> Result<(), Memory>
+    requires sound { AreSound this.old that.old }
     requires arrives { IsArrival coming.now }
-    ensures hears { IfOk result (IsStep clock.now
-        (at_this (hears_on clock.now coming.now) (connection_by clock.now pair))) }
-    ensures sound { IfOk result (λ r. SoundPair r.0) }
+    ensures hears { let before = ends_by clock.now this.old that.old in
+        let done = at_this (hears_on clock.now coming.now) before in
+        OnOk result (behind outs.old done ≡ standing clock.now this.new that.new outs.new) }
+    ensures sound { OnOk result (AreSound this.new that.new) }
 {
-    let Pair { this, that } = pair;
-    match this {
-        Side::Wire(wire) => hear_on(alloc, clock, coming, wire.into_inner(), that),
-        Side::User(_) => Ok((Pair { this, that }, Outs::new(alloc))),
-    }
+    let acted = this.hear(alloc, clock, coming)?;
+    settle(alloc, clock, this, acted, that, outs)
 }
 
-/// A message on the end that its destination local reference names.
+/// A message on the end that its destination local reference names, behind these outputs.
+#[tactic(auto, using(crate::proofs::Alone::other_done))]
 pub fn hear_message(
     alloc: Global,
     clock: &Clock,
     coming: &Coming<'_>,
-    pair: Pair,
-) -> Result<(Pair, Outs), Memory>
-    requires pair { SoundPair pair }
+    pair: &mut Pair,
+    outs: &mut Outs,
+) -> Result<(), Memory>
+    requires pair { SoundPair pair.old }
     requires arrives { IsArrival coming.now }
     ensures hears { let arrival = Some (seen_arrival coming.now.arrival) in
-        IfOk result (IsStep clock.now
-        (heard_by clock.now.ticks coming.now.point arrival (connection_by clock.now pair))) }
-    ensures sound { IfOk result (λ r. SoundPair r.0) }
+        let before = connection_by clock.now pair.old in
+        let done = heard_by clock.now.ticks coming.now.point arrival before in
+        OnOk result (behind outs.old done ≡ (connection_by clock.now pair.new, outs.new)) }
+    ensures sound { OnOk result (SoundPair pair.new) }
 {
-    if pair.this.is_named(coming.arrival.parameters.dlr) {
-        return hear_at_this(alloc, clock, coming, pair);
+    let Pair { this, that } = pair;
+    if this.is_named(coming.arrival.parameters.dlr) {
+        hear_at_this(alloc, clock, coming, this, that, outs)
+    } else {
+        hear_at_this(alloc, clock, coming, that, this, outs)
     }
-    let (pair, outs) = hear_at_this(alloc, clock, coming, pair.turned())?;
-    Ok((pair.turned(), outs))
 }

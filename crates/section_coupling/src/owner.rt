@@ -52,39 +52,39 @@ impl Owner {
     }
 
     /// What the end does upon a request, by the cell of the table.
-    pub fn ask(self, alloc: Global, cell: Cell, event: &Event) -> Result<(Owner, Acted), Memory>
-        requires sound { SoundOwner self }
+    pub fn ask(&mut self, alloc: Global, cell: Cell, event: &Event) -> Result<Acted, Memory>
+        requires sound { SoundOwner self.old }
         requires range { IsRequestInRange event.now }
-        ensures asks { IfOk result (λ r.
-            user_hears_event cell event.now (user_at self) ≡ (user_at r.0, r.1)) }
-        ensures sound { IfOk result (λ r. SoundOwner r.0 × SoundActed r.1) }
+        ensures asks { IfOk result (λ acted.
+            user_hears_event cell event.now (user_at self.old) ≡ (user_at self.new, acted)) }
+        ensures sound { IfOk result (λ acted. SoundOwner self.new × SoundActed acted) }
     {
         let given = Mark::after(&Asking {
-            owner: &self,
+            owner: &*self,
             cell,
             event,
         });
-        let mut side = self.side;
-        let acted = side.act(alloc, cell, &Input::Event(event))?;
-        Ok((Owner { side, given }, acted))
+        let acted = self.side.act(alloc, cell, &Input::Event(event))?;
+        self.given = given;
+        Ok(acted)
     }
 
     /// What the end does upon an effect of the section, by the cell of the table.
-    pub fn take(self, alloc: Global, cell: Cell, hand: &Hand) -> Result<(Owner, Acted), Memory>
-        requires sound { SoundOwner self }
+    pub fn take(&mut self, alloc: Global, cell: Cell, hand: &Hand) -> Result<Acted, Memory>
+        requires sound { SoundOwner self.old }
         requires granted { IsGranted hand.now }
-        ensures takes { IfOk result (λ r.
-            user_takes cell hand.now (user_at self) ≡ (user_at r.0, r.1)) }
-        ensures sound { IfOk result (λ r. SoundOwner r.0 × SoundActed r.1) }
+        ensures takes { IfOk result (λ acted.
+            user_takes cell hand.now (user_at self.old) ≡ (user_at self.new, acted)) }
+        ensures sound { IfOk result (λ acted. SoundOwner self.new × SoundActed acted) }
     {
         let given = Mark::after(&Taking {
-            owner: &self,
+            owner: &*self,
             cell,
             hand,
         });
-        let mut side = self.side;
-        let acted = side.act(alloc, cell, &Input::Hand(hand))?;
-        Ok((Owner { side, given }, acted))
+        let acted = self.side.act(alloc, cell, &Input::Hand(hand))?;
+        self.given = given;
+        Ok(acted)
     }
 
     /// An equal end.

@@ -1,11 +1,9 @@
 //! The two ends of a connection.
 ghost use Rattle.std.specs.Prelude.{◌≡◌, ◌<◌, ℕ, Some, IfOk};
-ghost use Rattle.section_model.specs.Ends.{Connection, turned};
+ghost use Rattle.section_model.specs.Ends.{Connection};
 ghost use Rattle.section_model.specs.Step.{names};
 ghost use Rattle.section_coupling.specs.Duos.{end_named, end_numbered};
-ghost use Rattle.connection_law.specs.InStep.{IsInStep};
 ghost use Rattle.section_coupling.specs.Views.{connection_at};
-ghost use Rattle.section_coupling.specs.Sound.{SoundPair};
 
 use crate::side::Side;
 use relay_base::{Memory, Ref24};
@@ -32,7 +30,7 @@ impl EndName {
     }
 }
 
-/// A connection, seen from one of its ends.
+/// A connection.
 #[derive(Drop)]
 pub struct Pair {
     pub this: Side,
@@ -40,19 +38,6 @@ pub struct Pair {
 }
 
 impl Pair {
-    /// The connection seen from its other end.
-    pub fn turned(self) -> Pair
-        ensures value { (now : ℕ) → connection_at now result ≡ turned (connection_at now self) }
-        ensures sound { SoundPair self → SoundPair result }
-        ensures steps { (now : ℕ) → IsInStep (connection_at now self) →
-            IsInStep (connection_at now result) }
-    {
-        Pair {
-            this: self.that,
-            that: self.this,
-        }
-    }
-
     /// An equal connection.
     pub fn copy(&self, alloc: Global) -> Result<Pair, Memory>
         ensures { IfOk result (λ copy. copy ≡ self.now) }

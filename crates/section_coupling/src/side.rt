@@ -6,7 +6,7 @@ ghost use Rattle.section_model.specs.Ends.{wire as section, owner};
 ghost use Rattle.section_model.specs.UserEnd.{user_takes};
 ghost use Rattle.section_model.specs.Lane.{reference_of};
 ghost use Rattle.section_model.specs.Step.{end_is_gone, is_named};
-ghost use Rattle.section_coupling.specs.Views.{end_at, end_by, section_by, user_at, IsEndAct};
+ghost use Rattle.section_coupling.specs.Views.{end_at, end_by, section_by, user_at, IsAct, IsEndAct};
 ghost use Rattle.section_coupling.specs.Sound.{SoundSide, SoundWire, SoundOwner, IsGranted, SoundActed, HasComeAt};
 ghost use Rattle.section_model.specs.Lengths.{HandWithin};
 ghost use Rattle.section_coupling.specs.declared.side.Side.TheVariants as side;
@@ -63,40 +63,31 @@ fn user_takes_by(state: UserState, hand: &Hand) -> Cell
 
 /// A section takes an effect of the other end.
 #[tactic(auto, unfolding(section_model::specs::Acting::section_takes), using(crate::proofs::ByTable::takes_sets_up_once))]
-fn wire_takes(
-    alloc: Global,
-    clock: &Clock,
-    wire: Wire,
-    hand: &Hand,
-) -> Result<(Side, Acted), Memory>
-    requires section { SoundWire wire }
+fn wire_takes(alloc: Global, clock: &Clock, wire: &mut Wire, hand: &Hand) -> Result<Acted, Memory>
+    requires section { SoundWire wire.old }
     requires granted { IsGranted hand.now }
     requires within { HandWithin hand.now }
-    requires left { HasComeAt hand.now (section (section_by clock.now wire)) }
-    ensures takes { let cell = section_takes_by (section_of wire.head).state hand.now in
-        IfOk result (IsEndAct clock.now
-        (section_takes clock.now.ticks cell hand.now (section_by clock.now wire))) }
-    ensures sound { IfOk result (λ r. SoundSide r.0 × SoundActed r.1) }
+    requires left { HasComeAt hand.now (section (section_by clock.now wire.old)) }
+    ensures takes { let cell = section_takes_by (section_of wire.old.head).state hand.now in
+        let x = section_by clock.now wire.old in
+        IfOk result (IsAct clock.now (section_takes clock.now.ticks cell hand.now x) wire.new) }
+    ensures sound { IfOk result (λ acted. SoundWire wire.new × SoundActed acted) }
 {
     let cell = section_takes_by(wire.head.state(), hand);
-    let (wire, acted) = wire.act(alloc, clock, cell, &Input::Hand(hand))?;
-    Ok((Side::of_wire(alloc, wire)?, acted))
+    wire.act(alloc, clock, cell, &Input::Hand(hand))
 }
 
 /// A user's end takes an effect of the section.
-fn user_takes(alloc: Global, user: Owner, hand: &Hand) -> Result<(Side, Acted), Memory>
-    requires user { SoundOwner user }
+fn user_takes(alloc: Global, user: &mut Owner, hand: &Hand) -> Result<Acted, Memory>
+    requires user { SoundOwner user.old }
     requires granted { IsGranted hand.now }
-    ensures takes { let cell = user_takes_by user.side.state hand.now in
-        let done = user_takes cell hand.now (user_at user) in
-        IfOk result (λ r. (now : ℕ) → owner done.0 ≡ end_at now r.0) }
-    ensures does { let cell = user_takes_by user.side.state hand.now in
-        let done = user_takes cell hand.now (user_at user) in IfOk result (λ r. done.1 ≡ r.1) }
-    ensures sound { IfOk result (λ r. SoundSide r.0 × SoundActed r.1) }
+    ensures takes { let cell = user_takes_by user.old.side.state hand.now in
+        IfOk result (λ acted.
+        user_takes cell hand.now (user_at user.old) ≡ (user_at user.new, acted)) }
+    ensures sound { IfOk result (λ acted. SoundOwner user.new × SoundActed acted) }
 {
     let cell = user_takes_by(user.side.state, hand);
-    let (user, acted) = user.take(alloc, cell, hand)?;
-    Ok((Side::of_user(alloc, user)?, acted))
+    user.take(alloc, cell, hand)
 }
 
 impl Side {
@@ -115,18 +106,18 @@ impl Side {
     }
 
     /// Takes an effect of the other end.
-    pub fn take(self, alloc: Global, clock: &Clock, hand: &Hand) -> Result<(Side, Acted), Memory>
-        requires end { SoundSide self }
+    pub fn take(&mut self, alloc: Global, clock: &Clock, hand: &Hand) -> Result<Acted, Memory>
+        requires end { SoundSide self.old }
         requires granted { IsGranted hand.now }
         requires within { HandWithin hand.now }
-        requires left { HasComeAt hand.now (end_by clock.now self) }
-        ensures takes { IfOk result (IsEndAct clock.now
-            (end_takes clock.now.ticks hand.now (end_by clock.now self))) }
-        ensures sound { IfOk result (λ r. SoundSide r.0 × SoundActed r.1) }
+        requires left { HasComeAt hand.now (end_by clock.now self.old) }
+        ensures takes { let e = end_by clock.now self.old in
+            IfOk result (IsEndAct clock.now (end_takes clock.now.ticks hand.now e) self.new) }
+        ensures sound { IfOk result (λ acted. SoundSide self.new × SoundActed acted) }
     {
         match self {
-            Side::Wire(wire) => wire_takes(alloc, clock, wire.into_inner(), hand),
-            Side::User(user) => user_takes(alloc, user.into_inner(), hand),
+            Side::Wire(wire) => wire_takes(alloc, clock, wire.get_mut(), hand),
+            Side::User(user) => user_takes(alloc, user.get_mut(), hand),
         }
     }
 

@@ -1,17 +1,17 @@
 //! A tick on a connection (Q.714, timers).
-ghost use Rattle.std.specs.Prelude.{◌≡◌, ◌≤◌, ◌+◌, ℕ, [], fold, IfOk};
+ghost use Rattle.std.specs.Prelude.{◌≡◌, ◌+◌, ℕ, fold, IfOk, OnOk};
 ghost use Rattle.section_model.specs.Timing.{firing, rearmed};
-ghost use Rattle.section_model.specs.Ends.{wire};
 ghost use Rattle.section_model.specs.Acting.{section_fires};
-ghost use Rattle.section_model.specs.Step.{is_due_at, fires, fires_next, fires_due, ticks_by};
-ghost use Rattle.section_coupling.specs.Views.{section_by, end_at, end_by, connection_at, connection_by, left_at, IsStep, IsAct};
+ghost use Rattle.section_model.specs.Step.{is_due_at, fires_next, fires_due, ticks_by};
+ghost use Rattle.section_coupling.specs.Views.{section_by, end_at, end_by, ends_by, connection_at, connection_by, standing, behind, left_at, IsAct, IsEndAct};
+ghost use Rattle.section_coupling.specs.Inner.Alone.{fires_alone};
 ghost use Rattle.section_coupling.specs.Duos.{timer_placed, left_of_timer};
-ghost use Rattle.section_coupling.specs.Sound.{SoundWire, SoundSide, SoundPair, SoundActed};
+ghost use Rattle.section_coupling.specs.Sound.{AreSound, SoundWire, SoundSide, SoundPair, SoundActed};
 ghost use Rattle.section_model.specs.Table.{section_cell};
 ghost use Rattle.section_coupling.specs.Inner.Idle.{has_due};
 
 use crate::clock::Clock;
-use crate::coupling::settle_wire;
+use crate::coupling::settle;
 use crate::pair::Pair;
 use crate::side::Side;
 use crate::taken::Taken;
@@ -64,19 +64,16 @@ fn firing(timer: Timer) -> Occasion
 impl Wire {
     /// A timer fires.
     #[tactic(auto, unfolding(section_model::specs::Acting::section_fires), using(crate::proofs::ByTable::sets_up_once))]
-    fn fire(self, alloc: Global, clock: &Clock, timer: Timer) -> Result<(Wire, Acted), Memory>
-        requires section { SoundWire self }
-        ensures fires { let x = section_by clock.now self in IfOk result (IsAct clock.now
+    fn fire(&mut self, alloc: Global, clock: &Clock, timer: Timer) -> Result<Acted, Memory>
+        requires section { SoundWire self.old }
+        ensures fires { let x = section_by clock.now self.old in IfOk result (IsAct clock.now
             (section_fires clock.now.ticks (section_cell x.head.state (firing timer))
-            (record x { timers = rearmed clock.now.ticks timer x.timers }))) }
-        ensures sound { IfOk result (λ r. SoundWire r.0 × SoundActed r.1) }
+            (record x { timers = rearmed clock.now.ticks timer x.timers })) self.new) }
+        ensures sound { IfOk result (λ acted. SoundWire self.new × SoundActed acted) }
     {
         let cell = section_cell(self.head.state(), firing(timer));
-        let wire = Wire {
-            timers: self.timers.rearmed(clock, timer),
-            ..self
-        };
-        wire.act(alloc, clock, cell, &Input::Timer(timer as u8))
+        self.timers = self.timers.rearmed(clock, timer);
+        self.act(alloc, clock, cell, &Input::Timer(timer as u8))
     }
 }
 
@@ -107,81 +104,100 @@ impl Side {
             Side::User(_) => false,
         }
     }
+
+    /// A timer of this end fires; a user's end has none.
+    fn fire(&mut self, alloc: Global, clock: &Clock, timer: Timer) -> Result<Acted, Memory>
+        requires end { SoundSide self.old }
+        ensures fires { let this = end_by clock.now self.old in
+            IfOk result (IsEndAct clock.now (fires_alone clock.now.ticks timer this) self.new) }
+        ensures sound { IfOk result (λ acted. SoundSide self.new × SoundActed acted) }
+    {
+        match self {
+            Side::Wire(wire) => wire.get_mut().fire(alloc, clock, timer),
+            Side::User(_) => Ok(Acted::nothing(alloc)),
+        }
+    }
 }
 
-/// A timer of this end fires if it is due.
+/// A timer of this end fires if it is due, behind these outputs.
+#[tactic(auto, using(crate::proofs::Idle::not_due))]
 fn fire_if_due(
     alloc: Global,
     clock: &Clock,
     timer: Timer,
-    pair: Pair,
-) -> Result<(Pair, Outs), Memory>
-    requires pair { SoundPair pair }
-    ensures fires { IfOk result (IsStep clock.now
-        (fires clock.now.ticks timer (end_by clock.now pair.this) (end_by clock.now pair.that))) }
-    ensures sound { IfOk result (λ r. SoundPair r.0) }
+    this: &mut Side,
+    that: &mut Side,
+    outs: &mut Outs,
+) -> Result<(), Memory>
+    requires sound { AreSound this.old that.old }
+    ensures fires { let before = standing clock.now this.old that.old outs.old in OnOk result
+        (fires_next clock.now.ticks before timer ≡
+        standing clock.now this.new that.new outs.new) }
+    ensures sound { OnOk result (AreSound this.new that.new) }
 {
-    if !pair.this.is_due(clock.taken, timer) {
-        return Ok((pair, Outs::new(alloc)));
+    if !this.is_due(clock.taken, timer) {
+        return Ok(());
     }
-    let Pair { this, that } = pair;
-    match this {
-        Side::Wire(wire) => {
-            let (wire, acted) = wire.into_inner().fire(alloc, clock, timer)?;
-            settle_wire(alloc, clock, wire, acted, that)
-        }
-        Side::User(_) => Ok((Pair { this, that }, Outs::new(alloc))),
-    }
+    let acted = this.fire(alloc, clock, timer)?;
+    settle(alloc, clock, this, acted, that, outs)
 }
 
-/// Of these timers of this end those that are due fire, one after another.
+/// Of these timers of this end those that are due fire, one after another, behind these outputs.
 #[tactic(auto, using(crate::proofs::Idle::none_fires))]
 fn fire_each(
     alloc: Global,
     clock: &Clock,
     timers: &[Timer],
-    pair: Pair,
-) -> Result<(Pair, Outs), Memory>
-    requires pair { SoundPair pair }
-    ensures fires { IfOk result (IsStep clock.now
-        (fold (fires_next clock.now.ticks) (connection_by clock.now pair, []) timers.now)) }
-    ensures sound { IfOk result (λ r. SoundPair r.0) }
+    this: &mut Side,
+    that: &mut Side,
+    outs: &mut Outs,
+) -> Result<(), Memory>
+    requires sound { AreSound this.old that.old }
+    ensures fires { let before = standing clock.now this.old that.old outs.old in OnOk result
+        (fold (fires_next clock.now.ticks) before timers.now ≡
+        standing clock.now this.new that.new outs.new) }
+    ensures sound { OnOk result (AreSound this.new that.new) }
 {
-    let mut outs = Outs::new(alloc);
-    if !pair.this.has_due(clock.taken, timers) {
-        return Ok((pair, outs));
+    if !this.has_due(clock.taken, timers) {
+        return Ok(());
     }
-    let mut pair = pair;
     for timer in timers {
-        let (next, more) = fire_if_due(alloc, clock, *timer, pair)?;
-        outs.append(more)?;
-        pair = next;
+        fire_if_due(alloc, clock, *timer, this, that, outs)?;
     }
-    Ok((pair, outs))
+    Ok(())
 }
 
-/// The timers of this end that are due fire in their order.
-#[tactic(auto, unfolding(section_model::specs::Step::fires_due))]
-fn fire_due(alloc: Global, clock: &Clock, pair: Pair) -> Result<(Pair, Outs), Memory>
-    requires pair { SoundPair pair }
-    ensures fires { IfOk result (IsStep clock.now
-        (fires_due clock.now.ticks (connection_by clock.now pair))) }
-    ensures sound { IfOk result (λ r. SoundPair r.0) }
+/// The timers of this end that are due fire in their order, behind these outputs.
+fn fire_due(
+    alloc: Global,
+    clock: &Clock,
+    this: &mut Side,
+    that: &mut Side,
+    outs: &mut Outs,
+) -> Result<(), Memory>
+    requires sound { AreSound this.old that.old }
+    ensures fires { let done = fires_due clock.now.ticks (ends_by clock.now this.old that.old) in
+        OnOk result (behind outs.old done ≡ standing clock.now this.new that.new outs.new) }
+    ensures sound { OnOk result (AreSound this.new that.new) }
 {
-    fire_each(alloc, clock, &FIRING_ORDER, pair)
+    fire_each(alloc, clock, &FIRING_ORDER, this, that, outs)
 }
 
-/// A tick: first the timers of this end, then those of the other one. The clock has the tick already.
-#[tactic(auto, using(crate::proofs::LaterTimers::ticked_pair))]
-pub fn tick(alloc: Global, clock: &Clock, before: u32, pair: Pair) -> Result<(Pair, Outs), Memory>
+/// A tick: first the timers of this end, then those of the other one. The clock has the tick already. The outputs stand behind those
+/// that are there.
+pub fn tick(
+    alloc: Global,
+    clock: &Clock,
+    before: u32,
+    pair: &mut Pair,
+    outs: &mut Outs,
+) -> Result<(), Memory>
     requires before { before + 1 ≡ clock.now.taken }
-    requires pair { SoundPair pair }
-    ensures ticks { IfOk result (IsStep clock.now
-        (ticks_by clock.now.ticks (connection_at before pair))) }
-    ensures sound { IfOk result (λ r. SoundPair r.0) }
+    requires pair { SoundPair pair.old }
+    ensures ticks { let done = ticks_by clock.now.ticks (connection_at before pair.old) in
+        OnOk result (behind outs.old done ≡ (connection_by clock.now pair.new, outs.new)) }
+    ensures sound { OnOk result (SoundPair pair.new) }
 {
-    let (pair, mut outs) = fire_due(alloc, clock, pair)?;
-    let (pair, more) = fire_due(alloc, clock, pair.turned())?;
-    outs.append(more)?;
-    Ok((pair.turned(), outs))
+    fire_due(alloc, clock, &mut pair.this, &mut pair.that, outs)?;
+    fire_due(alloc, clock, &mut pair.that, &mut pair.this, outs)
 }

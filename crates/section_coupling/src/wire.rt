@@ -68,26 +68,18 @@ fn is_connected(state: SectionState) -> bool
     matches!(state, SectionState::Up | SectionState::Resetting)
 }
 
-/// The line and the windows after an act of the line: where the section is set up the counts begin, with the credit that was agreed on.
-fn begun(
-    alloc: Global,
-    old: SectionState,
-    head: &WireHead,
-    line: Line,
-    windows: Windows,
-) -> (Line, Windows)
+/// What follows an act of the line: where the section is set up the counts begin, with the credit that was agreed on.
+fn begin(alloc: Global, old: SectionState, head: &WireHead, line: &mut Line, windows: &mut Windows)
     requires { IsCredit head.now.credit }
-    ensures kept { result.0.kept ≡ line.kept }
-    ensures came { result.0.came.value ≡ came_begun old head.now line.came.value }
-    ensures windows { result.1 ≡ windows_begun old head.now windows }
+    ensures kept { line.new.kept ≡ line.old.kept }
+    ensures came { line.new.came.value ≡ came_begun old head.now line.old.came.value }
+    ensures windows { windows.new ≡ windows_begun old head.now windows.old }
 {
     let is_set_up = head.state() == SectionState::Up && !is_connected(old);
-    if !is_set_up {
-        return (line, windows);
+    if is_set_up {
+        line.clear();
+        *windows = Windows::new(alloc, head.credit);
     }
-    let mut line = line;
-    line.clear();
-    (line, Windows::new(alloc, head.credit))
 }
 
 impl Wire {
@@ -112,82 +104,51 @@ impl Wire {
 
     /// An act of the line; the timers stay.
     #[tactic(auto, using(crate::proofs::SoundLines::line_acts_granted))]
-    fn by_line(self, alloc: Global, cell: Cell, input: &Input<'_>) -> Result<(Wire, Acted), Memory>
-        requires sound { SoundWire self }
+    fn by_line(&mut self, alloc: Global, cell: Cell, input: &Input<'_>) -> Result<Acted, Memory>
+        requires sound { SoundWire self.old }
         requires input { SoundInput input.now }
-        requires sets_up { SetsUpOnce cell (section_of self.head).state }
+        requires sets_up { SetsUpOnce cell (section_of self.old.head).state }
         requires data { TakesData cell input.now }
-        requires class { (is_by_class cell && self.head.class == 3) ≡ false }
-        ensures acts { IfOk result (λ r. (now : ℕ) →
-            by_line (line_acts cell input.now) (section_at now self) ≡ (section_at now r.0, r.1)) }
-        ensures sound { IfOk result (λ r. SoundWire r.0 × SoundActed r.1) }
+        requires class { (is_by_class cell && self.old.head.class == 3) ≡ false }
+        ensures acts { let act = line_acts cell input.now in IfOk result (λ acted. (now : ℕ) →
+            by_line act (section_at now self.old) ≡ (section_at now self.new, acted)) }
+        ensures sound { IfOk result (λ acted. SoundWire self.new × SoundActed acted) }
     {
-        let Wire {
-            mut head,
-            mut line,
-            windows,
-            timers,
-        } = self;
-        let old = head.state();
-        let acted = line.act(alloc, &mut head, cell, input)?;
-        let (line, windows) = begun(alloc, old, &head, line, windows);
-        let wire = Wire {
-            head,
-            line,
-            windows,
-            timers,
-        };
-        Ok((wire, acted))
+        let old = self.head.state();
+        let acted = self.line.act(alloc, &mut self.head, cell, input)?;
+        begin(alloc, old, &self.head, &mut self.line, &mut self.windows);
+        Ok(acted)
     }
 
     /// An act of the windows; the timers stay.
     #[tactic(auto, using(crate::proofs::SoundWindows::windows_act_granted))]
-    fn by_windows(
-        self,
-        alloc: Global,
-        cell: Cell,
-        input: &Input<'_>,
-    ) -> Result<(Wire, Acted), Memory>
-        requires sound { SoundWire self }
+    fn by_windows(&mut self, alloc: Global, cell: Cell, input: &Input<'_>) -> Result<Acted, Memory>
+        requires sound { SoundWire self.old }
         requires input { SoundInput input.now }
         requires data { TakesData cell input.now }
-        requires class { self.head.class ≡ 3 }
-        requires left { InputHasCome input.now self.windows.windows }
-        ensures acts { let act = windows_act cell input.now in IfOk result (λ r. (now : ℕ) →
-            by_windows act (section_at now self) ≡ (section_at now r.0, r.1)) }
-        ensures sound { IfOk result (λ r. SoundWire r.0 × SoundActed r.1) }
+        requires class { self.old.head.class ≡ 3 }
+        requires left { InputHasCome input.now self.old.windows.windows }
+        ensures acts { let act = windows_act cell input.now in IfOk result (λ acted. (now : ℕ) →
+            by_windows act (section_at now self.old) ≡ (section_at now self.new, acted)) }
+        ensures sound { IfOk result (λ acted. SoundWire self.new × SoundActed acted) }
     {
-        let Wire {
-            mut head,
-            line,
-            mut windows,
-            timers,
-        } = self;
-        let acted = windows.act(alloc, &mut head, cell, input)?;
-        let line = Line {
-            kept: line.kept,
-            came: Mark::after(&windows),
-        };
-        let wire = Wire {
-            head,
-            line,
-            windows,
-            timers,
-        };
-        Ok((wire, acted))
+        let acted = self.windows.act(alloc, &mut self.head, cell, input)?;
+        self.line.came = Mark::after(&self.windows);
+        Ok(acted)
     }
 
     /// An act, but for the timers.
-    fn untimed(self, alloc: Global, cell: Cell, input: &Input<'_>) -> Result<(Wire, Acted), Memory>
-        requires sound { SoundWire self }
+    fn untimed(&mut self, alloc: Global, cell: Cell, input: &Input<'_>) -> Result<Acted, Memory>
+        requires sound { SoundWire self.old }
         requires input { SoundInput input.now }
-        requires sets_up { SetsUpOnce cell (section_of self.head).state }
+        requires sets_up { SetsUpOnce cell (section_of self.old.head).state }
         requires data { TakesData cell input.now }
-        requires left { self.head.class ≡ 3 →
-            InputHasCome input.now self.windows.windows }
-        ensures acts { IfOk result (λ r. (now : ℕ) →
-            untimed_acts cell input.now (section_at now self) ≡ (section_at now r.0, r.1)) }
-        ensures sound { IfOk result (λ r. SoundWire r.0 × SoundActed r.1) }
+        requires left { self.old.head.class ≡ 3 →
+            InputHasCome input.now self.old.windows.windows }
+        ensures acts { IfOk result (λ acted. (now : ℕ) →
+            untimed_acts cell input.now (section_at now self.old) ≡
+            (section_at now self.new, acted)) }
+        ensures sound { IfOk result (λ acted. SoundWire self.new × SoundActed acted) }
     {
         if self.in_windows(cell) {
             self.by_windows(alloc, cell, input)
@@ -196,62 +157,56 @@ impl Wire {
         }
     }
 
-    /// The section with its timers, after an act in which it was in this state before and gave these outputs.
-    fn timed(self, clock: &Clock, old: SectionState, outs: &Outs) -> Wire
-        ensures timers { let x = section_by clock.now self in
+    /// Sets the timers after an act in which the section was in this state before and gave these outputs.
+    fn set_timers(&mut self, clock: &Clock, old: SectionState, outs: &Outs)
+        ensures timers { let x = section_by clock.now self.old in
             let sent = list_any is_sent outs.now in
-            section_by clock.now result ≡ record x {
+            section_by clock.now self.new ≡ record x {
               timers = timers_after clock.now.ticks old x.head.state sent x.timers;
             } }
-        ensures sound { SoundWire self → SoundWire result }
+        ensures sound { SoundWire self.old → SoundWire self.new }
     {
-        let timers = self
+        self.timers = self
             .timers
             .after(clock, old, self.head.state(), has_sent(outs));
-        Wire { timers, ..self }
     }
 
     /// Acts by the table's cell for an input.
     pub fn act(
-        self,
+        &mut self,
         alloc: Global,
         clock: &Clock,
         cell: Cell,
         input: &Input<'_>,
-    ) -> Result<(Wire, Acted), Memory>
-        requires sound { SoundWire self }
+    ) -> Result<Acted, Memory>
+        requires sound { SoundWire self.old }
         requires input { SoundInput input.now }
-        requires sets_up { SetsUpOnce cell (section_of self.head).state }
+        requires sets_up { SetsUpOnce cell (section_of self.old.head).state }
         requires data { TakesData cell input.now }
-        requires left { self.head.class ≡ 3 →
-            InputHasCome input.now self.windows.windows }
-        ensures acts { IfOk result (IsAct clock.now
-            (section_acts clock.now.ticks cell input.now (section_by clock.now self))) }
-        ensures sound { IfOk result (λ r. SoundWire r.0 × SoundActed r.1) }
+        requires left { self.old.head.class ≡ 3 →
+            InputHasCome input.now self.old.windows.windows }
+        ensures acts { let x = section_by clock.now self.old in IfOk result (IsAct clock.now
+            (section_acts clock.now.ticks cell input.now x) self.new) }
+        ensures sound { IfOk result (λ acted. SoundWire self.new × SoundActed acted) }
     {
         let old = self.head.state();
-        let (wire, acted) = self.untimed(alloc, cell, input)?;
-        let wire = wire.timed(clock, old, &acted.outs);
-        Ok((wire, acted))
+        let acted = self.untimed(alloc, cell, input)?;
+        self.set_timers(clock, old, &acted.outs);
+        Ok(acted)
     }
 
     /// Does a part of what follows each event in class 3: what waits leaves, or what left on the other end is acknowledged.
-    pub fn take_turn(
-        self,
-        alloc: Global,
-        clock: &Clock,
-        cell: Cell,
-    ) -> Result<(Wire, Acted), Memory>
-        requires sound { SoundWire self }
-        requires class { self.head.class ≡ 3 }
-        ensures acts { let x = section_by clock.now self in
+    pub fn take_turn(&mut self, alloc: Global, clock: &Clock, cell: Cell) -> Result<Acted, Memory>
+        requires sound { SoundWire self.old }
+        requires class { self.old.head.class ≡ 3 }
+        ensures acts { let x = section_by clock.now self.old in
             let turn = by_windows (windows_act cell input.Turn) x in
-            IfOk result (IsAct clock.now (timed clock.now.ticks x turn)) }
-        ensures sound { IfOk result (λ r. SoundWire r.0 × SoundActed r.1) }
+            IfOk result (IsAct clock.now (timed clock.now.ticks x turn) self.new) }
+        ensures sound { IfOk result (λ acted. SoundWire self.new × SoundActed acted) }
     {
         let old = self.head.state();
-        let (wire, acted) = self.by_windows(alloc, cell, &Input::Turn)?;
-        let wire = wire.timed(clock, old, &acted.outs);
-        Ok((wire, acted))
+        let acted = self.by_windows(alloc, cell, &Input::Turn)?;
+        self.set_timers(clock, old, &acted.outs);
+        Ok(acted)
     }
 }

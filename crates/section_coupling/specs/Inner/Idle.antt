@@ -1,14 +1,9 @@
 -- Where a part of a step does nothing.
-use Rattle.std.specs.Prelude.{◌==◌, ◌&&◌, Bool, false, List, length}
+use Rattle.std.specs.Prelude.{◌==◌, ◌&&◌, Bool, false, List}
 use Rattle.std.specs.List.{list_any}
 use Rattle.section_model.specs.declared.cell.Timer.{Timer}
-use Rattle.section_model.specs.declared.hand.Acted.{Acted}
 use Rattle.section_model.specs.Ends.{End, wire, owner, is_up}
 use Rattle.section_model.specs.Step.{is_due_at}
-
--- an act hands nothing over
-abbrev pub hands_nothing : Acted → Bool
-hands_nothing acted = length acted.first == 0 && length acted.then == 0
 
 -- one of these timers of an end fires at this tick
 abbrev pub has_due : List Timer → End → Bool

@@ -1,19 +1,29 @@
-use Rattle.std.proofs.Common.{List, subst, sym}
+use Rattle.std.proofs.Common.{List, subst}
 use Rattle.relay_base.specs.declared.words.Output.{Output}
-use Rattle.section_model.specs.Ends.{Connection, wire as end}
-use Rattle.connection_law.specs.InStep.{AreInStep, IsInStep}
-use Rattle.section_coupling.specs.declared.side.Side.{Side}
-use Rattle.section_coupling.specs.declared.wire.Wire.{Wire}
-use Rattle.section_coupling.specs.Views.{section_by, end_by}
-use Rattle.section_coupling.proofs.Composed.{if-ok}
-use Rattle.section_coupling.proofs.HandsCome.{turn-steps}
+use Rattle.section_model.specs.Ends.{Connection}
+use Rattle.connection_law.specs.InStep.{IsInStep}
+use Rattle.section_coupling.specs.Views.{end_by}
+use Rattle.section_coupling.proofs.Composed.{on-ok}
+use Rattle.section_coupling.proofs.Alone.{done_alone, turns_settle}
+use Rattle.section_coupling.proofs.HandsCome.{turn-come, turn-steps}
 use Rattle.section_coupling.proofs.following.on_this.Goals as goal
 
-pub returns-in-Wire-clause-steps : goal.returns-in-Wire-clause-steps
-returns-in-Wire-clause-steps c =
+pub settle-requires-clause-left : goal.settle-requires-clause-left
+settle-requires-clause-left c =
     let clock = c.args.clock.now in
-    let that = end_by clock c.args.pair.that in
-    let here = subst (λ (s : Side). AreInStep (end_by clock s) that) c.in-Wire.is c.requires.steps in
-    let steps = subst (λ (w : Wire). AreInStep (end (section_by clock w)) that) (sym c.into_inner.ensures) here in
-    if-ok c.on_section.result (λ r e. subst (λ (s : Connection × List Output). IsInStep s.0) e
-    (turn-steps c.args.cell clock.ticks (end (section_by clock c.into_inner.result)) that steps)) c.on_section.ensures.follows
+    turn-come c.args.cell clock.ticks (end_by clock c.args.this.now) (end_by clock c.args.that.now) _ c.requires.steps c.in_ok-acted.ensures.turns
+
+pub returns-clause-follows : goal.returns-clause-follows
+returns-clause-follows c =
+    let clock = c.args.clock.now in
+    let this = end_by clock c.args.this.now in
+    let that = end_by clock c.args.that.now in
+    on-ok c.settle.result (λ e. done_alone clock.ticks _ _ that c.args.outs.now _ _ (turns_settle clock.ticks c.args.cell this that) c.in_ok-acted.ensures.turns e) c.settle.ensures.settled
+
+pub returns-clause-steps : goal.returns-clause-steps
+returns-clause-steps c =
+    let clock = c.args.clock.now in
+    let this = end_by clock c.args.this.now in
+    let that = end_by clock c.args.that.now in
+    on-ok c.settle.result (λ e. subst (λ (s : Connection × List Output). IsInStep s.0)
+    (done_alone clock.ticks _ _ that c.args.outs.now _ _ (turns_settle clock.ticks c.args.cell this that) c.in_ok-acted.ensures.turns e) (turn-steps c.args.cell clock.ticks this that c.requires.steps)) c.settle.ensures.settled

@@ -1,12 +1,12 @@
-use Rattle.std.proofs.Common.{◌≡◌, [], drop, fold}
+use Rattle.std.proofs.Common.{◌≡◌, drop, fold}
 use Rattle.section_model.specs.Step.{fires_next}
-use Rattle.section_coupling.specs.Views.{connection_at}
-use Rattle.section_coupling.specs.Sound.{SoundPair}
+use Rattle.section_coupling.specs.Views.{standing}
+use Rattle.section_coupling.specs.Sound.{AreSound}
 use Rattle.section_coupling.proofs.ticking.fire_each.Given as goal
 
--- what the timers to come make of the connection and the outputs so far is what all make of those at first
+-- what the timers to come make of the ends and the outputs so far is what all make of those at first
 abbrev pub invariant-loop-timer : goal.invariant-loop-timer
 invariant-loop-timer l = record {
-  same : fold (fires_next l.clock.ticks) (connection_at l.clock.taken l.pair, l.outs) (drop l.timer-index l.timers) ≡ fold (fires_next l.clock.ticks) (connection_at l.clock.taken l.fn.pair, []) l.timers;
-  sound : SoundPair l.pair;
+  same : fold (fires_next l.clock.ticks) (standing l.clock l.this l.that l.outs) (drop l.timer-index l.timers) ≡ fold (fires_next l.clock.ticks) (standing l.clock l.fn.this l.fn.that l.fn.outs) l.timers;
+  sound : AreSound l.this l.that;
 }

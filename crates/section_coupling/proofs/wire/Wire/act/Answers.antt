@@ -4,5 +4,5 @@ use Rattle.section_coupling.proofs.wire.Wire.act.Goals as goal
 
 pub returns-clause-acts : goal.returns-clause-acts
 returns-clause-acts c =
-    let x = section_at c.args.clock.now.taken c.args.self in
-    in_time c.args.clock.now.ticks x _ _ _ _ _ (untimed-timers c.args.cell c.args.input.now x) (c.in_ok-wire.ensures.acts c.args.clock.now.taken) c.state-old.ensures c.timed-wire.ensures.timers
+    let x = section_at c.args.clock.now.taken c.args.self.now in
+    in_time c.args.clock.now.ticks x _ _ _ _ _ (untimed-timers c.args.cell c.args.input.now x) (c.in_ok-acted.ensures.acts c.args.clock.now.taken) c.state-old.ensures c.set_timers.ensures.timers
