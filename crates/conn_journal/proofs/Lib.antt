@@ -24,3 +24,4 @@ mod Reached
 pub mod Puts
 mod Wakes
 mod Counted
+pub mod Sleeping

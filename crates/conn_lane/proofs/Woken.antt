@@ -1,24 +1,22 @@
 -- The timers of a lane once a connection is as it is next, or a tick is taken.
 use Rattle.section_coupling.specs.declared.duo.TheConstants.{TIMERS}
-use Rattle.std.proofs.Common.{◌≡◌, ℕ, pred, ◌+◌, ◌-◌, ◌/◌, ◌%◌, ◌==◌, ◌<◌, ◌≤◌, Bool, true, false, List, [], ◌∷◌, length, get_or, set, option_to_list, Option, Some, None, inl, inr, refl, sym, subst, ap, ◌∙◌, arith}
+use Rattle.std.proofs.Common.{◌≡◌, ℕ, ◌+◌, ◌-◌, ◌/◌, ◌%◌, ◌==◌, ◌<◌, ◌≤◌, Bool, true, false, List, [], ◌∷◌, length, get_or, set, option_to_list, Option, Some, None, inl, inr, refl, sym, subst, ap, ◌∙◌, arith}
 use Rattle.std.specs.Prelude.{option_map, IfSome}
 use Rattle.std.specs.List.{list_any}
 use Rattle.std.proofs.lemmas.List.{get_or-set_same, get_or-set_other}
-use Rattle.std.proofs.lemmas.Bool.{both_ways, false_from_ne_true, cases_eq, ne_eqb, or_parts}
+use Rattle.std.proofs.lemmas.Bool.{both_ways, false_from_ne_true, cases_eq, or_parts}
 use Rattle.timer_wheel.specs.declared.due.Due.{Due}
 use Rattle.timer_wheel.specs.Timers.{Armed, timer_of, due_now, after_tick}
 use Rattle.section_model.specs.declared.cell.Timer.{Timer}
 use Rattle.section_model.specs.declared.cell.Timer.TheVariants.{Connect, Reset, Iar, Ias, Rel, Int, Repeat}
-use Rattle.section_model.specs.Ends.{End, wire, owner, Connection}
-use Rattle.section_model.specs.Timing.{timer_in}
-use Rattle.section_model.specs.Step.{is_due_at, ticked}
-use Rattle.connection_law.specs.TimerLaw.{NoneFires, IsQuiet}
+use Rattle.section_model.specs.Ends.{Connection}
+use Rattle.connection_law.specs.TimerLaw.{IsQuiet}
 use Rattle.section_coupling.specs.declared.side.Side.{Side}
 use Rattle.section_coupling.specs.declared.side.Side.TheVariants as side
 use Rattle.section_coupling.specs.Views.{left_at, end_at}
 use Rattle.section_coupling.specs.Duos.{DuoState, duo_at, left_of_timer, timer_placed, ticks_left}
-use Rattle.section_coupling.proofs.LaterTimers.{ticked_pair}
 use Rattle.conn_journal.specs.declared.change.Next.{Next}
+use Rattle.conn_journal.proofs.Sleeping.{idle_when_late}
 use Rattle.conn_journal.specs.Inner.Views.{IsIdle}
 use Rattle.conn_lane.specs.Inner.Timed.{ticks_in_wheel, timer_left, SetsTimers, IsLeft, AreLeft, IsTimed}
 use Rattle.conn_journal.specs.Inner.Waking.{is_next, IsWoken, AllWoken}
@@ -151,53 +149,8 @@ two_left taken (Some left) none = at_least left (or_parts (ticks_in_wheel taken 
     at_least : (n : ℕ) → (ticks_in_wheel taken n == 1) ≡ false → 2 ≤ n
     at_least n late = grind (arith, late)
 
-not_yet : (left : Option ℕ) → IfSome left (λ n. 2 ≤ n) → elim (option_map pred left) [ None ↦ false | Some n ↦ n == 0 ] ≡ false
-not_yet None more = refl
-not_yet (Some n) more = ne_eqb (pred n) 0 (λ e. omega (arith, more, e))
-
-none_fires : (e : End) → ((timer : Timer) → IfSome (left_of_timer timer e) (λ n. 2 ≤ n)) → NoneFires e
-none_fires (owner u) all timer = refl
-none_fires (wire x) all timer =
-    elim timer as (λ t. IfSome (timer_in t x.timers) (λ n. 2 ≤ n) → is_due_at t (ticked (wire x)) ≡ false) [
-      | Connect ↦ not_yet x.timers.connect
-      | Reset ↦ not_yet x.timers.reset
-      | Iar ↦ not_yet x.timers.iar
-      | Ias ↦ not_yet x.timers.ias
-      | Rel ↦ not_yet x.timers.rel
-      | Int ↦ not_yet x.timers.int
-      | Repeat ↦ not_yet x.timers.repeat
-    ] (all timer)
-
-abbrev AllLate : Connection → Type 0
-AllLate c = (timer : ℕ) → timer < TIMERS → IfSome (ticks_left timer c) (λ n. 2 ≤ n)
-
-of_this : (c : Connection) → AllLate c → (timer : Timer) → IfSome (left_of_timer timer c.this) (λ n. 2 ≤ n)
-of_this c late timer =
-    elim timer as (λ t. IfSome (left_of_timer t c.this) (λ n. 2 ≤ n)) [
-      | Connect ↦ late 0 (omega arith)
-      | Reset ↦ late 1 (omega arith)
-      | Iar ↦ late 2 (omega arith)
-      | Ias ↦ late 3 (omega arith)
-      | Rel ↦ late 4 (omega arith)
-      | Int ↦ late 5 (omega arith)
-      | Repeat ↦ late 6 (omega arith)
-    ]
-
-of_that : (c : Connection) → AllLate c → (timer : Timer) → IfSome (left_of_timer timer c.that) (λ n. 2 ≤ n)
-of_that c late timer =
-    elim timer as (λ t. IfSome (left_of_timer t c.that) (λ n. 2 ≤ n)) [
-      | Connect ↦ late 7 (omega arith)
-      | Reset ↦ late 8 (omega arith)
-      | Iar ↦ late 9 (omega arith)
-      | Ias ↦ late 10 (omega arith)
-      | Rel ↦ late 11 (omega arith)
-      | Int ↦ late 12 (omega arith)
-      | Repeat ↦ late 13 (omega arith)
-    ]
-
 pub idle_until_due : (taken number : ℕ) (d : DuoState) (armed : List Armed) → IsQuiet d.ticks (duo_at taken d) → is_due number (due_now armed) ≡ false
     → ((timer : ℕ) → timer < TIMERS → ticks_of (timer_of number timer) armed ≡ option_to_list (timer_left taken timer (Some d))) → IsIdle taken d
 idle_until_due taken number d armed quiet idle are =
     let c : Connection = duo_at taken d in
-    let late : AllLate c = λ timer bound. two_left taken (ticks_left timer c) (ap (list_any (λ n. n == 1)) (sym (are timer bound)) ∙ none_due number timer armed idle) in
-    quiet (none_fires c.this (of_this c late)) (none_fires c.that (of_that c late)) ∙ ap (λ x. (x, [])) (ticked_pair taken (taken + 1) d.pair refl)
+    idle_when_late taken d quiet (λ timer bound. two_left taken (ticks_left timer c) (ap (list_any (λ n. n == 1)) (sym (are timer bound)) ∙ none_due number timer armed idle))

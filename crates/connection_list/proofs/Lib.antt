@@ -1,2 +1,1 @@
-mod Sleeping
 mod Scans

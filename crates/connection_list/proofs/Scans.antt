@@ -10,7 +10,7 @@ use Rattle.connection_law.specs.TimerLaw.{IsQuiet}
 use Rattle.conn_journal.specs.Inner.Ticking.{TickedAt}
 use Rattle.conn_journal.specs.Inner.Waking.{is_in, AreRising, AreQuiet, WakesAll}
 use Rattle.connection_list.specs.Inner.Soonest.{WakesFrom, AreListed, is_due}
-use Rattle.connection_list.proofs.Sleeping.{idle_until_due}
+use Rattle.conn_journal.proofs.Sleeping.{idle_when_late}
 
 -- The list.
 
@@ -129,4 +129,4 @@ wakes_all taken kept soonest numbers quiet listed are =
 
     by_one : (tick : ℕ) (one : Option DuoState) → taken + 1 < tick → WakesFrom tick one → IfSome one (λ d. IsQuiet d.ticks (duo_at taken d)) → TickedAt taken one None
     by_one tick None sleeps from quiet = refl
-    by_one tick (Some d) sleeps from quiet = idle_until_due taken d quiet (λ timer bound. from timer bound taken sleeps)
+    by_one tick (Some d) sleeps from quiet = idle_when_late taken d quiet (λ timer bound. from timer bound taken sleeps)

@@ -58,7 +58,7 @@ of_that c late timer =
       | Repeat ↦ late 13 (omega arith)
     ]
 
-pub idle_until_due : (taken : ℕ) (d : DuoState) → IsQuiet d.ticks (duo_at taken d) → AllLate (duo_at taken d) → IsIdle taken d
-idle_until_due taken d quiet late =
+pub idle_when_late : (taken : ℕ) (d : DuoState) → IsQuiet d.ticks (duo_at taken d) → AllLate (duo_at taken d) → IsIdle taken d
+idle_when_late taken d quiet late =
     let c : Connection = duo_at taken d in
     quiet (none_fires c.this (of_this c late)) (none_fires c.that (of_that c late)) ∙ ap (λ x. (x, [])) (ticked_pair taken (taken + 1) d.pair refl)
