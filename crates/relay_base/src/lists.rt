@@ -38,6 +38,10 @@ impl<T> PlainList<T> {
         ensures ok { OnOk result (self.new ≡ self.old ++ item ∷ []) }
         ensures err { OnErr result (self.new ≡ self.old) }
     {
+        if self.items.capacity() == 0 {
+            // most lists of what comes of an event have one item
+            self.items.reserve_exact(1)?;
+        }
         self.items.push(item)?;
         Ok(())
     }
@@ -49,6 +53,10 @@ impl<T> PlainList<T> {
         ensures ok { OnOk result (self.new ≡ self.old ++ more) }
         ensures err { OnErr result (self.new ≡ self.old) }
     {
+        if self.items.is_empty() {
+            *self = more;
+            return Ok(());
+        }
         let mut added = more.into_vec();
         self.items.append(&mut added)?;
         Ok(())
