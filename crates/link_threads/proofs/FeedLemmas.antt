@@ -24,6 +24,11 @@ take_one_more [] n x e = absurd (cc)
 take_one_more (y ∷ ys) zero x e = let same : y ≡ x = cc in ap (λ z. z ∷ []) same
 take_one_more (y ∷ ys) (suc n) x e = ap (λ zs. y ∷ zs) (take_one_more ys n x e)
 
+element_at : {A : Type 0} (l : List A) (i : ℕ) → i < length l → (x : A) × (slice_get l i ≡ Some x)
+element_at [] i within = absurd (omega (arith, within))
+element_at (y ∷ ys) zero within = (y, refl)
+element_at (y ∷ ys) (suc i) within = element_at ys i (omega (arith, within))
+
 filter_at : {A : Type 0} (p : A → Bool) (l : List A) (i : ℕ) (x : A) → slice_get l i ≡ Some x → p x ≡ true → slice_get (filter p l) (length (filter p (take i l))) ≡ Some x
 filter_at p [] i x e h = absurd (cc)
 filter_at p (y ∷ ys) zero x e h = let same : y ≡ x = cc in let here : p y ≡ true = ap p same ∙ h in rw here (ap Some same)
@@ -85,6 +90,15 @@ module _ {L E B : Type 0} (plan : L → Plan B E) (number : ℕ) (link : Link E)
       done = done ∙ (ap (λ n. n + cond (is_in door.name a.place) 1 0) fed.done
           ∙ (sym (events_more door.name (take count link) a) ∙ ap (λ (l : Link E). length (events_for door.name l)) (sym (ap (λ (n : ℕ). take n link) {x = count + 1} {y = suc count} (omega arith) ∙ take_one_more link count a there))));
     }
+
+  -- an event that is not for the lane of a gate goes past its pass
+  pub passed_over : (door : Door L E) (pass : Pass) (place : LanePlace) → count < length link → ((d : Arrival E) → place ≡ (get_or link count d).place) → is_in door.name place ≡ false
+      → HasFed plan number link count door pass → HasFed plan number link (count + 1) door pass
+  passed_over door pass place within places other fed =
+      let one = element_at link count within in
+      let a : Arrival E = get_or link count one.0 in
+      fed_more a (slice_get-get_or link count one.0 within) door pass fed pass (record { number = refl; gate = refl })
+      (rw (ap (is_in door.name) (sym (places one.0)) ∙ other) (omega arith))
 
   -- the passes below this number had the event
   pub record IsFedBelow (far : ℕ) (doors : List (Door L E)) (passes : List Pass) : Type 0 where

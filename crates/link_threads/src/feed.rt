@@ -1,28 +1,44 @@
 //! The events of a link are delivered.
-ghost use Rattle.std.specs.Prelude.{◌+◌, ◌<◌, length, OnOk};
+ghost use Rattle.std.specs.Prelude.{◌≡◌, ◌+◌, ◌<◌, length, slice_index_or, OnOk};
 ghost use Rattle.link_threads.specs.Pairs.{Beside};
 ghost use Rattle.link_threads.specs.Links.{IsStamped, link_at};
 ghost use Rattle.link_threads.specs.Gates.{HasFed};
 
 use crate::door::Door;
-use crate::lane_name::LaneName;
 use crate::links::Links;
 use capture_form::LanePlace;
 use lane_gate::{LaneState, Pass};
-use relay_base::{Memory, Pace};
+use relay_base::{Memory, Pace, Stamp};
 use std::sync::Wait;
 
-/// Makes an event ready for a lane in which it is placed.
-fn make_ready<E, S: Links<E>>(
+/// An event of a link, with its stamp and its place, is delivered to a lane, where it is placed there. It is made ready for such a lane alone.
+fn deliver_to<R: Wait, L: LaneState, S: Links<L::Event>>(
+    rt: &R,
+    door: &Door<L>,
     links: &S,
-    event: &E,
-    name: LaneName,
-    place: LanePlace,
-) -> Result<(), Memory> {
-    if name.has(place) {
-        links.prepare(event)?;
+    link: u8,
+    number: usize,
+    at: (Stamp, LanePlace),
+    pass: &mut Pass,
+) -> Result<(), Memory>
+    requires number { number < length (link_at (S.links links.now) link) }
+    requires stamped { IsStamped link (link_at (S.links links.now) link) }
+    requires stamp { let events = link_at (S.links links.now) link in
+        (d : _) → at.0 ≡ (slice_index_or events number d).stamp }
+    requires place { let events = link_at (S.links links.now) link in
+        (d : _) → at.1 ≡ (slice_index_or events number d).place }
+    requires ready { let events = link_at (S.links links.now) link in
+        HasFed L.plan link events number door.now pass.old }
+    ensures { let events = link_at (S.links links.now) link in
+        OnOk result (HasFed L.plan link events (number + 1) door.now pass.new) }
+{
+    let (stamp, place) = at;
+    if !door.name.has(place) {
+        return Ok(());
     }
-    Ok(())
+    let event = links.event(link, number);
+    links.prepare(&event)?;
+    door.gate.deliver(rt, pass, stamp, event)
 }
 
 /// An event of a link is delivered to the lanes in which it is placed.
@@ -41,12 +57,9 @@ fn deliver_each<R: Wait, L: LaneState, S: Links<L::Event>>(
     ensures { let at = link_at (S.links links.now) link in
         OnOk result (Beside (HasFed L.plan link at (number + 1)) doors.now passes.new) }
 {
-    let (stamp, place) = links.place(link, number);
+    let at = links.place(link, number);
     for (lane, pass) in passes.iter_mut().enumerate() {
-        let event = links.event(link, number);
-        let door = &doors[lane];
-        make_ready(links, &event, door.name, place)?;
-        door.deliver(rt, place, stamp, event, pass)?;
+        deliver_to(rt, &doors[lane], links, link, number, at, pass)?;
     }
     Ok(())
 }
