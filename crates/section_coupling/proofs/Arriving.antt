@@ -1,5 +1,5 @@
 -- What a section acts upon, and what follows each event.
-use Rattle.std.proofs.Common.{◌≡◌, ◌<◌, ◌+◌, [], length, get_or, drop, fold, ℕ, Bool, true, false, List, ap, ◌∙◌, refl, sym, subst}
+use Rattle.std.proofs.Common.{◌≡◌, ◌<◌, ◌≤◌, ◌+◌, [], length, get_or, drop, fold, ℕ, Bool, true, false, List, ap, ◌∙◌, refl, sym, subst}
 use Rattle.std.specs.Prelude.{IsTrue, Some, None, if◌then◌else◌}
 use Rattle.std.proofs.lemmas.Bool.{and_parts}
 use Rattle.relay_base.specs.declared.words.Event.{Event}
@@ -29,7 +29,7 @@ use Rattle.connection_law.proofs.Flow.Flowing.{either}
 use Rattle.section_model.specs.Parameters.{Arrival}
 use Rattle.section_model.specs.Acting.{timed, is_sent, windows_after, by_line, by_windows, in_windows, section_hears}
 use Rattle.section_model.specs.declared.cell.Timer.{Timer}
-use Rattle.std.proofs.lemmas.List.{drop_more}
+use Rattle.std.proofs.lemmas.List.{drop_more, at_drop_all}
 use Rattle.section_coupling.specs.declared.clock.Clock.{Clock}
 use Rattle.section_coupling.specs.declared.coming.Coming.{Coming}
 use Rattle.section_model.specs.Step.{fires_next, is_from_elsewhere, in_touch, checked, hears_checked, hears, is_in_range, named, names, on_windows, on_each, after_event}
@@ -130,6 +130,11 @@ pub fired_more : (ticks : Ticks) (s t r : Connection × List Output) (timers : L
 fired_more ticks s t r timers i timer within e f =
     subst (λ (u : Connection × List Output). fold (fires_next ticks) u (drop (i + 1) timers) ≡ r) e
     (subst (λ ts. fold (fires_next ticks) s ts ≡ r) (drop_more timers i timer within) f)
+
+-- and all of them
+pub fired_all : (ticks : Ticks) (s t : Connection × List Output) (timers : List Timer) (i : ℕ) → length timers ≤ i
+    → fold (fires_next ticks) s (drop i timers) ≡ fold (fires_next ticks) t timers → fold (fires_next ticks) t timers ≡ s
+fired_all ticks s t timers i past e = sym e ∙ at_drop_all (fold (fires_next ticks) s) timers i past
 
 -- what waits leaves, and then what left is acknowledged
 pub followed : (ticks : Ticks) (r s t : Connection × List Output) → on_each (on_windows ticks (windows_turn Leave)) r ≡ s → on_each (on_windows ticks (windows_turn Acknowledge)) s ≡ t → after_event ticks r ≡ t

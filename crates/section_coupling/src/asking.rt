@@ -12,7 +12,7 @@ ghost use Rattle.section_coupling.specs.Sound.{AreSound, SoundOwner, SoundSide, 
 
 use crate::clock::Clock;
 use crate::coming::Wanting;
-use crate::coupling::settle;
+use crate::coupling::{TURNS, exchange};
 use crate::owner::Owner;
 use crate::pair::Pair;
 use crate::side::Side;
@@ -238,7 +238,7 @@ fn ask_this(
     ensures sound { OnOk result (AreSound this.new that.new) }
 {
     let acted = this.ask(alloc, wanting, that)?;
-    settle(alloc, clock, this, acted, that, outs)
+    exchange(alloc, clock, TURNS, this, acted, that, outs)
 }
 
 /// A request of a subsystem, behind these outputs.

@@ -1,6 +1,6 @@
 //! What the ends of a connection hand to each other.
 ghost use Rattle.std.specs.Prelude.{◌≡◌, OnOk, fold};
-ghost use Rattle.section_model.specs.Coupling.{exchange, other_takes, settles};
+ghost use Rattle.section_model.specs.Coupling.{exchange, other_takes};
 ghost use Rattle.section_coupling.specs.Views.{behind, end_by, standing};
 ghost use Rattle.section_coupling.specs.Sound.{AreSound, SoundActed, SoundHands, AreOfWhatCame};
 ghost use Rattle.section_model.specs.Laws.{hands_of};
@@ -10,6 +10,9 @@ use crate::side::Side;
 use relay_base::{Memory, Outs};
 use section_grid::{Acted, HandList};
 use std::alloc::Global;
+
+/// How many turns the ends of a connection take until nothing is left: on what is handed back nothing more is.
+pub const TURNS: u8 = 2;
 
 /// The other end takes effects, one after another, and what it hands back goes on in turn. The outputs stand behind those that are
 /// there.
@@ -42,7 +45,7 @@ fn offer(
 /// This end has acted: the other end takes what is handed over first, then the outputs stand, then it takes the rest; and it may
 /// hand back in the same way, so many times. The outputs stand behind those that are there.
 #[cycle(exchange)]
-fn exchange(
+pub fn exchange(
     alloc: Global,
     clock: &Clock,
     turns: u8,
@@ -71,26 +74,4 @@ fn exchange(
     offer(alloc, clock, turns - 1, this, &first, that, outs)?;
     outs.append(own)?;
     offer(alloc, clock, turns - 1, this, &then, that, outs)
-}
-
-/// This end has acted: the ends hand to each other until nothing is left. On what is handed back nothing more is. The outputs stand
-/// behind those that are there.
-pub fn settle(
-    alloc: Global,
-    clock: &Clock,
-    this: &mut Side,
-    acted: Acted,
-    that: &mut Side,
-    outs: &mut Outs,
-) -> Result<(), Memory>
-    requires sound { AreSound this.old that.old }
-    requires acted { SoundActed acted }
-    requires left { AreOfWhatCame (end_by clock.now this.old) (hands_of acted)
-        (end_by clock.now that.old) }
-    ensures settled { let that_end = end_by clock.now that.old in
-        let done = settles clock.now.ticks (end_by clock.now this.old, acted) that_end in
-        OnOk result (behind outs.old done ≡ standing clock.now this.new that.new outs.new) }
-    ensures sound { OnOk result (AreSound this.new that.new) }
-{
-    exchange(alloc, clock, 2, this, acted, that, outs)
 }

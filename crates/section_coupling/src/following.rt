@@ -12,7 +12,7 @@ ghost use Rattle.section_coupling.specs.Inner.Idle.{is_in_class_3};
 ghost use Rattle.section_coupling.specs.Sound.{AreSound, SoundActed, SoundWire, SoundSide, SoundPair};
 
 use crate::clock::Clock;
-use crate::coupling::settle;
+use crate::coupling::{TURNS, exchange};
 use crate::pair::Pair;
 use crate::side::Side;
 use crate::wire::Wire;
@@ -74,7 +74,7 @@ fn on_this(
         (AreInStep (end_by clock.now this.new) (end_by clock.now that.new)) }
 {
     let acted = this.turn(alloc, clock, cell)?;
-    settle(alloc, clock, this, acted, that, outs)
+    exchange(alloc, clock, TURNS, this, acted, that, outs)
 }
 
 /// A part of it on this end, and then on the other one, behind these outputs.

@@ -14,7 +14,7 @@ ghost use Rattle.section_coupling.specs.Sound.{AreSound, AreOfWhatCame, SoundWir
 
 use crate::clock::Clock;
 use crate::coming::Coming;
-use crate::coupling::settle;
+use crate::coupling::{TURNS, exchange};
 use crate::pair::Pair;
 use crate::side::Side;
 use crate::wire::{Wire, is_sent};
@@ -143,7 +143,6 @@ impl Wire {
     }
 
     /// Hears a message from its point, by a check or by the cell.
-    #[tactic(auto, using(crate::proofs::ByTable::sets_up_once))]
     fn hear(&mut self, alloc: Global, clock: &Clock, coming: &Coming<'_>) -> Result<Acted, Memory>
         requires section { SoundWire self.old }
         requires arrives { IsArrival coming.now }
@@ -219,7 +218,7 @@ fn hear_at_this(
     ensures sound { OnOk result (AreSound this.new that.new) }
 {
     let acted = this.hear(alloc, clock, coming)?;
-    settle(alloc, clock, this, acted, that, outs)
+    exchange(alloc, clock, TURNS, this, acted, that, outs)
 }
 
 /// A message on the end that its destination local reference names, behind these outputs.

@@ -62,7 +62,7 @@ fn user_takes_by(state: UserState, hand: &Hand) -> Cell
 }
 
 /// A section takes an effect of the other end.
-#[tactic(auto, unfolding(section_model::specs::Acting::section_takes), using(crate::proofs::ByTable::takes_sets_up_once))]
+#[tactic(auto, unfolding(section_model::specs::Acting::section_takes))]
 fn wire_takes(alloc: Global, clock: &Clock, wire: &mut Wire, hand: &Hand) -> Result<Acted, Memory>
     requires section { SoundWire wire.old }
     requires granted { IsGranted hand.now }

@@ -1,5 +1,5 @@
 //! A tick on a connection (Q.714, timers).
-ghost use Rattle.std.specs.Prelude.{◌≡◌, ◌+◌, ℕ, fold, IfOk, OnOk};
+ghost use Rattle.std.specs.Prelude.{◌≡◌, ◌+◌, ℕ, IfOk, OnOk};
 ghost use Rattle.section_model.specs.Timing.{firing, rearmed};
 ghost use Rattle.section_model.specs.Acting.{section_fires};
 ghost use Rattle.section_model.specs.Step.{is_due_at, fires_next, fires_due, ticks_by};
@@ -11,7 +11,7 @@ ghost use Rattle.section_model.specs.Table.{section_cell};
 ghost use Rattle.section_coupling.specs.Inner.Idle.{has_due};
 
 use crate::clock::Clock;
-use crate::coupling::settle;
+use crate::coupling::{TURNS, exchange};
 use crate::pair::Pair;
 use crate::side::Side;
 use crate::taken::Taken;
@@ -63,7 +63,7 @@ fn firing(timer: Timer) -> Occasion
 
 impl Wire {
     /// A timer fires.
-    #[tactic(auto, unfolding(section_model::specs::Acting::section_fires), using(crate::proofs::ByTable::sets_up_once))]
+    #[tactic(auto, unfolding(section_model::specs::Acting::section_fires))]
     fn fire(&mut self, alloc: Global, clock: &Clock, timer: Timer) -> Result<Acted, Memory>
         requires section { SoundWire self.old }
         ensures fires { let x = section_by clock.now self.old in IfOk result (IsAct clock.now
@@ -139,35 +139,11 @@ fn fire_if_due(
         return Ok(());
     }
     let acted = this.fire(alloc, clock, timer)?;
-    settle(alloc, clock, this, acted, that, outs)
-}
-
-/// Of these timers of this end those that are due fire, one after another, behind these outputs.
-#[tactic(auto, using(crate::proofs::Idle::none_fires))]
-fn fire_each(
-    alloc: Global,
-    clock: &Clock,
-    timers: &[Timer],
-    this: &mut Side,
-    that: &mut Side,
-    outs: &mut Outs,
-) -> Result<(), Memory>
-    requires sound { AreSound this.old that.old }
-    ensures fires { let before = standing clock.now this.old that.old outs.old in OnOk result
-        (fold (fires_next clock.now.ticks) before timers.now ≡
-        standing clock.now this.new that.new outs.new) }
-    ensures sound { OnOk result (AreSound this.new that.new) }
-{
-    if !this.has_due(clock.taken, timers) {
-        return Ok(());
-    }
-    for timer in timers {
-        fire_if_due(alloc, clock, *timer, this, that, outs)?;
-    }
-    Ok(())
+    exchange(alloc, clock, TURNS, this, acted, that, outs)
 }
 
 /// The timers of this end that are due fire in their order, behind these outputs.
+#[tactic(auto, using(crate::proofs::Idle::none_due))]
 fn fire_due(
     alloc: Global,
     clock: &Clock,
@@ -180,7 +156,13 @@ fn fire_due(
         OnOk result (behind outs.old done ≡ standing clock.now this.new that.new outs.new) }
     ensures sound { OnOk result (AreSound this.new that.new) }
 {
-    fire_each(alloc, clock, &FIRING_ORDER, this, that, outs)
+    if !this.has_due(clock.taken, &FIRING_ORDER) {
+        return Ok(());
+    }
+    for timer in &FIRING_ORDER {
+        fire_if_due(alloc, clock, *timer, this, that, outs)?;
+    }
+    Ok(())
 }
 
 /// A tick: first the timers of this end, then those of the other one. The clock has the tick already. The outputs stand behind those

@@ -10,7 +10,7 @@ ghost use Rattle.section_model.specs.Timing.{timers_after};
 ghost use Rattle.section_model.specs.declared.input.Input.TheVariants as input;
 ghost use Rattle.section_coupling.specs.Views.{section_at, section_by, IsAct};
 ghost use Rattle.section_coupling.specs.Sound.{IsCredit, SoundWire, SoundInput, SoundActed};
-ghost use Rattle.section_coupling.specs.Inner.Acts.{untimed_acts, section_acts, windows_begun, came_begun, SetsUpOnce, TakesData};
+ghost use Rattle.section_coupling.specs.Inner.Acts.{untimed_acts, section_acts, windows_begun, came_begun, TakesData, CanAct};
 
 use crate::clock::Clock;
 use crate::timers::Timers;
@@ -106,9 +106,7 @@ impl Wire {
     #[tactic(auto, using(crate::proofs::SoundLines::line_acts_granted))]
     fn by_line(&mut self, alloc: Global, cell: Cell, input: &Input<'_>) -> Result<Acted, Memory>
         requires sound { SoundWire self.old }
-        requires input { SoundInput input.now }
-        requires sets_up { SetsUpOnce cell (section_of self.old.head).state }
-        requires data { TakesData cell input.now }
+        requires can { CanAct cell input.now self.old }
         requires class { (is_by_class cell && self.old.head.class == 3) ≡ false }
         ensures acts { let act = line_acts cell input.now in IfOk result (λ acted. (now : ℕ) →
             by_line act (section_at now self.old) ≡ (section_at now self.new, acted)) }
@@ -140,11 +138,7 @@ impl Wire {
     /// An act, but for the timers.
     fn untimed(&mut self, alloc: Global, cell: Cell, input: &Input<'_>) -> Result<Acted, Memory>
         requires sound { SoundWire self.old }
-        requires input { SoundInput input.now }
-        requires sets_up { SetsUpOnce cell (section_of self.old.head).state }
-        requires data { TakesData cell input.now }
-        requires left { self.old.head.class ≡ 3 →
-            InputHasCome input.now self.old.windows.windows }
+        requires can { CanAct cell input.now self.old }
         ensures acts { IfOk result (λ acted. (now : ℕ) →
             untimed_acts cell input.now (section_at now self.old) ≡
             (section_at now self.new, acted)) }
@@ -180,11 +174,7 @@ impl Wire {
         input: &Input<'_>,
     ) -> Result<Acted, Memory>
         requires sound { SoundWire self.old }
-        requires input { SoundInput input.now }
-        requires sets_up { SetsUpOnce cell (section_of self.old.head).state }
-        requires data { TakesData cell input.now }
-        requires left { self.old.head.class ≡ 3 →
-            InputHasCome input.now self.old.windows.windows }
+        requires can { CanAct cell input.now self.old }
         ensures acts { let x = section_by clock.now self.old in IfOk result (IsAct clock.now
             (section_acts clock.now.ticks cell input.now x) self.new) }
         ensures sound { IfOk result (λ acted. SoundWire self.new × SoundActed acted) }

@@ -12,7 +12,9 @@ use Rattle.plant_core.specs.declared.terms.Ticks.{Ticks}
 use Rattle.section_model.specs.Ends.{Section, End, cleared, is_up, is_connected}
 use Rattle.section_model.specs.Acting.{timed, by_line, by_windows, in_windows}
 use Rattle.section_class2.specs.Lines.{TakesDataOfDt1, line_acts}
-use Rattle.section_class3.specs.Windows.{WindowsState, TakesItsData, windows_act}
+use Rattle.section_class3.specs.Windows.{WindowsState, TakesItsData, InputHasCome, windows_act}
+use Rattle.section_coupling.specs.declared.wire.Wire.{Wire}
+use Rattle.section_coupling.specs.Sound.{SoundInput}
 
 -- but for the timers
 abbrev pub untimed_acts : Cell → Input → Section → Section × Acted
@@ -43,3 +45,11 @@ SetsUpOnce _ s = Unit {0}
 -- the data that the cell takes are those of the message that the table of states and events has it for
 abbrev pub TakesData : Cell → Input → Type 0
 TakesData c i = TakesDataOfDt1 c i × TakesItsData c i
+
+-- A section may act by a cell upon this input: it is sound, sets up no section twice and has the data that the cell takes, and what it says to
+-- have left had come in.
+pub record CanAct (c : Cell) (i : Input) (w : Wire) : Type 0 where
+  pub input : SoundInput i
+  pub sets_up : SetsUpOnce c (section_of w.head).state
+  pub takes : TakesData c i
+  pub left : w.head.class ≡ 3 → InputHasCome i w.windows.windows

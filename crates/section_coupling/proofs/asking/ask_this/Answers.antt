@@ -4,8 +4,8 @@ use Rattle.section_coupling.proofs.Alone.{done_alone, asks_settle}
 use Rattle.section_coupling.proofs.HandsCome.{ask-come}
 use Rattle.section_coupling.proofs.asking.ask_this.Goals as goal
 
-pub settle-requires-clause-left : goal.settle-requires-clause-left
-settle-requires-clause-left c =
+pub exchange-requires-clause-left : goal.exchange-requires-clause-left
+exchange-requires-clause-left c =
     let clock = c.args.clock.now in
     let w = c.args.wanting.now in
     ask-come w.ssn w.request.now (end_by clock c.args.this.now) (end_by clock c.args.that.now) _ (c.in_ok-acted.ensures.asks clock.taken)
@@ -16,4 +16,4 @@ returns-clause-asks c =
     let w = c.args.wanting.now in
     let this = end_by clock c.args.this.now in
     let that = end_by clock c.args.that.now in
-    on-ok c.settle.result (λ e. done_alone clock.ticks _ _ that c.args.outs.now _ _ (asks_settle clock.ticks w.ssn w.request.now this that) (c.in_ok-acted.ensures.asks clock.taken) e) c.settle.ensures.settled
+    on-ok c.exchange.result (λ e. done_alone clock.ticks _ _ that c.args.outs.now _ _ (asks_settle clock.ticks w.ssn w.request.now this that) (c.in_ok-acted.ensures.asks clock.taken) e) c.exchange.ensures.exchanged

@@ -7,7 +7,7 @@ use Rattle.section_coupling.proofs.wire.Wire.by_line.Goals as goal
 
 pub begin-requires : goal.begin-requires
 begin-requires c =
-    (line_acted c.args.cell c.args.input.now c.args.self.now.head c.act.new.wire c.args.self.now.line c.act.new.self c.in_ok-acted.acted c.requires.input.0 c.requires.sound.credit c.requires.sets_up c.in_ok-acted.ensures.ok).has
+    (line_acted c.args.cell c.args.input.now c.args.self.now.head c.act.new.wire c.args.self.now.line c.act.new.self c.in_ok-acted.acted c.requires.can.input.0 c.requires.sound.credit c.requires.can.sets_up c.in_ok-acted.ensures.ok).has
 
 pub returns-clause-acts : goal.returns-clause-acts
 returns-clause-acts c now =
@@ -16,8 +16,8 @@ returns-clause-acts c now =
 
 pub returns-clause-sound : goal.returns-clause-sound
 returns-clause-sound c =
-    let acts = line_acted c.args.cell c.args.input.now c.args.self.now.head c.act.new.wire c.args.self.now.line c.act.new.self c.in_ok-acted.acted c.requires.input.0 c.requires.sound.credit c.requires.sets_up c.in_ok-acted.ensures.ok in
-    let within = c.in_ok-acted.ensures.hands c.requires.data.0 in
+    let acts = line_acted c.args.cell c.args.input.now c.args.self.now.head c.act.new.wire c.args.self.now.line c.act.new.self c.in_ok-acted.acted c.requires.can.input.0 c.requires.sound.credit c.requires.can.sets_up c.in_ok-acted.ensures.ok in
+    let within = c.in_ok-acted.ensures.hands c.requires.can.takes.0 in
     let stays : is_set_up c.state-old.result c.act.new.wire ≡ false → (c.act.new.wire.credit ≡ c.args.self.now.head.credit) × (c.act.new.wire.class ≡ c.args.self.now.head.class) = λ e.
     acts.stays (subst (λ s. is_set_up s c.act.new.wire ≡ false) c.state-old.ensures e) in
     let windows = begun-or-same c.state-old.result c.act.new.wire c.begin.new.windows c.args.self.now.windows c.begin.ensures.windows c.requires.sound.windows (λ e. (stays e).0 ∙ sym c.requires.sound.agreed) in (

@@ -3,17 +3,11 @@ use Rattle.section_model.specs.Table.{section_cell}
 use Rattle.section_coupling.specs.Views.{section_by}
 use Rattle.section_coupling.proofs.Composed.{if-ok}
 use Rattle.section_coupling.proofs.Arriving.{heard_by_cell}
-use Rattle.section_coupling.proofs.ByTable.{dt1_arrives, dt2_arrives, ed_arrives}
+use Rattle.section_coupling.proofs.ByTable.{can_hear}
 use Rattle.section_coupling.proofs.wire.Wire.hear.Goals as goal
 
-pub act-requires-clause-data : goal.act-requires-clause-data
-act-requires-clause-data c = (
-  (λ e. dt1_arrives c.args.coming.now.event.now _ _ (ap (λ r. r.arrival) c.requires.arrives) (sym c.section_cell-cell.ensures ∙ e)),
-  (
-    (λ e. dt2_arrives c.args.coming.now.event.now _ _ (ap (λ r. r.arrival) c.requires.arrives) (sym c.section_cell-cell.ensures ∙ e)),
-    (λ e. ed_arrives c.args.coming.now.event.now _ _ (ap (λ r. r.arrival) c.requires.arrives) (sym c.section_cell-cell.ensures ∙ e)),
-  ),
-)
+pub act-requires-clause-can : goal.act-requires-clause-can
+act-requires-clause-can c = can_hear _ _ c.args.coming.now _ c.requires.arrives c.section_cell-cell.ensures c.state.ensures
 
 pub returns-in-None-clause-hears : goal.returns-in-None-clause-hears
 returns-in-None-clause-hears c =

@@ -23,4 +23,4 @@ by_line-requires-clause-class c = sym (c.in_windows.ensures 0) ∙ c.if-in_windo
 
 pub by_windows-requires-clause-left : goal.by_windows-requires-clause-left
 by_windows-requires-clause-left c =
-    c.requires.left (eqb-true c.args.self.now.head.class 3 (and_parts (is_by_class c.args.cell) (c.args.self.now.head.class == 3) (sym (c.in_windows.ensures 0) ∙ c.if-in_windows.true)).1)
+    c.requires.can.left (eqb-true c.args.self.now.head.class 3 (and_parts (is_by_class c.args.cell) (c.args.self.now.head.class == 3) (sym (c.in_windows.ensures 0) ∙ c.if-in_windows.true)).1)
