@@ -10,5 +10,6 @@ pub mod Alone
 pub mod LaterTimers
 pub mod Fitting
 pub mod Opened
+pub mod Wishes
 pub mod Composed
 pub mod Keeping

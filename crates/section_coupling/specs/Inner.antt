@@ -3,3 +3,4 @@ pub mod Idle
 pub mod Comings
 pub mod Alone
 pub mod Sizes
+pub mod Wishes

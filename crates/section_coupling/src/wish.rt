@@ -1,12 +1,13 @@
 //! What an event wants of a connection (Q.714, 3.1): CR from the network, or a user's request.
-ghost use Rattle.std.specs.Prelude.{◌≡◌, ◌%◌, ℕ};
+ghost use Rattle.std.specs.Prelude.{◌≡◌, ◌%◌, ℕ, slice_get};
 ghost use Rattle.std.specs.Option.{option_map};
 ghost use Rattle.plant_core.specs.declared.terms.Terms.{Terms};
 ghost use Rattle.sccp_address.specs.Parsing.{address_of};
-ghost use Rattle.q713_codec.specs.Reading.{seen};
+ghost use Rattle.q713_codec.specs.Reading.{reading_of, seen};
 ghost use Rattle.plant_core.specs.Asking.{seen_ask};
 ghost use Rattle.section_model.specs.UserEnd.{given};
-ghost use Rattle.section_model.specs.Opening.{wish_of_message, wish_of_request, wish_of, may_be_wanted, question_of, asked_for, by_cr};
+ghost use Rattle.section_model.specs.Opening.{wish_of_message, wish_of_reading, wish_of_request, wish_of, may_be_wanted, question_of, asked_for, by_cr};
+ghost use Rattle.section_coupling.specs.Inner.Wishes.{is_of_cr};
 ghost use Rattle.section_coupling.specs.Openings.{is_wish, seen_calling, seen_wanted, seen_wish, UserWithin};
 
 use plant_core::{Ask, MOST_HOPS, Origin};
@@ -14,6 +15,9 @@ use q713_codec::{View, protocol_class, read};
 use relay_base::limits::{GREATEST_CREDIT, LINK_SELECTIONS, LONGEST_DATA, LONGEST_GIVEN_ADDRESS};
 use relay_base::{Event, Octets, Pc, Ref24, Request, Sls, Ssn};
 use sccp_address::parse;
+
+/// The type of CR (Q.713, 2.3).
+const CR: u8 = 0x01;
 
 /// A calling address: none, one that came in a message, or that of a subsystem of this node.
 #[derive(Clone, Copy)]
@@ -165,6 +169,32 @@ fn sls_of(tag: u16) -> Sls
     Sls::new(u32::from(tag) % LINK_SELECTIONS).unwrap()
 }
 
+/// Whether octets begin with the type of CR.
+fn is_of_cr(bytes: &[u8]) -> bool
+    ensures { result ≡ is_of_cr (slice_get bytes.now 0) }
+{
+    match bytes.first() {
+        Some(kind) => *kind == CR,
+        None => false,
+    }
+}
+
+/// What octets want: of the messages CR alone is read.
+#[tactic(auto, using(crate::proofs::Wishes::other_type))]
+fn wish_of_octets(point: Pc, sls: Sls, bytes: &[u8]) -> WishView<'_>
+    ensures value { (terms : Terms) →
+        seen_wish terms result ≡ wish_of_reading terms point sls (reading_of bytes.now) }
+    ensures within { UserWithin result }
+{
+    if !is_of_cr(bytes) {
+        return WishView::NoWish;
+    }
+    match read(bytes) {
+        Ok(view) => wish_of_message(point, sls, &view),
+        Err(_) => WishView::NoWish,
+    }
+}
+
 /// What an event wants.
 #[tactic(auto, unfolding(section_model::specs::Opening::wish_of))]
 pub fn wish_of(event: &Event) -> WishView<'_>
@@ -172,10 +202,7 @@ pub fn wish_of(event: &Event) -> WishView<'_>
     ensures within { UserWithin result }
 {
     match event {
-        Event::Message { opc, sls, bytes } => match read(bytes.as_slice()) {
-            Ok(view) => wish_of_message(*opc, *sls, &view),
-            Err(_) => WishView::NoWish,
-        },
+        Event::Message { opc, sls, bytes } => wish_of_octets(*opc, *sls, bytes.as_slice()),
         Event::Asked { ssn, request } => wish_of_request(*ssn, request),
         Event::Tick => WishView::NoWish,
     }
