@@ -6,9 +6,9 @@ ghost use Rattle.section_class3.specs.Windows.{windows_turn};
 ghost use Rattle.section_model.specs.Views.{section_of};
 ghost use Rattle.section_model.specs.Step.{on_windows, on_each, after_event};
 ghost use Rattle.connection_law.specs.InStep.{AreInStep, IsInStep};
-ghost use Rattle.section_coupling.specs.Views.{section_by, end_at, end_by, connection_by, standing, behind, IsAct, IsEndAct};
+ghost use Rattle.section_coupling.specs.Views.{section_at, section_by, end_at, end_by, connection_by, standing, behind, IsAct, IsEndAct};
 ghost use Rattle.section_coupling.specs.Inner.Alone.{turns_alone};
-ghost use Rattle.section_coupling.specs.Inner.Idle.{is_in_class_3};
+ghost use Rattle.section_coupling.specs.Inner.Idle.{is_in_class_3, has_waiting, is_leave, may_turn};
 ghost use Rattle.section_coupling.specs.Sound.{AreSound, SoundActed, SoundWire, SoundSide, SoundPair};
 
 use crate::clock::Clock;
@@ -27,6 +27,27 @@ fn has_windows(head: &WireHead) -> bool
     head.state() == SectionState::Up && head.class == 3
 }
 
+/// Whether units or expedited data wait on a section.
+fn has_waiting(wire: &Wire) -> bool
+    ensures { (now : ℕ) → result ≡ has_waiting (section_at now wire.now) }
+{
+    wire.windows.waiting_units() > 0 || wire.windows.has_waiting_expedited()
+}
+
+/// Whether it is the part by which they leave.
+fn is_leave(cell: Cell) -> bool
+    ensures { result ≡ is_leave cell }
+{
+    matches!(cell, Cell::Leave)
+}
+
+/// Whether a part of it may do something on a section.
+fn may_turn_section(cell: Cell, wire: &Wire) -> bool
+    ensures { (now : ℕ) → result ≡ may_turn cell (end (section_at now wire.now)) }
+{
+    has_windows(&wire.head) && (!is_leave(cell) || has_waiting(wire))
+}
+
 /// A part of it on a section.
 fn turn_section(alloc: Global, clock: &Clock, cell: Cell, wire: &mut Wire) -> Result<Acted, Memory>
     requires { SoundWire wire.old }
@@ -41,6 +62,16 @@ fn turn_section(alloc: Global, clock: &Clock, cell: Cell, wire: &mut Wire) -> Re
 }
 
 impl Side {
+    /// Whether a part of it may do something on this end.
+    fn may_turn(&self, cell: Cell) -> bool
+        ensures { (now : ℕ) → result ≡ may_turn cell (end_at now self.now) }
+    {
+        match self {
+            Side::Wire(wire) => may_turn_section(cell, wire.get()),
+            Side::User(_) => false,
+        }
+    }
+
     /// A part of it on this end alone.
     fn turn(&mut self, alloc: Global, clock: &Clock, cell: Cell) -> Result<Acted, Memory>
         requires { SoundSide self.old }
@@ -56,6 +87,7 @@ impl Side {
 }
 
 /// A part of it on this end, behind these outputs.
+#[tactic(auto, using(crate::proofs::Idle::none_turns))]
 fn on_this(
     alloc: Global,
     clock: &Clock,
@@ -73,6 +105,9 @@ fn on_this(
     ensures steps { OnOk result
         (AreInStep (end_by clock.now this.new) (end_by clock.now that.new)) }
 {
+    if !this.may_turn(cell) {
+        return Ok(());
+    }
     let acted = this.turn(alloc, clock, cell)?;
     exchange(alloc, clock, TURNS, this, acted, that, outs)
 }
