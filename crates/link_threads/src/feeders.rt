@@ -1,4 +1,4 @@
-//! The feeders at work, each in a thread of its own.
+//! The feeders at work: each in a thread of its own, or one after the other where events come on one link at most.
 ghost use Rattle.std.specs.Prelude.{◌≡◌, ◌<◌, ◌≤◌, true, length, map, All, IfOk};
 ghost use Rattle.std.specs.Thread.{IsSync};
 ghost use Rattle.right_book.specs.Lanes.{LanesFrom};
@@ -45,12 +45,18 @@ impl<'g, L: LaneState, S: Links<L::Event>> Model for Feeder<'g, L, S> {
 }
 
 impl<'g, L: LaneState, S: Links<L::Event>> Feeder<'g, L, S> {
-    /// What one thread does.
+    /// Has memory at hand for what it will deliver.
+    fn prepare(&self)
+        requires { IsReady L.plan self.now }
+    {
+        take_spare(self.alloc, self.links.events(self.link));
+    }
+
+    /// Delivers the events of its link.
     fn run<R: Wait, P: Pace>(&mut self, rt: &R, pace: &P)
         requires { IsReady L.plan self.old }
         ensures { HasRun L.plan self.old self.new }
     {
-        take_spare(self.alloc, self.links.events(self.link));
         let passes = self.passes.as_mut_slice();
         let served = serve(rt, pace, self.doors, self.links, self.link, passes);
         self.ended = served.is_ok();
@@ -89,10 +95,26 @@ fn feeders<'g, L: LaneState, S: Links<L::Event>>(
     Ok(feeders)
 }
 
-/// Each feeder in a thread of its own. All are joined.
+/// Whether events come on more links than one.
+fn are_several<E, S: Links<E>>(links: &S) -> bool
+    requires { length (S.links links.now) ≤ MOST_CALLERS }
+{
+    let mut found = false;
+    for link in 0..links.count() {
+        let has_events = links.events(link as u8) > 0;
+        if found && has_events {
+            return true;
+        }
+        found = found || has_events;
+    }
+    false
+}
+
+/// Each feeder in a thread of its own, where events come on several links. All are joined.
 fn run_all<'g, R: Threads + Wait + Sync, P: Pace, L: LaneState + Send, S: Links<L::Event> + Sync>(
     rt: &R,
     pace: &P,
+    several: bool,
     all: &mut [Feeder<'g, L, S>],
 )
 where
@@ -100,14 +122,24 @@ where
     requires { All (IsReady L.plan) all.old }
     ensures { Beside (HasRun L.plan) all.old all.new }
 {
+    let threads = if several {
+        usize::from(MOST_CALLERS)
+    } else {
+        1
+    };
     thread::for_each_mut(
         rt,
         all,
-        usize::from(MOST_CALLERS),
+        threads,
         &|_: usize, feeder: &mut Feeder<'_, L, S>|
             requires { IsSync P.row × IsReady L.plan feeder.now }
             ensures { HasRun L.plan feeder.entry.now feeder.exit.now }
-        { feeder.run(rt, pace) },
+        {
+            if several {
+                feeder.prepare();
+            }
+            feeder.run(rt, pace)
+        },
     );
 }
 
@@ -147,6 +179,6 @@ where
     ensures { IfOk result (λ v. AreUsed L.plan (S.links links.now) doors.now v.items) }
 {
     let mut all = feeders(alloc, doors, links, hands)?;
-    run_all(rt, pace, all.as_mut_slice());
+    run_all(rt, pace, are_several(links), all.as_mut_slice());
     used_hands(alloc, all)
 }

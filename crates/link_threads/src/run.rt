@@ -17,8 +17,8 @@ use std::alloc::Global;
 use std::sync::Wait;
 use std::thread::Threads;
 
-/// Lanes take what comes on the links: a feeder for each link, in a thread of its own, delivers the events of its link in their order to the lanes in which
-/// they are placed, and all are joined. Where one of them meets want of memory, so does this.
+/// Lanes take what comes on the links: a feeder for each link, in a thread of its own where events come on several, delivers the events of its link in their
+/// order to the lanes in which they are placed, and all are joined. Where one of them meets want of memory, so does this.
 pub fn take_events<
     R: Threads + Wait + Sync,
     P: Pace,
