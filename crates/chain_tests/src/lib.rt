@@ -1,4 +1,4 @@
-//! Nodes in a row: the worked rows of their input and run, two users who give each other texts over eight nodes, and a local reference that comes again.
+//! Nodes in a row: two users who give each other texts over eight nodes, and a local reference that comes again.
 #![tactic(auto)]
 
 #[cfg(test)]
@@ -9,5 +9,3 @@ mod row;
 mod same;
 #[cfg(test)]
 mod texts;
-#[cfg(test)]
-mod worked;

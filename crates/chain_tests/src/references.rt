@@ -11,13 +11,13 @@ fn unanswered(alloc: Global) -> Result<String, Fail> {
     Ok(format!(in alloc; "u 1 conn 5 2 0 -\n{ticks}")?)
 }
 
-/// Whether the references of so many such connections are all new, and how many there were.
+/// Whether the references of so many such connections are all new, and how often the user of node 1 was told something.
 fn run_so_many(alloc: Global, count: usize) -> Result<(bool, usize), Fail> {
     let one = unanswered(alloc)?;
     let all = one.as_str().repeat(alloc, count)?;
     let lines = format!(in alloc; "nodes 2\n{all}")?;
-    let (row, came) = run_of(alloc, lines.as_str())?;
-    Ok((row.is_fresh(), came.len()))
+    let (row, told) = run_of(alloc, lines.as_str())?;
+    Ok((row.is_fresh(), told))
 }
 
 /// The 256th that takes a slot has the reference of the first.

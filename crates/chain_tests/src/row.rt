@@ -5,7 +5,7 @@ ghost use Rattle.chain_step.specs.Steps.{is_step};
 
 use chain_form::{ChainInput, StepLine, read_chain};
 use chain_step::Step;
-use relay_base::{Memory, Tell};
+use relay_base::Memory;
 use relay_chain::{Chain, TellList};
 use std::alloc::Global;
 use std::marker::Model;
@@ -63,11 +63,6 @@ impl Row {
         self.chain.fresh()
     }
 
-    /// How many messages wait between neighbours.
-    pub fn waiting(&self) -> u128 {
-        self.chain.waiting()
-    }
-
     pub fn nodes(&self) -> u8
         ensures { result ≡ self.now }
     {
@@ -86,40 +81,21 @@ impl Row {
     }
 }
 
-/// What comes of a step that a line states: the number of the line, a node, and what its user is told; nothing where nothing waited to pass from it.
-pub type Came = (u32, u8, Option<Tell>);
-
-/// The node from which a step passes a message.
-fn node_of(step: &Step) -> u8 {
-    match step {
-        Step::Ask { node, request: _ } => *node,
-        Step::Pass { node, forward: _ } => *node,
-        Step::Tick { node } => *node,
-    }
-}
-
-/// Takes the step of a line, and puts what comes of it behind what came before.
-fn take_line(
-    alloc: Global,
-    row: &mut Row,
-    line: &StepLine,
-    came: &mut Vec<Came>,
-) -> Result<(), Fail>
+/// Takes the step of a line, by which a message passes if one is to, and counts what users are told.
+fn take_line(alloc: Global, row: &mut Row, line: &StepLine, told: &mut usize) -> Result<(), Fail>
     requires step { IsTrue (is_step row.old line.now.step) }
     ensures { row.new ≡ row.old }
 {
     let mut tells = TellList::new(alloc);
     if !row.step(&line.step, &mut tells)? {
-        came.push((line.line, node_of(&line.step), None))?;
+        return Err("nothing waits to pass".into());
     }
-    for (node, tell) in tells.as_slice() {
-        came.push((line.line, *node, Some(tell.clone()?)))?;
-    }
+    *told = told.saturating_add(tells.as_slice().len());
     Ok(())
 }
 
-/// Takes the steps of an input, and puts what comes of them behind what came before.
-pub fn take_lines(alloc: Global, input: &ChainInput, came: &mut Vec<Came>) -> Result<Row, Fail>
+/// Takes the steps of an input, and counts what users are told.
+pub fn take_lines(alloc: Global, input: &ChainInput, told: &mut usize) -> Result<Row, Fail>
     requires least { 2 ≤ input.now.nodes }
     requires most { input.now.nodes ≤ 8 }
     requires steps { AreSteps input.now.nodes input.now.steps }
@@ -127,17 +103,17 @@ pub fn take_lines(alloc: Global, input: &ChainInput, came: &mut Vec<Came>) -> Re
 {
     let mut row = Row::new(alloc, input.nodes)?;
     for line in input.steps.as_slice() {
-        take_line(alloc, &mut row, line, came)?;
+        take_line(alloc, &mut row, line, told)?;
     }
     Ok(row)
 }
 
-/// The run of an input, with what comes of its steps.
-pub fn run_of(alloc: Global, text: &str) -> Result<(Row, Vec<Came>), Fail> {
+/// The run of an input, and how often users are told something by its steps.
+pub fn run_of(alloc: Global, text: &str) -> Result<(Row, usize), Fail> {
     let Ok(input) = read_chain(alloc, text.as_bytes()) else {
         return Err("not read".into());
     };
-    let mut came = Vec::new(alloc);
-    let row = take_lines(alloc, &input, &mut came)?;
-    Ok((row, came))
+    let mut told = 0usize;
+    let row = take_lines(alloc, &input, &mut told)?;
+    Ok((row, told))
 }

@@ -1,10 +1,10 @@
-//! Words, messages and addresses: outside vectors, and each public function once. The least messages and what is hostile of them are
-//! there for tests of whole captures too.
+//! Words, messages and addresses: outside vectors, and each public function once.
 #![tactic(auto)]
 
 #[cfg(test)]
 mod addresses;
-pub mod least;
+#[cfg(test)]
+mod least;
 #[cfg(test)]
 mod messages;
 #[cfg(test)]

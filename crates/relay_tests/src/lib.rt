@@ -1,25 +1,9 @@
-//! Whole captures and their prints, refusals with their notes, and devices that fail, over memory.
+//! Calls over memory, where a run of the program can't show it: devices of few octets a call, devices that fail, and links that are held.
 #![tactic(auto)]
 
 #[cfg(test)]
-mod audits;
-#[cfg(test)]
-mod captures;
-#[cfg(test)]
-mod connections;
-#[cfg(test)]
-mod groups;
-#[cfg(test)]
-mod hostile;
+mod devices;
 #[cfg(test)]
 mod paces;
 #[cfg(test)]
-mod rows;
-#[cfg(test)]
 mod running;
-#[cfg(test)]
-mod slots;
-#[cfg(test)]
-mod streams;
-#[cfg(test)]
-mod texts;

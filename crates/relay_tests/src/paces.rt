@@ -1,7 +1,6 @@
 //! Links that run at the same time, and edits that are seen within their phase.
 
 use crate::running::{SOUND, assert_left, call_at};
-use crate::texts::TITLE;
 use relay_base::Pace;
 use std::sync::atomic::{AtomicBool, Ordering};
 use std::test::Fail;
@@ -135,8 +134,17 @@ impl Pace for Order {
     }
 }
 
-/// Two edits of a row, with a unit and an opening behind each, in one phase, after `TITLE`.
-pub const EDITS: &str = "e add 4 0 1 4 4917 400/8/s
+/// Two edits of a row that sends titles of digits 49 to point 300, with a unit and an opening behind each, in one phase.
+const EDITS: &str = "point = 100
+users = [8]
+[[row]]
+gti = 4
+np = 1
+nai = 4
+digits = \"49\"
+first = \"300/8/s\"
+%%
+e add 4 0 1 4 4917 400/8/s
 m 1 200 5 0900030b0d08120800120494712102420601aa
 m 1 200 4 01070000020200081208001204947121
 e del 4 0 1 4 4917
@@ -144,7 +152,7 @@ m 1 200 5 0900030b0d08120800120494712102420601aa
 m 1 200 4 01080000020200081208001204947121
 ";
 
-pub const EDITS_PRINTED: &str = "= control
+const EDITS_PRINTED: &str = "= control
 1.0.10 new e1
 1.0.13 new e2
 = conn 0
@@ -165,9 +173,8 @@ fn edits_within_a_phase(rt: HostRuntime) -> Result<(), Fail> {
     let order = Order {
         holds: [held(11, 10), held(13, 12), held(14, 13)],
     };
-    let alloc = rt.alloc();
-    let text = format!(in alloc; "{TITLE}{EDITS}")?;
-    let ran = call_at(&rt, alloc, &["run"], text.as_bytes(), [SOUND; 3], &order)?;
+    let text = EDITS.as_bytes();
+    let ran = call_at(&rt, rt.alloc(), &["run"], text, [SOUND; 3], &order)?;
     assert_left(&rt, &ran, 0, EDITS_PRINTED.as_bytes(), b"");
     for hold in &order.holds {
         assert!(rt; hold.passed.load(Ordering::SeqCst));

@@ -107,28 +107,3 @@ pub fn assert_left<R: Abort>(rt: &R, ran: &Ran, status: u8, out: &[u8], notes: &
     assert_eq!(rt; ran.out.as_slice(), out);
     assert_eq!(rt; ran.notes.as_slice(), notes);
 }
-
-/// Runs words and an input over sound devices, and compares what they leave.
-pub fn assert_run<R: Threads + Wait + Sync + Abort>(
-    rt: &R,
-    alloc: Global,
-    words: &[&str],
-    text: &str,
-    left: (u8, &str, &str),
-) -> Result<(), AllocError> {
-    let (status, out, notes) = left;
-    let ran = call(rt, alloc, words, text.as_bytes(), [SOUND; 3])?;
-    assert_left(rt, &ran, status, out.as_bytes(), notes.as_bytes());
-    Ok(())
-}
-
-/// How many lines of a print begin so.
-pub fn count_of(print: &[u8], start: &[u8]) -> usize {
-    let mut count = 0usize;
-    for line in print.split(|byte| *byte == b'\n') {
-        if line.starts_with(start) {
-            count = count.saturating_add(1);
-        }
-    }
-    count
-}
