@@ -95,21 +95,6 @@ fn feeders<'g, L: LaneState, S: Links<L::Event>>(
     Ok(feeders)
 }
 
-/// Whether events come on more links than one.
-fn are_several<E, S: Links<E>>(links: &S) -> bool
-    requires { length (S.links links.now) ≤ MOST_CALLERS }
-{
-    let mut found = false;
-    for link in 0..links.count() {
-        let has_events = links.events(link as u8) > 0;
-        if found && has_events {
-            return true;
-        }
-        found = found || has_events;
-    }
-    false
-}
-
 /// Each feeder in a thread of its own, where events come on several links. All are joined.
 fn run_all<'g, R: Threads + Wait + Sync, P: Pace, L: LaneState + Send, S: Links<L::Event> + Sync>(
     rt: &R,
@@ -179,6 +164,6 @@ where
     ensures { IfOk result (λ v. AreUsed L.plan (S.links links.now) doors.now v.items) }
 {
     let mut all = feeders(alloc, doors, links, hands)?;
-    run_all(rt, pace, are_several(links), all.as_mut_slice());
+    run_all(rt, pace, links.are_several(), all.as_mut_slice());
     used_hands(alloc, all)
 }

@@ -38,6 +38,9 @@ pub trait Links<E> {
         ensures { let events = link_at (links self.now) link in
             (d : _) → result ≡ (slice_index_or events number d).event };
 
-    /// Makes beforehand what a lane needs of an event, so that less is done in its turn.
+    /// Whether events come on more links than one.
+    fn are_several(&self) -> bool;
+
+    /// Makes beforehand what a lane needs of an event, so that less is done in its turn, for which other links may wait.
     fn prepare(&self, event: &E) -> Result<(), Memory>;
 }

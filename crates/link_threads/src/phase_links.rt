@@ -15,6 +15,7 @@ use std::marker::Model;
 pub struct PhaseLinks<'p> {
     head: &'p Head,
     phase: &'p Phase,
+    several: bool,
 }
 
 impl<'p> Model for PhaseLinks<'p> {
@@ -36,7 +37,13 @@ impl<'p> PhaseLinks<'p> {
         requires { IsHead head.now }
         ensures { result ≡ links_of head.now phase.now }
     {
-        PhaseLinks { head, phase }
+        let links = phase.as_slice().iter();
+        let used = links.filter(|events| !events.is_empty()).count();
+        PhaseLinks {
+            head,
+            phase,
+            several: used > 1,
+        }
     }
 }
 
@@ -65,7 +72,15 @@ impl<'p> Links<Given<'p>> for PhaseLinks<'p> {
         Given::new(event)
     }
 
+    fn are_several(&self) -> bool {
+        self.several
+    }
+
     fn prepare(&self, event: &Given<'p>) -> Result<(), Memory> {
-        event.prepare()
+        if self.several {
+            event.prepare()
+        } else {
+            Ok(())
+        }
     }
 }
