@@ -21,7 +21,7 @@ use relay_base::limits::MOST_BYTES;
 use std::alloc::Global;
 
 /// What a capture holds.
-#[derive(PartialEq, Eq, Drop)]
+#[derive(Drop)]
 pub struct Capture {
     pub head: Head,
     pub phases: PhaseList,
@@ -68,8 +68,9 @@ fn take_lines(
     requires links { length read.old.current ≡ head.now.links + 1 }
     ensures { Takes read.new result (lines_taken head.now read.old lines.old) }
 {
+    let mut words = Vec::new(alloc);
     while let Some(line) = lines.next() {
-        take_line(alloc, head, read, line)?;
+        take_line(alloc, head, read, line, &mut words)?;
     }
     Ok(())
 }

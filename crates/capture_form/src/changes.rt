@@ -189,11 +189,10 @@ fn change_of(head: &Head, first: &[u8], words: &[&[u8]]) -> Result<Change, LineK
 }
 
 /// A change alone, as an event.
-pub fn alone(alloc: Global, change: Change) -> Result<ControlEvent, Memory>
-    ensures { IfOk result (λ event. event ≡ ControlEvent.Change (alone change)) }
+pub fn alone(alloc: Global, change: Change) -> ControlEvent
+    ensures { result ≡ ControlEvent.Change (alone change) }
 {
-    let group = Group::of(alloc, change)?;
-    Ok(ControlEvent::Change(group))
+    ControlEvent::Change(Group::of(alloc, change))
 }
 
 /// A status line, which is a change alone.
@@ -207,7 +206,7 @@ pub fn change_form(
     ensures link { IfOk result (λ e. e.0 ≡ 0) }
 {
     match change_of(head, first, words) {
-        Ok(change) => Ok((0, alone(alloc, change)?)),
+        Ok(change) => Ok((0, alone(alloc, change))),
         Err(kind) => Err(LineRefused::Kind(kind)),
     }
 }
@@ -224,6 +223,6 @@ impl OpenGroup {
     pub fn put(&mut self, change: Change) -> Result<(), Memory>
         ensures { OnOk result (self.new ≡ with_change change self.old) }
     {
-        self.changes.extend(&[change])
+        self.changes.push(change)
     }
 }

@@ -10,7 +10,7 @@ use std::str;
 use thiserror::Error;
 
 /// What is wrong with a line.
-#[derive(Clone, Copy, Debug, PartialEq, Eq)]
+#[derive(Clone, Copy, Debug)]
 pub enum LineKind {
     /// No form has these words, or not so many.
     Words,
@@ -35,7 +35,7 @@ pub enum LineKind {
 }
 
 /// What is wrong with which line, counted from 1 over the whole input.
-#[derive(Clone, Copy, Debug, PartialEq, Eq, Error)]
+#[derive(Clone, Copy, Debug, Error)]
 #[error("line {line} {word}", word = line_word(*.kind))]
 pub struct LineFault {
     pub line: u32,
@@ -43,7 +43,7 @@ pub struct LineFault {
 }
 
 /// What there is too much of.
-#[derive(Clone, Copy, Debug, PartialEq, Eq)]
+#[derive(Clone, Copy, Debug)]
 pub enum Limit {
     /// More than 67,108,864 bytes.
     Bytes,
@@ -56,7 +56,7 @@ pub enum Limit {
 }
 
 /// Why a capture is not read.
-#[derive(Debug, PartialEq, Eq, Drop, Error)]
+#[derive(Debug, Drop, Error)]
 pub enum CaptureFault {
     #[error("head {word} {key}", word = head_word(.0.kind), key = key_text(&.0.key))]
     Head(HeadFault),

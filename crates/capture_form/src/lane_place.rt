@@ -12,7 +12,7 @@ use relay_base::{Event, Pc, Ref24, Request, Sls};
 use scmg_messages::is_for_management;
 
 /// A lane: all of them, the control lane, or the connection lane or data lane of a number, from 0.
-#[derive(Clone, Copy, Debug, PartialEq, Eq)]
+#[derive(Clone, Copy)]
 pub enum LanePlace {
     All,
     Control,

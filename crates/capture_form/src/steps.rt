@@ -233,8 +233,7 @@ fn take_edit(alloc: Global, read: &mut Reading, change: Change) -> Result<(), Me
     if let Some(group) = &mut read.group {
         return group.put(change);
     }
-    let event = alone(alloc, change)?;
-    put_event(alloc, read, 0, event)
+    put_event(alloc, read, 0, alone(alloc, change))
 }
 
 /// Begins a group at this line.
@@ -315,11 +314,12 @@ fn take_event(
 
 /// Reads a line.
 #[tactic(auto, unfolding(crate::specs::Inner::Reader::line_taken))]
-pub fn take_line(
+pub fn take_line<'a>(
     alloc: Global,
     head: &Head,
     read: &mut Reading,
-    line: &[u8],
+    line: &'a [u8],
+    words: &mut Vec<&'a [u8]>,
 ) -> Result<(), CaptureFault>
     requires line { read.old.line + 1 < 2 ^ 32 }
     requires links { length read.old.current ≡ head.now.links + 1 }
@@ -330,7 +330,7 @@ pub fn take_line(
         read.line += 1;
         return Ok(());
     }
-    let words = split_words(alloc, line)?;
+    split_words(words, line)?;
     if begins(b"w", words.as_slice()) {
         take_barrier(alloc, head, read, words.as_slice())
     } else {

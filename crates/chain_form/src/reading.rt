@@ -70,7 +70,8 @@ fn first_line(alloc: Global, line: &[u8]) -> Result<u8, ChainFault>
     ensures value { Reads result (at_line 1 (nodes_of (words line.now))) }
     ensures nodes { IfOk result (λ n. IsWithin LEAST_NODES n MOST_NODES) }
 {
-    let words = split_words(alloc, line)?;
+    let mut words = Vec::new(alloc);
+    split_words(&mut words, line)?;
     match nodes_of(words.as_slice()) {
         Ok(nodes) => Ok(nodes),
         Err(kind) => Err(ChainFault::Line(LineFault { line: 1, kind })),
@@ -82,7 +83,8 @@ fn step_at(alloc: Global, nodes: u8, number: u32, line: &[u8]) -> Result<Step, C
     ensures value { Reads result (at_line number (step_of nodes (words line.now))) }
     ensures step { IfOk result (λ step. IsTrue (is_step nodes step)) }
 {
-    let words = split_words(alloc, line)?;
+    let mut words = Vec::new(alloc);
+    split_words(&mut words, line)?;
     match step_of(alloc, nodes, words.as_slice()) {
         Ok(step) => Ok(step),
         Err(LineRefused::Kind(kind)) => Err(ChainFault::Line(LineFault { line: number, kind })),

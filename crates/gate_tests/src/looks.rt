@@ -27,8 +27,8 @@ fn publish_ten<'r, R: Wait>(
 {
     let mut publisher = publisher;
     let user = Ssn::from(8);
-    let down = Group::of(alloc, Change::LocalDown(user))?;
-    let up = Group::of(alloc, Change::LocalUp(user))?;
+    let down = Group::of(alloc, Change::LocalDown(user));
+    let up = Group::of(alloc, Change::LocalUp(user));
     for _ in 0..5u32 {
         publisher.publish(&down)?;
         publisher.publish(&up)?;

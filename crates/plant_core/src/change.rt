@@ -1,12 +1,12 @@
 //! Changes of the routing data.
-ghost use Rattle.std.specs.Prelude.{◌≡◌, count_by, IfOk};
+ghost use Rattle.std.specs.Prelude.{◌≡◌, count_by};
 ghost use Rattle.plant_core.specs.Changes.{alone, adds_row, bars_subsystem};
 
+use crate::change_list::ChangeList;
 use gtt_table::Row;
-use relay_base::{Digits, Memory, Pc, PlainList, Ssn};
+use relay_base::{Digits, Pc, Ssn};
 use sccp_address::Selector;
 use std::alloc::Global;
-use std::slice;
 
 /// A single change of the routing data.
 #[derive(Clone, Copy, PartialEq, Eq)]
@@ -29,9 +29,6 @@ pub enum Change {
     LocalDown(Ssn),
 }
 
-/// Changes, in order.
-pub type ChangeList = PlainList<Change>;
-
 /// Changes of the routing data that are made together, in order. Each edition is one group, whole.
 #[derive(Clone, PartialEq, Eq, Drop)]
 pub struct Group {
@@ -40,12 +37,12 @@ pub struct Group {
 
 impl Group {
     /// The group of one change.
-    pub fn of(alloc: Global, change: Change) -> Result<Group, Memory>
-        ensures { IfOk result (λ group. group ≡ alone change) }
+    pub fn of(alloc: Global, change: Change) -> Group
+        ensures { result ≡ alone change }
     {
-        Ok(Group {
-            changes: ChangeList::from_slice(alloc, slice::from_ref(&change))?,
-        })
+        Group {
+            changes: ChangeList::of(alloc, change),
+        }
     }
 
     /// How many rows it adds.
@@ -73,7 +70,7 @@ impl Group {
 
 /// What a change, or a group of them, would do: alter the routing data; nothing, since the status is there already;
 /// or nothing, since the row is there already, 4,096 rows are there, or no such row is.
-#[derive(Clone, Copy, Debug, PartialEq, Eq)]
+#[derive(Clone, Copy)]
 pub enum Verdict {
     Alters,
     Same,

@@ -195,7 +195,7 @@ impl Context<'_> {
             let kept = self.now.kept.now.control
             in IfOk result (λ effect. effect ≡ announced head kept change) }
     {
-        let group = Group::of(self.alloc, change)?;
+        let group = Group::of(self.alloc, change);
         match self.kept.plant().verdict(&group) {
             Verdict::Alters => self.publishes(group),
             _ => Ok(Effect::quiet(self.alloc)),
