@@ -12,7 +12,7 @@ use relay_base::{Octets, Pc, Sink, write_all};
 use std::alloc::Global;
 
 /// What is written of a book.
-#[derive(Clone, Copy, Debug, PartialEq, Eq)]
+#[derive(Clone, Copy)]
 pub enum Report {
     /// Its print.
     Print,

@@ -15,7 +15,7 @@ use relay_base::{ReadAllFault, Source, read_all};
 use std::alloc::Global;
 
 /// What an input is made of.
-#[derive(Clone, Copy, Debug, PartialEq, Eq)]
+#[derive(Clone, Copy)]
 pub enum Form {
     /// A head, and lines.
     Lines,

@@ -1,7 +1,7 @@
 //! What the words ask for.
 
 /// A command.
-#[derive(Clone, Copy, Debug, PartialEq, Eq)]
+#[derive(Clone, Copy)]
 pub enum Command {
     /// Run the capture that is read.
     Run,

@@ -32,12 +32,22 @@ use std::marker::Model;
 pub type RefList = PlainList<Ref24>;
 
 /// The store of the connections of a lane; its slots; and for each slot the connection an end of which has it.
-#[derive(Drop)]
 pub struct Openings<S: Store> {
     alloc: Global,
     store: S,
     slots: Slots,
     index: Index,
+}
+
+impl<S: Store> Drop for Openings<S> {
+    fn drop(self) {
+        let Self {
+            alloc: _,
+            store: _store,
+            slots: _slots,
+            index: _index,
+        } = self;
+    }
 }
 
 impl<S: Store> Model for Openings<S> {

@@ -11,12 +11,21 @@ use std::collections::HashMap;
 use std::marker::Model;
 
 /// The connections that aren't over, each in a place of its own, which is given to another once it is over; and how many were opened.
-#[derive(Drop)]
 pub struct Connections {
     placed: Slab<Placed>,
     /// The place of each, by its number.
     places: HashMap<usize, usize>,
     opened: usize,
+}
+
+impl Drop for Connections {
+    fn drop(self) {
+        let Self {
+            placed: _placed,
+            places: _places,
+            opened: _,
+        } = self;
+    }
 }
 
 impl Model for Connections {

@@ -9,7 +9,7 @@ use sccp_address::Selector;
 use std::cmp::Ordering;
 
 /// Where a translation leads: a point, a subsystem where it names one, and whether the address goes on routing on it.
-#[derive(Clone, Copy, Debug, PartialEq, Eq)]
+#[derive(Clone, Copy, PartialEq, Eq)]
 pub struct Entity {
     pub point: Pc,
     pub ssn: Option<Ssn>,
@@ -17,7 +17,7 @@ pub struct Entity {
 }
 
 /// A row of the translation (Q.714, 2.4): the titles of this selector whose digits begin with this prefix lead to the first entity that is available.
-#[derive(Clone, Copy, Debug, PartialEq, Eq)]
+#[derive(Clone, Copy, PartialEq, Eq)]
 pub struct Row {
     pub selector: Selector,
     pub prefix: Digits,

@@ -15,12 +15,20 @@ use std::marker::Model;
 
 /// Rows of which no two have one selector and one prefix, at most 4,096. Memory for more can be taken first.
 /// A clause sees them in the order in which they were added.
-#[derive(Drop)]
 pub struct Table {
     /// The rows by selector and prefix.
     rows: Vec<Row>,
     /// The rows in the order in which they were added.
     added: Mark<PlainList<Row>>,
+}
+
+impl Drop for Table {
+    fn drop(self) {
+        let Self {
+            rows: _rows,
+            added: _added,
+        } = self;
+    }
 }
 
 impl Model for Table {
@@ -48,7 +56,7 @@ pub enum Look<'a> {
 }
 
 /// Why a row isn't added: one with its selector and prefix is there, 4,096 rows are there, or memory ran out.
-#[derive(Clone, Copy, Debug, PartialEq, Eq)]
+#[derive(Clone, Copy)]
 pub enum AddFault {
     Duplicate,
     RowsFull,
@@ -56,7 +64,7 @@ pub enum AddFault {
 }
 
 /// No row has this selector and this prefix.
-#[derive(Clone, Copy, Debug, PartialEq, Eq)]
+#[derive(Clone, Copy)]
 pub struct NoSuchRow;
 
 /// A key whose row goes.

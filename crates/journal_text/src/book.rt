@@ -9,7 +9,7 @@ use relay_base::{Memory, Octets, StdSink};
 use std::alloc::Global;
 
 /// The journals of the control lane, the connection lanes and the data lanes.
-#[derive(PartialEq, Eq, Drop)]
+#[derive(Drop)]
 pub struct Book {
     pub control: ControlList,
     pub conns: JournalList,

@@ -21,7 +21,7 @@ use std::alloc::{AllocError, Global};
 const LONG: usize = 65_536;
 
 /// Why a print was not written to its end: the sink failed, or memory ran out.
-#[derive(Clone, Copy, Debug, PartialEq, Eq)]
+#[derive(Clone, Copy)]
 pub enum WriteFault {
     Sink,
     Memory,

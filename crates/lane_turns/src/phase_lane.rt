@@ -16,9 +16,14 @@ use std::marker::Model;
 use std::sync::Wait;
 
 /// A lane of a phase.
-#[derive(Drop)]
 pub struct PhaseLane<'r, R: Wait> {
     kind: LaneKind<'r, R>,
+}
+
+impl<'r, R: Wait> Drop for PhaseLane<'r, R> {
+    fn drop(self) {
+        let Self { kind: _kind } = self;
+    }
 }
 
 impl<'r, R: Wait> Model for PhaseLane<'r, R> {

@@ -1,7 +1,7 @@
 //! The events of a link are delivered.
-ghost use Rattle.std.specs.Prelude.{◌≡◌, ◌+◌, ◌<◌, true, length, slice_index_or, OnOk};
+ghost use Rattle.std.specs.Prelude.{◌≡◌, ◌+◌, ◌<◌, length, slice_index_or, OnOk};
 ghost use Rattle.link_threads.specs.Pairs.{Beside};
-ghost use Rattle.link_threads.specs.Links.{IsStamped, is_in, link_at};
+ghost use Rattle.link_threads.specs.Links.{IsStamped, link_at};
 ghost use Rattle.link_threads.specs.Gates.{HasFed};
 
 use crate::door::Door;
@@ -11,35 +11,7 @@ use lane_gate::{LaneState, Pass};
 use relay_base::{Memory, Pace, Stamp};
 use std::sync::Wait;
 
-/// An event of a link, with its stamp and its place, is delivered to a lane in which it is placed. It is made ready for such a lane alone.
-fn deliver_placed<R: Wait, L: LaneState, S: Links<L::Event>>(
-    rt: &R,
-    door: &Door<L>,
-    links: &S,
-    link: u8,
-    number: usize,
-    at: (Stamp, LanePlace),
-    pass: &mut Pass,
-) -> Result<(), Memory>
-    requires number { number < length (link_at (S.links links.now) link) }
-    requires stamped { IsStamped link (link_at (S.links links.now) link) }
-    requires stamp { let events = link_at (S.links links.now) link in
-        (d : _) → at.0 ≡ (slice_index_or events number d).stamp }
-    requires place { let events = link_at (S.links links.now) link in
-        (d : _) → at.1 ≡ (slice_index_or events number d).place }
-    requires placed { is_in door.now.name at.1 ≡ true }
-    requires ready { let events = link_at (S.links links.now) link in
-        HasFed L.plan link events number door.now pass.old }
-    ensures { let events = link_at (S.links links.now) link in
-        OnOk result (HasFed L.plan link events (number + 1) door.now pass.new) }
-{
-    let (stamp, _) = at;
-    let event = links.event(link, number);
-    links.prepare(&event)?;
-    door.gate.deliver(rt, pass, stamp, event)
-}
-
-/// An event of a link, with its stamp and its place, is delivered to a lane, where it is placed there.
+/// An event of a link, with its stamp and its place, is delivered to a lane, where it is placed there. It is made ready for such a lane alone.
 fn deliver_to<R: Wait, L: LaneState, S: Links<L::Event>>(
     rt: &R,
     door: &Door<L>,
@@ -60,10 +32,13 @@ fn deliver_to<R: Wait, L: LaneState, S: Links<L::Event>>(
     ensures { let events = link_at (S.links links.now) link in
         OnOk result (HasFed L.plan link events (number + 1) door.now pass.new) }
 {
-    if !door.name.has(at.1) {
+    let (stamp, place) = at;
+    if !door.name.has(place) {
         return Ok(());
     }
-    deliver_placed(rt, door, links, link, number, at, pass)
+    let event = links.event(link, number);
+    links.prepare(&event)?;
+    door.gate.deliver(rt, pass, stamp, event)
 }
 
 /// An event of a link is delivered to the lanes in which it is placed.

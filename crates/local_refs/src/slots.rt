@@ -32,7 +32,7 @@ fn next_generation(generation: Generation) -> Generation
 }
 
 /// All slots are held or frozen.
-#[derive(Clone, Copy, Debug, PartialEq, Eq)]
+#[derive(Clone, Copy)]
 pub struct Full;
 
 /// The 4,095 slots of a lane.

@@ -7,7 +7,7 @@ ghost use Rattle.local_refs.specs.Inner.Swept.{swept, swept_all, soonest_in, lef
 pub(crate) const LONGEST: u64 = 4_294_967_295;
 
 /// Whether a slot is free, held by a side of a connection, or frozen with so many ticks left, 1 and more.
-#[derive(Clone, Copy, Debug, PartialEq, Eq)]
+#[derive(Clone, Copy)]
 pub enum SlotState {
     Free,
     Held,

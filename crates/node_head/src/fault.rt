@@ -7,7 +7,7 @@ use std::alloc::{AllocError, AllocFailed};
 use thiserror::Error;
 
 /// What is wrong with a key.
-#[derive(Clone, Copy, Debug, PartialEq, Eq)]
+#[derive(Clone, Copy, Debug)]
 pub enum HeadKind {
     End,
     Text,
@@ -18,7 +18,7 @@ pub enum HeadKind {
 }
 
 /// What is wrong with a head, and at which key.
-#[derive(Debug, PartialEq, Eq, Drop, Error)]
+#[derive(Debug, Drop, Error)]
 #[error("{kind:?} at {key:?}")]
 pub struct HeadFault {
     pub kind: HeadKind,
@@ -26,7 +26,7 @@ pub struct HeadFault {
 }
 
 /// Why a head is not read.
-#[derive(Debug, PartialEq, Eq, Drop, Error)]
+#[derive(Debug, Drop, Error)]
 pub enum HeadRefused {
     #[error(transparent)]
     Fault(HeadFault),

@@ -16,7 +16,6 @@ pub const GREATEST_USER: u8 = 254;
 pub type RowList = PlainList<Row>;
 
 /// What the head of a capture states.
-#[derive(PartialEq, Eq, Drop)]
 pub struct Head {
     /// The own point code.
     pub point: Pc,
@@ -42,8 +41,26 @@ pub struct Head {
     pub short: PcList,
 }
 
+impl Drop for Head {
+    fn drop(self) {
+        let Self {
+            point: _,
+            users: _users,
+            conn_lanes: _,
+            data_lanes: _,
+            links: _,
+            credit: _,
+            concerned: _concerned,
+            timers: _,
+            row: _row,
+            replicate: _replicate,
+            short: _short,
+        } = self;
+    }
+}
+
 /// How many lanes and links a head states, and its greatest credit.
-#[derive(Clone, Copy, Debug, PartialEq, Eq)]
+#[derive(Clone, Copy)]
 pub struct Counts {
     pub conn_lanes: u8,
     pub data_lanes: u8,

@@ -14,14 +14,14 @@ use std::alloc::Global;
 use toml::{Table, Value};
 
 /// Which array of tables.
-#[derive(Clone, Copy, Debug, PartialEq, Eq)]
+#[derive(Clone, Copy)]
 pub enum TableArray {
     Rows,
     Replicates,
 }
 
 /// Which table of a head: the top level, that of the timers, or one of an array, counted from 1.
-#[derive(Clone, Copy, Debug, PartialEq, Eq)]
+#[derive(Clone, Copy)]
 pub enum Place {
     Top,
     Timers,
@@ -29,7 +29,7 @@ pub enum Place {
 }
 
 /// The range of an integer, and what it is where its key is absent.
-#[derive(Clone, Copy, Debug, PartialEq, Eq)]
+#[derive(Clone, Copy)]
 pub struct Bounds {
     pub default: Option<u32>,
     pub least: u32,

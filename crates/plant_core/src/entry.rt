@@ -6,14 +6,13 @@ use crate::change::Group;
 use relay_base::{Event, Outs, PlainList, Stamp};
 
 /// A routing, with the edition of the routing data that it read.
-#[derive(Clone, Copy, PartialEq, Eq)]
+#[derive(Clone, Copy)]
 pub struct Asked {
     pub edition: u64,
     pub answer: Answer,
 }
 
 /// What a lane did with one event: the routing where it asked for one, and what came of it.
-#[derive(PartialEq, Eq, Drop)]
 pub struct Entry {
     pub stamp: Stamp,
     pub event: Event,
@@ -21,8 +20,19 @@ pub struct Entry {
     pub outs: Outs,
 }
 
+impl Drop for Entry {
+    fn drop(self) {
+        let Self {
+            stamp: _,
+            event: _event,
+            asked: _asked,
+            outs: _outs,
+        } = self;
+    }
+}
+
 /// What the control lane takes.
-#[derive(Clone, PartialEq, Eq, Drop)]
+#[derive(Clone, Drop)]
 pub enum ControlEvent {
     Plain(Event),
     /// Changes that are made together.
@@ -30,12 +40,22 @@ pub enum ControlEvent {
 }
 
 /// What the control lane did with one event: the number of the edition that it published, where it did, and what came of it.
-#[derive(PartialEq, Eq, Drop)]
 pub struct ControlEntry {
     pub stamp: Stamp,
     pub event: ControlEvent,
     pub published: Option<u64>,
     pub outs: Outs,
+}
+
+impl Drop for ControlEntry {
+    fn drop(self) {
+        let Self {
+            stamp: _,
+            event: _event,
+            published: _published,
+            outs: _outs,
+        } = self;
+    }
 }
 
 /// The journal of a lane.

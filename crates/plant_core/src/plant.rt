@@ -19,7 +19,6 @@ use std::marker::Model;
 
 /// The routing data of a node: its point and users, the rows of the translation, and which points, subsystems of other points
 /// and users are out of service; with the number of the edition.
-#[derive(Drop)]
 pub struct Plant {
     own: Pc,
     users: Vec<Ssn>,
@@ -28,6 +27,20 @@ pub struct Plant {
     barred_subsystems: BarredSubsystems,
     out_of_service: Members,
     edition: u64,
+}
+
+impl Drop for Plant {
+    fn drop(self) {
+        let Self {
+            own: _,
+            users: _users,
+            rows: _rows,
+            barred_points: _barred_points,
+            barred_subsystems: _barred_subsystems,
+            out_of_service: _out_of_service,
+            edition: _,
+        } = self;
+    }
 }
 
 impl Model for Plant {

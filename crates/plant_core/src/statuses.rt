@@ -20,7 +20,7 @@ pub const POINTS: usize = POINT_CODES as usize;
 pub const SUBSYSTEMS: usize = SUBSYSTEM_NUMBERS as usize;
 
 /// A subsystem of another point.
-#[derive(Clone, Copy, Debug, PartialEq, Eq)]
+#[derive(Clone, Copy)]
 pub struct RemoteSubsystem {
     pub point: Pc,
     pub ssn: Ssn,

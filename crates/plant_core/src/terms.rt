@@ -8,7 +8,7 @@ use std::alloc::Global;
 pub const MOST_TICKS: u32 = 65_535;
 
 /// The ticks of each timer (Q.714, timers), and those of this node's own: for freezing a reference, and for a repeated release.
-#[derive(Clone, Copy, Debug, PartialEq, Eq)]
+#[derive(Clone, Copy)]
 pub struct Ticks {
     /// T(conn est), 1 to 65,535.
     pub connect: u32,
@@ -85,7 +85,7 @@ impl LaneHead {
 }
 
 /// A subsystem that another point has too, by which a local user may be replaced (Q.714, 5.3.5).
-#[derive(Clone, Copy, Debug, PartialEq, Eq)]
+#[derive(Clone, Copy)]
 pub struct Replicate {
     pub ssn: Ssn,
     pub point: Pc,

@@ -7,7 +7,7 @@ use relay_base::limits::LONGEST_PARAMETER;
 
 /// A variable parameter: its name, and the least and the greatest number of its octets. The length of a parameter that
 /// may have more than 255 octets has two octets, the least significant first, and every other length has one (Q.713, 2.3).
-#[derive(Clone, Copy, Debug)]
+#[derive(Clone, Copy)]
 pub struct VarRule {
     pub name: u8,
     pub least: u16,
@@ -31,7 +31,7 @@ impl VarRule {
 }
 
 /// Whether a message type has an optional part, and the names that it may have, in the order of writing.
-#[derive(Clone, Copy, Debug)]
+#[derive(Clone, Copy)]
 pub enum OptionRule {
     Absent,
     Names(&'static [u8]),

@@ -10,7 +10,7 @@ use std::alloc::Global;
 
 /// The widths and the parameters of one message type (Q.713): the type octet, for each octet of the fixed part the name
 /// of its parameter, the variable parameters in order, the optional ones, and whether a pointer has two octets.
-#[derive(Clone, Copy, Debug)]
+#[derive(Clone, Copy)]
 pub struct Shape<const F: usize, const V: usize> {
     pub kind: u8,
     pub fixed: [u8; F],

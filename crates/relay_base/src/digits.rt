@@ -7,7 +7,7 @@ use crate::numbers::Digit;
 use std::marker::Model;
 
 /// At most 24 digits, kept in place. A clause sees their list.
-#[derive(Clone, Copy, Debug, PartialEq, Eq)]
+#[derive(Clone, Copy, PartialEq, Eq)]
 pub struct Digits {
     digits: [u8; MOST_DIGITS],
     count: usize,

@@ -10,9 +10,15 @@ use std::alloc::Global;
 use std::marker::Model;
 
 /// A list that a clause sees as the plain list of its items.
-#[derive(Clone, Debug, Drop)]
+#[derive(Clone, Debug)]
 pub struct PlainList<T> {
     items: Vec<T>,
+}
+
+impl<T: Drop> Drop for PlainList<T> {
+    fn drop(self) {
+        let Self { items: _items } = self;
+    }
 }
 
 impl<T> Model for PlainList<T> {

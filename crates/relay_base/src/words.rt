@@ -14,11 +14,28 @@ pub struct Stamp {
 }
 
 /// What a lane takes.
-#[derive(Clone, PartialEq, Eq, Drop)]
+#[derive(Clone)]
 pub enum Event {
     Message { opc: Pc, sls: Sls, bytes: Octets },
     Asked { ssn: Ssn, request: Request },
     Tick,
+}
+
+impl Drop for Event {
+    fn drop(self) {
+        match self {
+            Event::Message {
+                opc: _,
+                sls: _,
+                bytes: _bytes,
+            } => {}
+            Event::Asked {
+                ssn: _,
+                request: _request,
+            } => {}
+            Event::Tick => {}
+        }
+    }
 }
 
 impl Event {
@@ -31,7 +48,7 @@ impl Event {
 }
 
 /// What a user asks for.
-#[derive(Clone, PartialEq, Eq, Drop)]
+#[derive(Clone)]
 pub enum Request {
     Unit {
         sls: Sls,
@@ -81,8 +98,56 @@ pub enum Request {
     },
 }
 
+impl Drop for Request {
+    fn drop(self) {
+        match self {
+            Request::Unit {
+                sls: _,
+                class: _,
+                ret: _,
+                called: _called,
+                calling: _calling,
+                body: _body,
+            } => {}
+            Request::Conn {
+                tag: _,
+                class: _,
+                credit: _,
+                called: _called,
+                body: _body,
+            } => {}
+            Request::Accept {
+                mine: _,
+                class: _,
+                credit: _,
+                body: _body,
+            } => {}
+            Request::Refuse {
+                mine: _,
+                cause: _,
+                body: _body,
+            } => {}
+            Request::Send {
+                mine: _,
+                body: _body,
+            } => {}
+            Request::Expedite {
+                mine: _,
+                body: _body,
+            } => {}
+            Request::Reset { mine: _ } => {}
+            Request::Disc {
+                mine: _,
+                cause: _,
+                body: _body,
+            } => {}
+            Request::Coord => {}
+            Request::Grant { point: _ } => {}
+        }
+    }
+}
+
 /// What a user is told.
-#[derive(Clone, PartialEq, Eq, Drop)]
 pub enum Tell {
     Unit {
         class: u8,
@@ -160,8 +225,69 @@ pub enum Tell {
     No(Reason),
 }
 
+impl Drop for Tell {
+    fn drop(self) {
+        match self {
+            Tell::Unit {
+                class: _,
+                called: _called,
+                calling: _calling,
+                body: _body,
+            } => {}
+            Tell::Notice {
+                cause: _,
+                called: _called,
+                calling: _calling,
+                body: _body,
+            } => {}
+            Tell::Conn {
+                mine: _,
+                class: _,
+                credit: _,
+                called: _called,
+                calling: _calling,
+                body: _body,
+            } => {}
+            Tell::Named { tag: _, mine: _ } => {}
+            Tell::NotMade { tag: _, cause: _ } => {}
+            Tell::Confirm {
+                mine: _,
+                class: _,
+                credit: _,
+                called: _called,
+                body: _body,
+            } => {}
+            Tell::Text {
+                mine: _,
+                body: _body,
+            } => {}
+            Tell::Expedited {
+                mine: _,
+                body: _body,
+            } => {}
+            Tell::Renewed { mine: _, cause: _ } => {}
+            Tell::ResetDone { mine: _ } => {}
+            Tell::Disc {
+                mine: _,
+                cause: _,
+                body: _body,
+            } => {}
+            Tell::State {
+                ssn: _,
+                point: _,
+                up: _,
+            } => {}
+            Tell::Point { point: _, up: _ } => {}
+            Tell::Coord { point: _ } => {}
+            Tell::Granted { point: _ } => {}
+            Tell::Denied { point: _ } => {}
+            Tell::No(_) => {}
+        }
+    }
+}
+
 /// Why a request was refused.
-#[derive(Clone, Copy, Debug, PartialEq, Eq)]
+#[derive(Clone, Copy)]
 pub enum Reason {
     Owner,
     State,
@@ -173,7 +299,7 @@ pub enum Reason {
 }
 
 /// Why a message is not read.
-#[derive(Clone, Copy, Debug, PartialEq, Eq)]
+#[derive(Clone, Copy)]
 pub enum ReadFault {
     Empty,
     UnknownType(u8),
@@ -183,7 +309,7 @@ pub enum ReadFault {
 }
 
 /// What was dropped, and why.
-#[derive(Clone, Copy, Debug, PartialEq, Eq)]
+#[derive(Clone, Copy)]
 pub enum Lost {
     Read(ReadFault),
     Long,
@@ -202,7 +328,7 @@ pub enum Lost {
 }
 
 /// What a step gives.
-#[derive(PartialEq, Eq, Drop)]
+#[derive(Drop)]
 pub enum Output {
     Sent { point: Pc, sls: Sls, bytes: Octets },
     Told { ssn: Ssn, tell: Tell },

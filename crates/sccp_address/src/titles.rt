@@ -10,7 +10,7 @@ use relay_base::Digits;
 use relay_base::limits::MOST_DIGITS;
 
 /// Whether a title has an odd or an even number of digits.
-#[derive(Clone, Copy, Debug, PartialEq, Eq)]
+#[derive(Clone, Copy, PartialEq, Eq)]
 pub enum Parity {
     Odd,
     Even,

@@ -15,7 +15,6 @@ use std::alloc::Global;
 use std::marker::Model;
 
 /// The routing data with their users in order, the status tests, the coordinated changes under way, and the requests that a user may grant.
-#[derive(Drop)]
 pub struct Kept {
     plant: Plant,
     /// The users by rising number.
@@ -23,6 +22,18 @@ pub struct Kept {
     tests: StatusTests,
     coordinations: Vec<Coordination>,
     grants: Vec<RemoteSubsystem>,
+}
+
+impl Drop for Kept {
+    fn drop(self) {
+        let Self {
+            plant: _plant,
+            users: _users,
+            tests: _tests,
+            coordinations: _coordinations,
+            grants: _grants,
+        } = self;
+    }
 }
 
 impl Model for Kept {

@@ -2,20 +2,38 @@
 ghost use Rattle.std.specs.Prelude.{◌≡◌, ◌++◌, IfOk};
 ghost use Rattle.scmg.specs.Control.{is_told, told_among, told_all, service_format, to_concerned, service_known, made_known, only_among, known_by};
 ghost use Rattle.scmg.specs.Inner.Kept.{in_order};
+ghost use Rattle.scmg.specs.Inner.Known.{told_of};
 
 use crate::groups::only_among;
 use crate::head::ControlHead;
 use crate::kept::Kept;
 use plant_core::{Change, Group, Plant};
 use relay_base::limits::SUBSYSTEM_NUMBERS;
-use relay_base::{Memory, Output, Outs, Ssn, Tell};
+use relay_base::{Memory, Output, Outs, Pc, Ssn, Tell};
 use scmg_messages::{Format, sent};
-use std::alloc::{AllocError, Global};
+use std::alloc::Global;
 
-fn copy_of(tell: &Tell) -> Result<Tell, AllocError>
-    ensures { IfOk result (λ copy. copy ≡ tell.now) }
+/// Whether a point, or a subsystem there, is in service.
+#[derive(Clone, Copy)]
+pub struct Status {
+    pub point: Pc,
+    pub subsystem: Option<Ssn>,
+    pub up: bool,
+}
+
+/// What users are told of a status.
+fn told_of(status: &Status) -> Tell
+    ensures { result ≡ told_of status.now }
 {
-    tell.clone()
+    let Status {
+        point,
+        subsystem,
+        up,
+    } = *status;
+    match subsystem {
+        None => Tell::Point { point, up },
+        Some(ssn) => Tell::State { ssn, point, up },
+    }
 }
 
 /// Whether this is the number of a user in service, but not the one that it is about.
@@ -44,18 +62,18 @@ fn told_among(
     alloc: Global,
     plant: &Plant,
     users: &[Ssn],
-    subject: Option<Ssn>,
-    tell: &Tell,
+    subject: &Option<Ssn>,
+    status: &Status,
 ) -> Result<Outs, Memory>
-    ensures { let told = told_among plant.now.routing subject tell.now users.now
+    ensures { let told = told_among plant.now.routing subject.now (told_of status.now) users.now
         in IfOk result (λ outs. outs ≡ told) }
 {
     let mut outs = Outs::new(alloc);
     for ssn in users {
-        if is_told(plant, subject, *ssn) {
+        if is_told(plant, *subject, *ssn) {
             outs.push(Output::Told {
                 ssn: *ssn,
-                tell: copy_of(tell)?,
+                tell: told_of(status),
             })?;
         }
     }
@@ -63,11 +81,16 @@ fn told_among(
 }
 
 /// Tells the users in service, by rising number, but not the one that it is about.
-fn told_all(alloc: Global, kept: &Kept, subject: Option<Ssn>, tell: &Tell) -> Result<Outs, Memory>
+fn told_all(
+    alloc: Global,
+    kept: &Kept,
+    subject: Option<Ssn>,
+    status: &Status,
+) -> Result<Outs, Memory>
     ensures { let routing = kept.now.control.routing
-        in IfOk result (λ outs. outs ≡ told_all routing subject tell.now) }
+        in IfOk result (λ outs. outs ≡ told_all routing subject (told_of status.now)) }
 {
-    told_among(alloc, kept.plant(), kept.users(), subject, tell)
+    told_among(alloc, kept.plant(), kept.users(), &subject, status)
 }
 
 /// SSA or SSP.
@@ -109,12 +132,12 @@ fn service_known(
     ensures { IfOk result (λ outs. outs ≡ service_known head.now kept.now.control.routing up ssn) }
 {
     let plant = kept.plant();
-    let tell = Tell::State {
-        ssn,
+    let status = Status {
         point: plant.own(),
+        subsystem: Some(ssn),
         up,
     };
-    let outs = told_all(alloc, kept, Some(ssn), &tell)?;
+    let outs = told_all(alloc, kept, Some(ssn), &status)?;
     tell_concerned(alloc, head, plant, up, ssn, outs)
 }
 
@@ -127,24 +150,21 @@ fn made_known(
 ) -> Result<Outs, Memory>
     ensures { IfOk result (λ outs. outs ≡ made_known head.now kept.now.control.routing change) }
 {
-    let tell = match change {
+    let (point, subsystem, up) = match change {
         Change::AddRow(_) | Change::DelRow(_, _) => return Ok(Outs::new(alloc)),
-        Change::BarPoint(point) => Tell::Point { point, up: false },
-        Change::FreePoint(point) => Tell::Point { point, up: true },
-        Change::BarSub(point, ssn) => Tell::State {
-            ssn,
-            point,
-            up: false,
-        },
-        Change::FreeSub(point, ssn) => Tell::State {
-            ssn,
-            point,
-            up: true,
-        },
+        Change::BarPoint(point) => (point, None, false),
+        Change::FreePoint(point) => (point, None, true),
+        Change::BarSub(point, ssn) => (point, Some(ssn), false),
+        Change::FreeSub(point, ssn) => (point, Some(ssn), true),
         Change::LocalUp(ssn) => return service_known(alloc, head, kept, true, ssn),
         Change::LocalDown(ssn) => return service_known(alloc, head, kept, false, ssn),
     };
-    told_all(alloc, kept, None, &tell)
+    let status = Status {
+        point,
+        subsystem,
+        up,
+    };
+    told_all(alloc, kept, None, &status)
 }
 
 /// What a group of changes makes known: that of its only change.

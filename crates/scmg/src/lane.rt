@@ -139,7 +139,7 @@ fn write<P: Publish>(
     journal: &mut Vec<ControlEntry>,
     publish: &mut P,
     ticks: &Ticks,
-    entry: ControlEntry,
+    mut entry: ControlEntry,
     act: &Act,
 ) -> Result<(), Memory>
     requires in_step { P.first publish.old + length (P.published publish.old) ≡ kept.old.plant.edition }
@@ -159,8 +159,8 @@ fn write<P: Publish>(
     ensures journal { OnErr result (journal.new.items ≡ journal.old.items) }
     ensures unpublished { OnErr result (P.published publish.new ≡ P.published publish.old) }
 {
-    let published = perform(kept, journal, publish, ticks, act)?;
-    journal.push_reserved(ControlEntry { published, ..entry });
+    entry.published = perform(kept, journal, publish, ticks, act)?;
+    journal.push_reserved(entry);
     Ok(())
 }
 

@@ -14,10 +14,18 @@ use std::alloc::Global;
 
 /// What a connection section keeps beside its head: what its release says when it is sent again, and the units that came in, which clauses
 /// alone count.
-#[derive(Drop)]
 pub struct Line {
     pub kept: KeptRelease,
     pub came: Mark<Came>,
+}
+
+impl Drop for Line {
+    fn drop(self) {
+        let Self {
+            kept: _kept,
+            came: _came,
+        } = self;
+    }
 }
 
 /// No unit came in.

@@ -15,7 +15,6 @@ use std::alloc::Global;
 use std::marker::Model;
 
 /// The flow control of a section of class 3, and its expedited data.
-#[derive(Drop)]
 pub struct Windows {
     pub(crate) flow: Flow,
     /// Expedited data of the other end that has not left.
@@ -24,6 +23,17 @@ pub struct Windows {
     pub(crate) is_unanswered: bool,
     /// Expedited data came, and its EA has not left.
     pub(crate) is_owed: bool,
+}
+
+impl Drop for Windows {
+    fn drop(self) {
+        let Self {
+            flow: _flow,
+            waiting: _waiting,
+            is_unanswered: _,
+            is_owed: _,
+        } = self;
+    }
 }
 
 impl Model for Windows {

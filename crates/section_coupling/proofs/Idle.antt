@@ -1,23 +1,21 @@
 -- What does nothing leaves the connection as it is.
-use Rattle.std.proofs.Common.{◌≡◌, ◌==◌, ◌&&◌, ◌||◌, not, nat_lt, Bool, true, false, List, [], ◌∷◌, ◌++◌, length, fold, if◌then◌else◌, is_some, refl, ap, ◌∙◌, arith, add-zero, append-nil}
-use Rattle.std.proofs.Math.Bool.{or-false}
+use Rattle.std.proofs.Common.{◌≡◌, ◌==◌, ◌&&◌, ◌||◌, not, nat_lt, Bool, true, false, List, [], ◌∷◌, ◌++◌, length, fold, if◌then◌else◌, is_some, refl, ap, ◌∙◌, arith, append-nil}
 use Rattle.std.proofs.lemmas.Bool.{or_parts, ltb-false}
 use Rattle.plant_core.specs.declared.terms.Ticks.{Ticks}
 use Rattle.relay_base.specs.declared.words.Output.{Output}
 use Rattle.section_flow.specs.Windows.{may_leave}
 use Rattle.section_model.specs.declared.cell.Cell.{Cell}
 use Rattle.section_model.specs.declared.cell.Cell.TheVariants as cell
-use Rattle.section_model.specs.declared.cell.SectionState.{SectionState}
-use Rattle.section_model.specs.declared.cell.SectionState.TheVariants as section
 use Rattle.section_model.specs.declared.cell.Timer.{Timer}
 use Rattle.section_model.specs.declared.hand.Acted.{Acted}
-use Rattle.section_model.specs.Ends.{Section, Timers, End, wire, owner, Connection, no_effect, is_up}
+use Rattle.section_model.specs.Ends.{Section, End, wire, owner, Connection, is_up}
 use Rattle.section_model.specs.Acting.{timed, by_windows}
-use Rattle.section_model.specs.Coupling.{exchange, settles}
+use Rattle.section_model.specs.Coupling.{settles}
 use Rattle.section_model.specs.Step.{fires_next, fires_due, is_due_at, on_windows, on_each, after_event}
-use Rattle.section_model.specs.Timing.{firing_order, timers_after}
+use Rattle.section_model.specs.Timing.{firing_order}
 use Rattle.section_model.specs.Windowed.{Windowed, leaves, acknowledges}
 use Rattle.section_class3.specs.Windows.{windows_turn}
+use Rattle.connection_law.proofs.Timer.Quiet.{nothing_leaves, settled}
 use Rattle.section_coupling.specs.Inner.Idle.{has_due, is_in_class_3, has_waiting, is_leave, may_turn}
 use Rattle.section_coupling.specs.Views.{behind}
 use Rattle.section_coupling.proofs.Alone.{due_behind}
@@ -57,24 +55,6 @@ leaving true true waits b e f g = g
 leaving true false waits b e f g = absurd (cc)
 leaving false leave waits b e f g = absurd (cc)
 
-nothing_leaves : (x : Windowed) → may_leave x.windows ≡ 0 → (is_some x.windows.waiting && not x.windows.unanswered) ≡ false → leaves x ≡ (x, no_effect)
-unfolding leaves
-nothing_leaves x units expedited = rw (units, expedited, add-zero, or-false) refl
-
-same_timers : (ticks : Ticks) (s : SectionState) (t : Timers) → timers_after ticks s s false t ≡ t
-unfolding timers_after
-same_timers ticks section.Asked t = refl
-same_timers ticks section.Asking t = refl
-same_timers ticks section.Waning t = refl
-same_timers ticks section.Up t = refl
-same_timers ticks section.Resetting t = refl
-same_timers ticks section.Ending t = refl
-same_timers ticks section.Gone t = refl
-
-nothing_settled : (ticks : Ticks) (x : Section) (that : End) → settles ticks (timed ticks x (x, no_effect)) that ≡ (record { this = wire x; that = that }, [])
-unfolding exchange
-nothing_settled ticks x that = ap (λ t. (record { this = wire (record x { timers = t }); that = that }, [])) (same_timers ticks x.head.state x.timers)
-
 no_turn_on : (ticks : Ticks) (k : Cell) (x : Section) (that : End) (b : Bool) → (b && (not (is_leave k) || has_waiting x)) ≡ false
     → (if b then settles ticks (timed ticks x (by_windows (windows_turn k) x)) that else (record { this = wire x; that = that }, [])) ≡ (record { this = wire x; that = that }, [])
 no_turn_on ticks cell.Leave x that true none =
@@ -82,7 +62,7 @@ no_turn_on ticks cell.Leave x that true none =
     let few = ltb-false 0 (length x.windows.waits) parts.0 in
     let units : may_leave x.windows ≡ 0 = omega (arith, few) in
     let expedited = ap (λ (b : Bool). b && not x.windows.unanswered) parts.1 in
-    ap (λ done. settles ticks (timed ticks x (by_windows (λ _. done) x)) that) (nothing_leaves (record { head = x.head; windows = x.windows }) units expedited) ∙ nothing_settled ticks x that
+    ap (λ done. settles ticks (timed ticks x (by_windows (λ _. done) x)) that) (nothing_leaves (record { head = x.head; windows = x.windows }) (units, expedited)) ∙ settled ticks x that
 no_turn_on ticks _ x that true none = absurd (cc)
 no_turn_on ticks k x that false none = refl
 

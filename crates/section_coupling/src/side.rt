@@ -23,10 +23,18 @@ use section_grid::{
 use std::alloc::Global;
 
 /// An end of a connection: a section of the network, or a user of this node.
-#[derive(Drop)]
 pub enum Side {
     Wire(Boxed<Wire>),
     User(Boxed<Owner>),
+}
+
+impl Drop for Side {
+    fn drop(self) {
+        match self {
+            Side::Wire(_wire) => {}
+            Side::User(_user) => {}
+        }
+    }
 }
 
 /// What an effect of the other end is to a section.

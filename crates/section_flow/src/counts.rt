@@ -24,7 +24,7 @@ pub struct Counts {
 }
 
 /// What the code holds of the counts: remainders modulo 128, and differences of at most 127.
-#[derive(Clone, Copy, Debug, PartialEq, Eq)]
+#[derive(Clone, Copy)]
 pub struct Remainders {
     /// The last P(R) received, modulo 128.
     pub acked: u8,

@@ -19,13 +19,24 @@ use std::collections::VecDeque;
 use std::marker::Model;
 
 /// The flow control of a section: its credits, its counts, and the units of the other end that wait.
-#[derive(Drop)]
 pub struct Flow {
     agreed: u8,
     credit: u8,
     held: Remainders,
     counts: Mark<Counts>,
     waits: VecDeque<Unit>,
+}
+
+impl Drop for Flow {
+    fn drop(self) {
+        let Self {
+            agreed: _,
+            credit: _,
+            held: _held,
+            counts: _counts,
+            waits: _waits,
+        } = self;
+    }
 }
 
 impl Model for Flow {

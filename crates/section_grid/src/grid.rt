@@ -4,7 +4,7 @@ ghost use Rattle.std.specs.Prelude.{◌≤◌};
 use section_model::Cell;
 
 /// A table of `S` states and `E` events, each numbered from 0: what is done in each state with each event.
-#[derive(Clone, Copy, Debug)]
+#[derive(Clone, Copy)]
 pub struct Grid<const S: usize, const E: usize> {
     pub(crate) rows: [[Cell; S]; E],
     ghost few_states: { S ≤ 60_000 },

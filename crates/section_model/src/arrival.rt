@@ -11,7 +11,7 @@ use relay_base::Ref24;
 
 /// The parameters of a message for a connection, in the octets that it was read from; 0, none and no octets stand for those that its
 /// type lacks. Classes are 0 to 15, sequence numbers 0 to 127.
-#[derive(Clone, Copy, Debug)]
+#[derive(Clone, Copy)]
 pub struct ParametersView<'a> {
     pub dlr: Ref24,
     pub slr: Ref24,
@@ -28,7 +28,7 @@ pub struct ParametersView<'a> {
 }
 
 /// A message for a connection: what it is to a section, and its parameters.
-#[derive(Clone, Copy, Debug)]
+#[derive(Clone, Copy)]
 pub struct ArrivalView<'a> {
     pub occasion: Occasion,
     pub parameters: ParametersView<'a>,

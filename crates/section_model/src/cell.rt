@@ -3,7 +3,7 @@ ghost use Rattle.std.specs.Prelude.{◌≡◌, ◌<◌};
 ghost use Rattle.section_model.specs.Views.{state_numbered};
 
 /// The states of a connection section (Q.714, Annex B).
-#[derive(Clone, Copy, Debug, PartialEq, Eq)]
+#[derive(Clone, Copy, PartialEq, Eq)]
 pub enum SectionState {
     /// Connection pending, incoming section: CR came, and CC has not left.
     Asked,
@@ -55,7 +55,7 @@ impl SectionState {
 }
 
 /// The states of a user's end of a connection (Q.711).
-#[derive(Clone, Copy, Debug, PartialEq, Eq)]
+#[derive(Clone, Copy, PartialEq, Eq)]
 pub enum UserState {
     /// Connection pending, incoming: the user was given an N-CONNECT indication, and has not responded.
     Offered,
@@ -70,7 +70,7 @@ pub enum UserState {
 }
 
 /// The timers of a connection section (Q.714, 3.1, 3.3, 3.4 and 3.7), in the order in which they fire.
-#[derive(Clone, Copy, Debug, PartialEq, Eq)]
+#[derive(Clone, Copy)]
 pub enum Timer {
     /// T(conn est): CC or CREF is awaited.
     Connect,
@@ -89,7 +89,7 @@ pub enum Timer {
 }
 
 /// What a section meets: the messages, the timers that fire, and the effects of the other end, in the order of the table.
-#[derive(Clone, Copy, Debug, PartialEq, Eq)]
+#[derive(Clone, Copy)]
 pub enum Occasion {
     /// Connection confirm.
     Cc,
@@ -148,7 +148,7 @@ pub enum Occasion {
 }
 
 /// What a user's end meets: the requests, and the effects of the section, in the order of the table.
-#[derive(Clone, Copy, Debug, PartialEq, Eq)]
+#[derive(Clone, Copy)]
 pub enum UserOccasion {
     /// N-CONNECT response.
     Accepts,
@@ -179,7 +179,7 @@ pub enum UserOccasion {
 }
 
 /// What an end does: the entries of the two tables of states and events, and three that stand in neither.
-#[derive(Clone, Copy, Debug, PartialEq, Eq)]
+#[derive(Clone, Copy, PartialEq, Eq)]
 pub enum Cell {
     /// The event has no effect here.
     Nothing,

@@ -8,7 +8,7 @@ use relay_base::{Pc, Ref24, Sls};
 /// A connection section of the network: the point that it reaches, its own reference and the other end's, its signalling link
 /// selection, the number of its state (`SectionState`, from 0 in the order of its variants), and the class (2 or 3) and the credit (0
 /// to 127) agreed on. The number of the state is read by `state`, and changed by `enter` alone.
-#[derive(Clone, Copy, Debug, PartialEq, Eq)]
+#[derive(Clone, Copy)]
 pub struct WireHead {
     pub point: Pc,
     pub mine: Ref24,

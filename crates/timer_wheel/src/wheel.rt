@@ -19,7 +19,6 @@ use std::marker::Model;
 const LAST: u64 = 1 << 63;
 
 /// The running timers of a lane's connections.
-#[derive(Drop)]
 pub struct Wheel {
     tree: Tree,
     /// The nodes of no timer. All nodes together are as many as the timers that there is room for.
@@ -28,6 +27,18 @@ pub struct Wheel {
     room: usize,
     /// The ticks that were taken since the count began.
     passed: u64,
+}
+
+impl Drop for Wheel {
+    fn drop(self) {
+        let Self {
+            tree: _tree,
+            spare: _spare,
+            alloc: _,
+            room: _,
+            passed: _,
+        } = self;
+    }
 }
 
 impl Model for Wheel {

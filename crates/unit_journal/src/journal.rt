@@ -9,7 +9,7 @@ use crate::effect::{Context, Work};
 use crate::gathering::work_off;
 use plant_core::{Entry, EntryList, LaneHead, Plant, fitted};
 use reassembly::Bench;
-use relay_base::{Event, Memory, Pc, Stamp};
+use relay_base::{Event, Memory, Outs, Pc, Stamp};
 use std::alloc::Global;
 use std::marker::Model;
 use std::mem;
@@ -66,7 +66,7 @@ fn write(
     own: Pc,
     bench: &mut Bench,
     journal: &mut Vec<Entry>,
-    entry: Entry,
+    mut entry: Entry,
     work: Work,
 ) -> Result<(), Memory>
     requires { IsWithinBounds bench.old.processes }
@@ -81,19 +81,9 @@ fn write(
     ensures bounds { IsWithinBounds bench.new.processes }
 {
     journal.reserve(1)?;
-    let Entry {
-        stamp,
-        event,
-        asked,
-        outs,
-    } = entry;
-    let outs = work_off(alloc, own, bench, work, outs)?;
-    journal.push_reserved(Entry {
-        stamp,
-        event,
-        asked,
-        outs: fitted(outs),
-    });
+    let outs = mem::replace(&mut entry.outs, Outs::new(alloc));
+    entry.outs = fitted(work_off(alloc, own, bench, work, outs)?);
+    journal.push_reserved(entry);
     Ok(())
 }
 

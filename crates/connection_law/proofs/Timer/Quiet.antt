@@ -20,7 +20,7 @@ use Rattle.connection_law.specs.Resting.{AreDrained, EndRests, Rests}
 
 -- Nothing leaves.
 
-nothing_leaves : (x : Windowed) → AreDrained x.windows → leaves x ≡ (x, no_effect)
+pub nothing_leaves : (x : Windowed) → AreDrained x.windows → leaves x ≡ (x, no_effect)
 unfolding leaves
 nothing_leaves x d = rw (d.0, d.1, add-zero, or-false) refl
 
@@ -40,7 +40,8 @@ same_timers ticks section.Resetting t = refl
 same_timers ticks section.Ending t = refl
 same_timers ticks section.Gone t = refl
 
-settled : (ticks : Ticks) (x : Section) (that : End) → settles ticks (timed ticks x (x, no_effect)) that ≡ (record { this = wire x; that = that }, [])
+-- an act without effect settles at once
+pub settled : (ticks : Ticks) (x : Section) (that : End) → settles ticks (timed ticks x (x, no_effect)) that ≡ (record { this = wire x; that = that }, [])
 unfolding exchange
 settled ticks x that = ap (λ t. (record { this = wire (record x { timers = t }); that = that }, [])) (same_timers ticks x.head.state x.timers)
 
