@@ -26,20 +26,36 @@ pub const LEAST_NODES: u8 = 2;
 pub const MOST_NODES: u8 = 8;
 
 /// A step, and the number of the line that states it.
-#[derive(Drop)]
 pub struct StepLine {
     pub line: u32,
     pub step: Step,
+}
+
+impl Drop for StepLine {
+    fn drop(self) {
+        let Self {
+            line: _,
+            step: _step,
+        } = self;
+    }
 }
 
 /// Steps in the order of their lines.
 pub type StepList = PlainList<StepLine>;
 
 /// How many nodes there are, and their steps.
-#[derive(Drop)]
 pub struct ChainInput {
     pub nodes: u8,
     pub steps: StepList,
+}
+
+impl Drop for ChainInput {
+    fn drop(self) {
+        let Self {
+            nodes: _,
+            steps: _steps,
+        } = self;
+    }
 }
 
 /// 2 to 8 nodes.

@@ -12,11 +12,20 @@ use std::marker::Model;
 use timer_wheel::Wheel;
 
 /// How many ticks a lane has taken; its connections that aren't over; and the wheel, which has the running timers of each.
-#[derive(Drop)]
 pub struct TimedConnections {
     taken: u64,
     kept: Connections,
     wheel: Wheel,
+}
+
+impl Drop for TimedConnections {
+    fn drop(self) {
+        let Self {
+            taken: _,
+            kept: _kept,
+            wheel: _wheel,
+        } = self;
+    }
 }
 
 impl Model for TimedConnections {

@@ -6,6 +6,7 @@ use conn_journal::{Kept, Next, Store};
 use relay_base::Memory;
 use std::alloc::Global;
 use std::marker::Model;
+use std::mem;
 
 /// How many ticks a lane has taken, and its connections by their numbers, each until it is over.
 #[derive(Drop)]
@@ -43,7 +44,7 @@ impl ListedConnections {
         ensures kept { self.new.kept ≡ slice_set self.old.kept number one }
     {
         self.soonest[number] = soonest_of(one.as_ref());
-        self.kept[number] = one;
+        let _before = mem::replace(&mut self.kept[number], one);
     }
 }
 

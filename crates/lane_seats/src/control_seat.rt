@@ -11,10 +11,18 @@ use std::marker::Model;
 use std::sync::Wait;
 
 /// The control lane, and the publisher of its changes. Both have memory of their own, so that little moves when they go from hand to hand.
-#[derive(Drop)]
 pub struct ControlSeat<'r, R: Wait> {
     lane: Box<ControlLane>,
     publisher: Box<PhasePublisher<'r, R>>,
+}
+
+impl<'r, R: Wait> Drop for ControlSeat<'r, R> {
+    fn drop(self) {
+        let Self {
+            lane: _lane,
+            publisher: _publisher,
+        } = self;
+    }
 }
 
 impl<'r, R: Wait> Model for ControlSeat<'r, R> {

@@ -10,10 +10,18 @@ use std::marker::Model;
 use std::sync::Wait;
 
 /// A lane at its place. The lane has memory of its own, so that little moves when it goes from hand to hand.
-#[derive(Drop)]
 pub struct Seat<'r, R: Wait, L: Drop> {
     lane: Box<L>,
     place: Place<'r, R>,
+}
+
+impl<'r, R: Wait, L: Drop> Drop for Seat<'r, R, L> {
+    fn drop(self) {
+        let Self {
+            lane: _lane,
+            place: _place,
+        } = self;
+    }
 }
 
 impl<'r, R: Wait, L: Drop> Model for Seat<'r, R, L> {

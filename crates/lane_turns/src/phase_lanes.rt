@@ -31,11 +31,20 @@ pub type ConnSeatList<'r, R> = Vec<Seat<'r, R, ConnLane>>;
 pub type DataSeatList<'r, R> = Vec<Seat<'r, R, DataLane>>;
 
 /// The publisher of the control lane, and the other lanes at their places.
-#[derive(Drop)]
 pub struct PhaseLanes<'r, R: Wait> {
     pub publisher: PhasePublisher<'r, R>,
     pub conns: ConnSeatList<'r, R>,
     pub units: DataSeatList<'r, R>,
+}
+
+impl<'r, R: Wait> Drop for PhaseLanes<'r, R> {
+    fn drop(self) {
+        let Self {
+            publisher: _publisher,
+            conns: _conns,
+            units: _units,
+        } = self;
+    }
 }
 
 impl<'r, R: Wait> Model for PhaseLanes<'r, R> {

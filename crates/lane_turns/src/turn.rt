@@ -14,7 +14,6 @@ use std::marker::Model;
 use std::sync::Wait;
 
 /// A lane, with the phase whose events it takes.
-#[derive(Drop)]
 pub struct LaneTurn<'p, 'r, R: Wait> {
     head: &'p Head,
     phase: &'p Phase,
@@ -22,6 +21,18 @@ pub struct LaneTurn<'p, 'r, R: Wait> {
     /// The lane as it was at the opening, which clauses alone read.
     first: Mark<LaneView>,
     lane: PhaseLane<'r, R>,
+}
+
+impl<'p, 'r, R: Wait> Drop for LaneTurn<'p, 'r, R> {
+    fn drop(self) {
+        let Self {
+            head: _,
+            phase: _,
+            name: _,
+            first: _first,
+            lane: _lane,
+        } = self;
+    }
 }
 
 impl<'p, 'r, R: Wait> Model for LaneTurn<'p, 'r, R> {

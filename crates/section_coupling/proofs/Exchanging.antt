@@ -10,6 +10,14 @@ use Rattle.section_model.specs.Acting.{end_takes}
 use Rattle.section_model.specs.Coupling.{exchange, other_takes, with_more}
 use Rattle.section_coupling.specs.Views.{behind}
 
+-- what acts, of its three parts
+abbrev pub acted_of : List Hand × List Output × List Hand → Acted
+acted_of parts = record { first = parts.0; outs = parts.1; then = parts.2 }
+
+-- its parts make it up
+pub whole : (acted : Acted) (parts : List Hand × List Output × List Hand) → parts ≡ (acted.first, acted.outs, acted.then) → acted_of parts ≡ acted
+whole acted parts is = ap acted_of is
+
 -- a fold each of whose steps stands behind the outputs that are there
 pub all_behind : {X : Type 0} (f : Connection × List Output → X → Connection × List Output) (outs : List Output)
     → ((r : Connection × List Output) (x : X) → f (behind outs r) x ≡ behind outs (f r x)) → (r : Connection × List Output) (xs : List X) → fold f (behind outs r) xs ≡ behind outs (fold f r xs)

@@ -63,11 +63,7 @@ pub fn exchange(
         OnOk result (behind outs.old done ≡ standing clock.now this.new that.new outs.new) }
     ensures sound { OnOk result (AreSound this.new that.new) }
 {
-    let Acted {
-        first,
-        outs: own,
-        then,
-    } = acted;
+    let (first, own, then) = acted.into_parts();
     if turns == 0 {
         return outs.append(own);
     }

@@ -31,10 +31,18 @@ impl EndName {
 }
 
 /// A connection.
-#[derive(Drop)]
 pub struct Pair {
     pub this: Side,
     pub that: Side,
+}
+
+impl Drop for Pair {
+    fn drop(self) {
+        let Self {
+            this: _this,
+            that: _that,
+        } = self;
+    }
 }
 
 impl Pair {

@@ -22,12 +22,22 @@ use section_grid::{Acted, Cell, Input, SectionState, WireHead};
 use std::alloc::Global;
 
 /// A connection section of the network.
-#[derive(Drop)]
 pub struct Wire {
     pub head: WireHead,
     pub line: Line,
     pub windows: Windows,
     pub timers: Timers,
+}
+
+impl Drop for Wire {
+    fn drop(self) {
+        let Self {
+            head: _head,
+            line: _line,
+            windows: _windows,
+            timers: _timers,
+        } = self;
+    }
 }
 
 /// Whether an output is a message.

@@ -8,15 +8,22 @@ use std::alloc::Global;
 
 /// The units that came in at an end since its counts were last cleared, in both classes, and how many of them left on the other end. Where the
 /// code doesn't hold them, clauses alone count them.
-#[derive(Drop)]
 pub struct Came {
     pub got: PlainList<Unit>,
     pub passed: u64,
 }
 
+impl Drop for Came {
+    fn drop(self) {
+        let Self {
+            got: _got,
+            passed: _,
+        } = self;
+    }
+}
+
 /// An effect on the other end. Called addresses have 0 to 255 octets, the data of `Accept`, `Refuse` and `End` 1 to 128, those of a unit
 /// 1 to 255, expedited data 1 to 32.
-#[derive(Drop)]
 pub enum Hand {
     Accept {
         class: u8,
@@ -54,15 +61,59 @@ pub enum Hand {
     },
 }
 
+impl Drop for Hand {
+    fn drop(self) {
+        match self {
+            Hand::Accept {
+                class: _,
+                credit: _,
+                called: _called,
+                body: _body,
+                importance: _,
+            } => {}
+            Hand::Refuse {
+                cause: _,
+                called: _called,
+                body: _body,
+                importance: _,
+            } => {}
+            Hand::End {
+                cause: _,
+                body: _body,
+                importance: _,
+            } => {}
+            Hand::Unit {
+                more: _,
+                body: _body,
+            } => {}
+            Hand::Expedited { body: _body } => {}
+            Hand::Reset { cause: _ } | Hand::Done => {}
+            Hand::Left {
+                units: _,
+                expedited: _,
+            } => {}
+        }
+    }
+}
+
 /// Effects on the other end, in order.
 pub type HandList = PlainList<Hand>;
 
 /// What an end does: the effects that the other end takes before its outputs, the outputs, and the effects that it takes after them.
-#[derive(Drop)]
 pub struct Acted {
     pub first: HandList,
     pub outs: Outs,
     pub then: HandList,
+}
+
+impl Drop for Acted {
+    fn drop(self) {
+        let Self {
+            first: _first,
+            outs: _outs,
+            then: _then,
+        } = self;
+    }
 }
 
 impl Acted {
@@ -75,6 +126,14 @@ impl Acted {
             outs: Outs::new(alloc),
             then: HandList::new(alloc),
         }
+    }
+
+    /// What the other end takes before, the outputs, and what it takes after them.
+    pub fn into_parts(self) -> (HandList, Outs, HandList)
+        ensures { result ≡ (self.first, self.outs, self.then) }
+    {
+        let Acted { first, outs, then } = self;
+        (first, outs, then)
     }
 
     /// One output.
@@ -106,11 +165,20 @@ impl Acted {
 }
 
 /// What a repeated release says: its cause, its data of 1 to 128 octets, and its importance.
-#[derive(Drop)]
 pub struct KeptRelease {
     pub cause: u8,
     pub body: Option<Octets>,
     pub importance: Option<u8>,
+}
+
+impl Drop for KeptRelease {
+    fn drop(self) {
+        let Self {
+            cause: _,
+            body: _body,
+            importance: _importance,
+        } = self;
+    }
 }
 
 impl KeptRelease {

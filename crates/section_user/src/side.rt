@@ -12,7 +12,6 @@ use std::alloc::Global;
 
 /// A user's end of a connection: its subsystem, the reference of the section at the other end, its state, the class (2 or 3) and the
 /// credit (0 to 127) that were offered or agreed on, and what is put together of a text (0 to 8,192 octets).
-#[derive(Drop)]
 pub struct UserSide {
     pub ssn: Ssn,
     pub mine: Ref24,
@@ -20,6 +19,19 @@ pub struct UserSide {
     pub class: u8,
     pub credit: u8,
     pub text: Octets,
+}
+
+impl Drop for UserSide {
+    fn drop(self) {
+        let Self {
+            ssn: _,
+            mine: _,
+            state: _state,
+            class: _,
+            credit: _,
+            text: _text,
+        } = self;
+    }
 }
 
 /// That what the user took has left.

@@ -1,26 +1,37 @@
-use Rattle.std.proofs.Common.{rules, ◌-◌, ◌<◌, ◌≡◌, List, fold, length, get_or, subst}
+use Rattle.std.proofs.Common.{rules, ◌-◌, ◌<◌, ◌≡◌, List, ◌++◌, fold, length, get_or, sym, subst}
 use Rattle.relay_base.specs.declared.words.Output.{Output}
+use Rattle.section_model.specs.declared.hand.Acted.{Acted}
 use Rattle.section_model.specs.Coupling.{exchange, other_takes}
-use Rattle.section_coupling.specs.Views.{end_by, ends_by, standing}
+use Rattle.section_model.specs.Laws.{hands_of}
+use Rattle.section_coupling.specs.Sound.{SoundActed, AreOfWhatCame}
+use Rattle.section_coupling.specs.Views.{end_by, ends_by, standing, behind}
 use Rattle.section_coupling.proofs.Composed.{on-ok}
-use Rattle.section_coupling.proofs.Exchanging.{exchanged, no_turn}
+use Rattle.section_coupling.proofs.Exchanging.{acted_of, whole, exchanged, no_turn}
 use Rattle.section_coupling.proofs.HandsCome.{first-come, rest-left, taken-left, offered-left, offered-more, hands-left}
 use Rattle.section_coupling.proofs.coupling.+exchange.Goals as goal
 
 pub exchange-offer-requires : goal.exchange-offer-requires
 exchange-offer-requires t c =
     let clock = c.args.clock.now in
-    (search rules, (c.requires.sound, (c.requires.acted.0, first-come (end_by clock c.args.this.now) (end_by clock c.args.that.now) c.args.acted.first c.args.acted.then c.requires.left)))
+    let parts = c.into_parts-first.result in
+    let is : c.args.acted ≡ acted_of parts = sym (whole c.args.acted parts c.into_parts-first.ensures) in
+    let sound : SoundActed (acted_of parts) = subst SoundActed is c.requires.acted in
+    let left : AreOfWhatCame (end_by clock c.args.this.now) (parts.0 ++ parts.2) (end_by clock c.args.that.now) = subst (λ (a : Acted). AreOfWhatCame (end_by clock c.args.this.now) (hands_of a) (end_by clock c.args.that.now)) is c.requires.left in
+    (search rules, (c.requires.sound, (sound.0, first-come (end_by clock c.args.this.now) (end_by clock c.args.that.now) parts.0 parts.2 left)))
 
 pub exchange-offer-requires-2 : goal.exchange-offer-requires-2
 exchange-offer-requires-2 t c =
-    let clock = c.args.clock.now in (
+    let clock = c.args.clock.now in
+    let parts = c.into_parts-first.result in
+    let is : c.args.acted ≡ acted_of parts = sym (whole c.args.acted parts c.into_parts-first.ensures) in
+    let sound : SoundActed (acted_of parts) = subst SoundActed is c.requires.acted in
+    let left : AreOfWhatCame (end_by clock c.args.this.now) (parts.0 ++ parts.2) (end_by clock c.args.that.now) = subst (λ (a : Acted). AreOfWhatCame (end_by clock c.args.this.now) (hands_of a) (end_by clock c.args.that.now)) is c.requires.left in (
       search rules,
       (
         c.in_ok-offer.ensures.sound,
         (
-          c.requires.acted.1,
-          rest-left (c.args.turns - 1) clock.ticks c.args.acted.first c.args.acted.then (ends_by clock c.args.this.now c.args.that.now) _ _ c.requires.left c.in_ok-offer.ensures.offered,
+          sound.1,
+          rest-left (c.args.turns - 1) clock.ticks parts.0 parts.2 (ends_by clock c.args.this.now c.args.that.now) _ _ left c.in_ok-offer.ensures.offered,
         ),
       ),
     )
@@ -64,10 +75,14 @@ exchange-returns-clause-exchanged t c =
     let that = end_by clock c.args.that.now in
     let given = ends_by clock c.offer.new.this c.offer.new.that in
     let last = standing clock c.offer-2.new.this c.offer-2.new.that c.offer-2.new.outs in
-    on-ok c.offer-2.result (λ e. exchanged c.args.turns clock.ticks (this, c.args.acted) that c.args.outs.now (standing clock c.offer.new.this c.offer.new.that c.offer.new.outs) last c.if-turns-eq0.false c.in_ok-offer.ensures.offered
-    (subst (λ (all : List Output). fold (other_takes (exchange (c.args.turns - 1) clock.ticks) clock.ticks) (given, all) c.args.acted.then ≡ last) c.in_ok-append.ensures.ok e)) c.offer-2.ensures.offered
+    let parts = c.into_parts-first.result in
+    on-ok c.offer-2.result (λ e. subst (λ (a : Acted). behind c.args.outs.now (exchange c.args.turns clock.ticks (this, a) that) ≡ last) (whole c.args.acted parts c.into_parts-first.ensures)
+    (exchanged c.args.turns clock.ticks (this, acted_of parts) that c.args.outs.now (standing clock c.offer.new.this c.offer.new.that c.offer.new.outs) last c.if-turns-eq0.false c.in_ok-offer.ensures.offered
+    (subst (λ (all : List Output). fold (other_takes (exchange (c.args.turns - 1) clock.ticks) clock.ticks) (given, all) parts.2 ≡ last) c.in_ok-append.ensures.ok e))) c.offer-2.ensures.offered
 
 pub exchange-returns-then-turns-eq0-clause-exchanged : goal.exchange-returns-then-turns-eq0-clause-exchanged
 exchange-returns-then-turns-eq0-clause-exchanged t c =
     let clock = c.args.clock.now in
-    on-ok c.append.result (λ e. no_turn c.args.turns clock.ticks (end_by clock c.args.this.now, c.args.acted) (end_by clock c.args.that.now) c.args.outs.now c.append.new.self c.if-turns-eq0.true e) c.append.ensures.ok
+    let parts = c.into_parts-first.result in
+    on-ok c.append.result (λ e. no_turn c.args.turns clock.ticks (end_by clock c.args.this.now, c.args.acted) (end_by clock c.args.that.now) c.args.outs.now c.append.new.self c.if-turns-eq0.true
+    (subst (λ (a : Acted). c.append.new.self ≡ c.args.outs.now ++ a.outs) (whole c.args.acted parts c.into_parts-first.ensures) e)) c.append.ensures.ok
