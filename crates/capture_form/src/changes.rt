@@ -57,10 +57,10 @@ fn selector(gti: &[u8], tt: &[u8], np: &[u8], nai: &[u8]) -> Result<Selector, Li
 fn second(own: Pc, words: &[&[u8]]) -> Result<Option<Entity>, LineKind>
     ensures { result ≡ second_of own (texts words.now) }
 {
-    if words.is_empty() {
+    let [word, ..] = words else {
         return Ok(None);
-    }
-    let entity = lead(own, words[0])?;
+    };
+    let entity = lead(own, word)?;
     Ok(Some(entity))
 }
 
@@ -86,16 +86,17 @@ fn row_of(
 }
 
 /// `e add <gti> <tt> <np> <nai> <digits> <first> [<second>]`, of which the words after `add`.
-#[tactic(auto, using(crate::proofs::LineForms::add_short))]
 fn add_form(own: Pc, words: &[&[u8]]) -> Result<Change, LineKind>
     ensures { result ≡ add_form own (texts words.now) }
 {
-    if words.len() < 6 || words.len() > 7 {
-        return Err(LineKind::Words);
+    match words {
+        [gti, tt, np, nai, digits, first, more @ ..] if more.len() < 2 => {
+            let selector = selector(gti, tt, np, nai)?;
+            let row = row_of(own, selector, digits, first, more)?;
+            Ok(Change::AddRow(row))
+        }
+        _ => Err(LineKind::Words),
     }
-    let selector = selector(words[0], words[1], words[2], words[3])?;
-    let row = row_of(own, selector, words[4], words[5], &words[6..])?;
-    Ok(Change::AddRow(row))
 }
 
 /// The row with the selector and the prefix of these words is taken away.
@@ -117,23 +118,23 @@ fn without_row(
 fn del_form(words: &[&[u8]]) -> Result<Change, LineKind>
     ensures { result ≡ del_form (texts words.now) }
 {
-    if words.len() != 5 {
-        return Err(LineKind::Words);
+    match words {
+        [gti, tt, np, nai, digits] => without_row(gti, tt, np, nai, digits),
+        _ => Err(LineKind::Words),
     }
-    without_row(words[0], words[1], words[2], words[3], words[4])
 }
 
 /// A row is added, or taken away.
 pub fn row_form(own: Pc, words: &[&[u8]]) -> Result<Change, LineKind>
     ensures { result ≡ row_form own (texts words.now) }
 {
-    if words.is_empty() {
+    let [word, more @ ..] = words else {
         return Err(LineKind::Words);
-    }
-    if words[0] == b"add".as_slice() {
-        add_form(own, &words[1..])
-    } else if words[0] == b"del".as_slice() {
-        del_form(&words[1..])
+    };
+    if *word == b"add".as_slice() {
+        add_form(own, more)
+    } else if *word == b"del".as_slice() {
+        del_form(more)
     } else {
         Err(LineKind::Words)
     }
@@ -143,14 +144,14 @@ pub fn row_form(own: Pc, words: &[&[u8]]) -> Result<Change, LineKind>
 fn status_form(own: Pc, words: &[&[u8]]) -> Result<Change, LineKind>
     ensures { result ≡ status_form own (texts words.now) }
 {
-    if words.len() != 2 {
+    let [word, point] = words else {
         return Err(LineKind::Words);
-    }
-    if words[0] == b"pause".as_slice() {
-        let point = other_point(own, words[1])?;
+    };
+    if *word == b"pause".as_slice() {
+        let point = other_point(own, point)?;
         Ok(Change::BarPoint(point))
-    } else if words[0] == b"resume".as_slice() {
-        let point = other_point(own, words[1])?;
+    } else if *word == b"resume".as_slice() {
+        let point = other_point(own, point)?;
         Ok(Change::FreePoint(point))
     } else {
         Err(LineKind::Words)
@@ -161,14 +162,14 @@ fn status_form(own: Pc, words: &[&[u8]]) -> Result<Change, LineKind>
 fn service_form(users: &[Ssn], words: &[&[u8]]) -> Result<Change, LineKind>
     ensures { result ≡ service_form users.now (texts words.now) }
 {
-    if words.len() != 2 {
+    let [ssn, word] = words else {
         return Err(LineKind::Words);
-    }
-    if words[1] == b"in".as_slice() {
-        let ssn = user(users, words[0])?;
+    };
+    if *word == b"in".as_slice() {
+        let ssn = user(users, ssn)?;
         Ok(Change::LocalUp(ssn))
-    } else if words[1] == b"out".as_slice() {
-        let ssn = user(users, words[0])?;
+    } else if *word == b"out".as_slice() {
+        let ssn = user(users, ssn)?;
         Ok(Change::LocalDown(ssn))
     } else {
         Err(LineKind::Words)

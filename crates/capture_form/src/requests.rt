@@ -45,12 +45,10 @@ fn unit_of(
 fn unit_asked(alloc: Global, words: &[&[u8]]) -> Result<Request, LineRefused>
     ensures { States result (request_of RequestForm.Unit (texts words.now)) }
 {
-    if words.len() != 6 {
+    let [sls, class, ret, called, calling, body] = words else {
         return Err(LineRefused::Kind(LineKind::Words));
-    }
-    unit_of(
-        alloc, words[0], words[1], words[2], words[3], words[4], words[5],
-    )
+    };
+    unit_of(alloc, sls, class, ret, called, calling, body)
 }
 
 /// What asks for a connection.
@@ -82,10 +80,10 @@ fn conn_of(
 fn conn_asked(alloc: Global, words: &[&[u8]]) -> Result<Request, LineRefused>
     ensures { States result (request_of RequestForm.Conn (texts words.now)) }
 {
-    if words.len() != 5 {
+    let [tag, class, credit, called, body] = words else {
         return Err(LineRefused::Kind(LineKind::Words));
-    }
-    conn_of(alloc, words[0], words[1], words[2], words[3], words[4])
+    };
+    conn_of(alloc, tag, class, credit, called, body)
 }
 
 /// `accept <ref> <class> <credit> <hex>`
@@ -111,12 +109,12 @@ fn accept_asked(alloc: Global, words: &[&[u8]]) -> Result<Request, LineRefused>
 fn refuse_asked(alloc: Global, words: &[&[u8]]) -> Result<Request, LineRefused>
     ensures { States result (request_of RequestForm.Refuse (texts words.now)) }
 {
-    if words.len() != 3 {
+    let [reference, cause, hex] = words else {
         return Err(LineRefused::Kind(LineKind::Words));
-    }
-    let mine = below::<REFERENCES>(words[0])?;
-    let cause = below::<OCTET_VALUES>(words[1])?.number() as u8;
-    let body = body(alloc, LONGEST_DATA, words[2])?;
+    };
+    let mine = below::<REFERENCES>(reference)?;
+    let cause = below::<OCTET_VALUES>(cause)?.number() as u8;
+    let body = body(alloc, LONGEST_DATA, hex)?;
     Ok(Request::Refuse { mine, cause, body })
 }
 
@@ -124,11 +122,11 @@ fn refuse_asked(alloc: Global, words: &[&[u8]]) -> Result<Request, LineRefused>
 fn send_asked(alloc: Global, words: &[&[u8]]) -> Result<Request, LineRefused>
     ensures { States result (request_of RequestForm.Send (texts words.now)) }
 {
-    if words.len() != 2 {
+    let [reference, hex] = words else {
         return Err(LineRefused::Kind(LineKind::Words));
-    }
-    let mine = below::<REFERENCES>(words[0])?;
-    let body = text(alloc, LONGEST_TEXT, words[1])?;
+    };
+    let mine = below::<REFERENCES>(reference)?;
+    let body = text(alloc, LONGEST_TEXT, hex)?;
     Ok(Request::Send { mine, body })
 }
 
@@ -136,11 +134,11 @@ fn send_asked(alloc: Global, words: &[&[u8]]) -> Result<Request, LineRefused>
 fn ed_asked(alloc: Global, words: &[&[u8]]) -> Result<Request, LineRefused>
     ensures { States result (request_of RequestForm.Expedite (texts words.now)) }
 {
-    if words.len() != 2 {
+    let [reference, hex] = words else {
         return Err(LineRefused::Kind(LineKind::Words));
-    }
-    let mine = below::<REFERENCES>(words[0])?;
-    let body = text(alloc, LONGEST_EXPEDITED, words[1])?;
+    };
+    let mine = below::<REFERENCES>(reference)?;
+    let body = text(alloc, LONGEST_EXPEDITED, hex)?;
     Ok(Request::Expedite { mine, body })
 }
 
@@ -148,10 +146,10 @@ fn ed_asked(alloc: Global, words: &[&[u8]]) -> Result<Request, LineRefused>
 fn reset_asked(words: &[&[u8]]) -> Result<Request, LineRefused>
     ensures { States result (request_of RequestForm.Reset (texts words.now)) }
 {
-    if words.len() != 1 {
+    let [reference] = words else {
         return Err(LineRefused::Kind(LineKind::Words));
-    }
-    let mine = below::<REFERENCES>(words[0])?;
+    };
+    let mine = below::<REFERENCES>(reference)?;
     Ok(Request::Reset { mine })
 }
 
@@ -159,12 +157,12 @@ fn reset_asked(words: &[&[u8]]) -> Result<Request, LineRefused>
 fn disc_asked(alloc: Global, words: &[&[u8]]) -> Result<Request, LineRefused>
     ensures { States result (request_of RequestForm.Disc (texts words.now)) }
 {
-    if words.len() != 3 {
+    let [reference, cause, hex] = words else {
         return Err(LineRefused::Kind(LineKind::Words));
-    }
-    let mine = below::<REFERENCES>(words[0])?;
-    let cause = below::<OCTET_VALUES>(words[1])?.number() as u8;
-    let body = body(alloc, LONGEST_DATA, words[2])?;
+    };
+    let mine = below::<REFERENCES>(reference)?;
+    let cause = below::<OCTET_VALUES>(cause)?.number() as u8;
+    let body = body(alloc, LONGEST_DATA, hex)?;
     Ok(Request::Disc { mine, cause, body })
 }
 
@@ -183,10 +181,10 @@ fn coord_asked(words: &[&[u8]]) -> Result<Request, LineRefused>
 fn grant_asked(words: &[&[u8]]) -> Result<Request, LineRefused>
     ensures { States result (request_of RequestForm.Grant (texts words.now)) }
 {
-    if words.len() != 1 {
+    let [point] = words else {
         return Err(LineRefused::Kind(LineKind::Words));
-    }
-    let point = below::<POINT_CODES>(words[0])?;
+    };
+    let point = below::<POINT_CODES>(point)?;
     Ok(Request::Grant { point })
 }
 
