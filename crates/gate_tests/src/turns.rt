@@ -107,16 +107,16 @@ fn come_first(gate: &Gate<Journal>, pass: Pass) -> Result<(), Refused<u32>>
     gate.try_turn(&mut pass, stamp_of(link, 0), u32::from(link) * 1000)
 }
 
-// The only caller of a gate.
-fn come_alone(alloc: Global) -> Result<Option<Result<(), Refused<u32>>>, Memory> {
+// Whether the only caller of a gate is served.
+fn come_alone(alloc: Global) -> Result<bool, Memory> {
     let journal = Journal {
         entries: Vec::new(alloc),
         meeting: None,
     };
     let (gate, mut passes) = Gate::make(alloc, journal, 1)?;
     match passes.pop() {
-        Some(pass) => Ok(Some(come_first(&gate, pass))),
-        None => Ok(None),
+        Some(pass) => Ok(come_first(&gate, pass).is_ok()),
+        None => Ok(false),
     }
 }
 
@@ -147,9 +147,12 @@ fn says_who_has_the_turn(rt: HostRuntime) -> Result<(), Fail> {
             requires { IsReady gate.now second }
         { come_late(&rt, gate, &meeting, second) },
     );
-    assert_eq!(rt; early, Ok(()));
-    assert_eq!(rt; late, (Some((1000, 0)), Ok(())));
-    assert_eq!(rt; come_alone(alloc)?, Some(Ok(())));
+    assert!(rt; early.is_ok() && late.1.is_ok());
+    assert!(rt;
+        matches!(late.0, Some((1000, 0))),
+        "not the event, and who has the turn"
+    );
+    assert!(rt; come_alone(alloc)?, "an only caller was refused");
     Ok(())
 }
 

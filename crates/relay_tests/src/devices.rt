@@ -87,44 +87,24 @@ fn failing_sources(rt: HostRuntime) -> Result<(), Fail> {
     Ok(())
 }
 
-/// A sink that fails at each of its calls, where a print is written.
+/// A sink that fails at each of its calls: where a print is written, where it is told what is found of a text, and where a part of the
+/// M3UA messages was taken.
 #[test]
 fn failing_sinks(rt: HostRuntime) -> Result<(), Fail> {
     let alloc = rt.alloc();
-    for fails in 1..=7 {
-        let sink = Device { most: 10, fails };
-        let ran = call(&rt, alloc, &["run"], UNIT, [SOUND, sink, SOUND])?;
-        let written = &PRINTED[..10 * (fails as usize - 1)];
-        assert_left(&rt, &ran, 6, written, b"write fault\n");
-        assert_eq!(rt; ran.lanes, 1);
-    }
-    Ok(())
-}
-
-/// The same, where it is told what is found of a text.
-#[test]
-fn failing_sinks_of_audits(rt: HostRuntime) -> Result<(), Fail> {
-    let alloc = rt.alloc();
-    for fails in 1..=3 {
-        let sink = Device { most: 2, fails };
-        let ran = call(&rt, alloc, &["audit"], LEGAL, [SOUND, sink, SOUND])?;
-        let written = &b"legal\n"[..2 * (fails as usize - 1)];
-        assert_left(&rt, &ran, 6, written, b"write fault\n");
-        assert_eq!(rt; ran.lanes, 0);
-    }
-    Ok(())
-}
-
-/// The same, where a part of the M3UA messages was taken.
-#[test]
-fn failing_sinks_of_frames(rt: HostRuntime) -> Result<(), Fail> {
-    let alloc = rt.alloc();
-    for fails in 1..=3 {
-        let sink = Device { most: 10, fails };
-        let words = ["m3ua", "frames"];
-        let ran = call(&rt, alloc, &words, STREAM, [SOUND, sink, SOUND])?;
-        let written = &RETURNED[..10 * (fails as usize - 1)];
-        assert_left(&rt, &ran, 6, written, b"write fault\n");
+    let cases: [(&[&str], &[u8], &[u8], usize, u64, usize); 3] = [
+        (&["run"], UNIT, PRINTED, 10, 7, 1),
+        (&["audit"], LEGAL, b"legal\n", 2, 3, 0),
+        (&["m3ua", "frames"], STREAM, RETURNED, 10, 4, 1),
+    ];
+    for (words, text, print, most, calls, lanes) in cases {
+        for fails in 1..=calls {
+            let sink = Device { most, fails };
+            let ran = call(&rt, alloc, words, text, [SOUND, sink, SOUND])?;
+            let written = most.saturating_mul(fails as usize - 1).min(print.len());
+            assert_left(&rt, &ran, 6, &print[..written], b"write fault\n");
+            assert_eq!(rt; ran.lanes, lanes);
+        }
     }
     Ok(())
 }
