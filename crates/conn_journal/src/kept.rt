@@ -17,14 +17,9 @@ use std::alloc::Global;
 use std::marker::Model;
 
 /// A connection that isn't over.
+#[derive(Drop)]
 pub struct Kept {
     duo: Box<Duo>,
-}
-
-impl Drop for Kept {
-    fn drop(self) {
-        let Self { duo: _duo } = self;
-    }
 }
 
 /// A connection after an event that it hears, None once it is over, the references that its ends give up, and its outputs.
