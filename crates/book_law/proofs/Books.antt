@@ -4,7 +4,7 @@ use Rattle.plant_core.specs.declared.entry.Entry.{Entry}
 use Rattle.plant_core.specs.declared.entry.ControlEntry.{ControlEntry}
 use Rattle.node_head.specs.declared.head.Head.{Head}
 use Rattle.journal_text.specs.declared.book.Book.{Book}
-use Rattle.unit_journal.specs.Legal.{IsDataJournal}
+use Rattle.data_lane.specs.Legal.{IsDataJournal}
 use Rattle.section_model.specs.Journals.{IsConnJournal, lane_of}
 use Rattle.capture_form.specs.Events.{Stamped}
 use Rattle.right_book.specs.Own.{pairs_of}

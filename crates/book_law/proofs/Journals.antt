@@ -13,7 +13,7 @@ use Rattle.plant_core.specs.declared.terms.LaneHead.{LaneHead}
 use Rattle.scmg.specs.declared.head.ControlHead.{ControlHead}
 use Rattle.scmg.specs.Control as managing
 use Rattle.plant_core.specs.Plant.{RoutingData}
-use Rattle.unit_journal.specs.Legal as legal_data
+use Rattle.data_lane.specs.Legal as legal_data
 use Rattle.section_model.specs.Lane as legal_conn
 use Rattle.capture_form.specs.Events.{Stamped}
 use Rattle.plant_core.specs.Asking.{answer_in}

@@ -1,2 +1,3 @@
+mod FrameLemmas
 pub mod LineLemmas
 pub mod WritingLemmas

@@ -1,3 +1,5 @@
+pub mod Sending
+pub mod Inner
 pub mod Print
 pub mod PrintLaw
 pub mod Report

@@ -2,7 +2,7 @@
 use Rattle.std.specs.Prelude.{ℕ, ◌++◌, codes, List}
 use Rattle.journal_text.specs.declared.book.Book.{Book}
 use Rattle.capture_generator.specs.Counts.{counts_text}
-use Rattle.m3ua_frames.specs.Sending.{sent_frames}
+use Rattle.book_output.specs.Sending.{sent_frames}
 use Rattle.book_output.specs.Print.{print_of}
 use Rattle.book_output.specs.declared.report.Report.{Report}
 use Rattle.book_output.specs.declared.report.Report.TheVariants.{Print, Counts, Frames}

@@ -5,9 +5,9 @@ ghost use Rattle.relay_base.specs.Causes.{Rose};
 ghost use Rattle.relay_base.specs.Streams.{AppendedPart};
 ghost use Rattle.book_output.specs.Report.{report_text};
 
+use crate::frames::sent_frames;
 use capture_generator::counts_line;
 use journal_text::{Book, WriteFault, write_book};
-use m3ua_frames::sent_frames;
 use relay_base::{Octets, Pc, Sink, write_all};
 use std::alloc::Global;
 

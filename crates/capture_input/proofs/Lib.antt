@@ -1,1 +1,3 @@
+pub mod Joined
+pub mod PartLemmas
 pub mod StatusLemmas

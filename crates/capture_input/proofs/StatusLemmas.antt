@@ -7,7 +7,7 @@ use Rattle.relay_base.specs.declared.limits.TheConstants.{MOST_BYTES}
 use Rattle.relay_base.specs.Giving.{◌>>=◌}
 use Rattle.node_head.specs.declared.head.Head.{Head}
 use Rattle.node_head.specs.declared.fault.HeadFault.{HeadFault}
-use Rattle.m3ua_head.specs.OneLink.{one_link_head}
+use Rattle.m3ua_capture.specs.OneLink.{one_link_head}
 use Rattle.capture_form.specs.Capture.{at_head, capture_of}
 use Rattle.capture_form.specs.declared.steps.TheConstants.{MOST_LINES}
 use Rattle.capture_form.specs.declared.fault.LineFault.{LineFault}
@@ -27,10 +27,10 @@ use Rattle.m3ua_capture.specs.Streams.{head_before, stream_start, stream_behind,
 use Rattle.m3ua_capture.specs.declared.fault.StreamFault.{StreamFault}
 use Rattle.m3ua_capture.specs.declared.fault.StreamFault.TheVariants as stream
 use Rattle.m3ua_capture.proofs.CaptureLemmas.{capture-given}
-use Rattle.audit_form.specs.Audit.{audit_of}
-use Rattle.audit_form.specs.declared.fault.AuditFault.{AuditFault}
-use Rattle.audit_form.specs.declared.fault.AuditFault.TheVariants as audit
-use Rattle.audit_form.specs.declared.reading.AuditInput.{AuditInput}
+use Rattle.capture_input.specs.Audit.{audit_of}
+use Rattle.capture_input.specs.declared.audit_fault.AuditFault.{AuditFault}
+use Rattle.capture_input.specs.declared.audit_fault.AuditFault.TheVariants as audit
+use Rattle.capture_input.specs.declared.reading.AuditInput.{AuditInput}
 use Rattle.capture_input.specs.declared.fault.InputFault.{InputFault}
 use Rattle.capture_input.specs.declared.fault.InputFault.TheVariants as fault
 use Rattle.capture_input.specs.declared.input.Form.{Form}

@@ -13,10 +13,10 @@ use Rattle.capture_form.specs.declared.fault.CaptureFault.TheVariants as refused
 use Rattle.capture_form.specs.declared.capture.Capture.{Capture}
 use Rattle.capture_form.specs.declared.steps.TheConstants.{MOST_LINES}
 use Rattle.capture_form.specs.Events.{all_events, IsStamped}
-use Rattle.audit_form.specs.Audit.{audit_of}
-use Rattle.audit_form.specs.declared.fault.AuditFault.{AuditFault}
-use Rattle.audit_form.specs.declared.fault.AuditFault.TheVariants as audit
-use Rattle.audit_form.specs.declared.reading.AuditInput.{AuditInput}
+use Rattle.capture_input.specs.Audit.{audit_of}
+use Rattle.capture_input.specs.declared.audit_fault.AuditFault.{AuditFault}
+use Rattle.capture_input.specs.declared.audit_fault.AuditFault.TheVariants as audit
+use Rattle.capture_input.specs.declared.reading.AuditInput.{AuditInput}
 use Rattle.chain_form.specs.Chain.{IsInput, chain_of}
 use Rattle.chain_form.specs.declared.fault.ChainFault.{ChainFault}
 use Rattle.chain_form.specs.declared.fault.ChainFault.TheVariants as chain

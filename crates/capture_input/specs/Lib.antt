@@ -1,2 +1,4 @@
+pub mod Audit
+pub mod AuditLaw
 pub mod Input
 pub mod Stops

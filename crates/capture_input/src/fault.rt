@@ -4,7 +4,7 @@ ghost use Rattle.m3ua_capture.specs.declared.fault.StreamFault.TheVariants as st
 ghost use Rattle.capture_input.specs.declared.fault.InputFault.TheVariants.{Stream};
 ghost use Rattle.capture_input.specs.Input.{chain_refusal, audit_refusal, input_note};
 
-use audit_form::AuditFault;
+use crate::audit_fault::AuditFault;
 use capture_form::CaptureFault;
 use chain_form::ChainFault;
 use m3ua_capture::{StreamFault, stream_note};

@@ -5,8 +5,8 @@ ghost use Rattle.capture_input.specs.Input.{bytes, input_of, IsReady, ReadAs};
 ghost use Rattle.capture_input.specs.Stops.{Reads, TakesNone};
 
 use crate::fault::InputFault;
+use crate::reading::{AuditInput, read_audit};
 use crate::stop::{Stop, refusal};
-use audit_form::{AuditInput, read_audit};
 use capture_form::{Capture, read_capture};
 use chain_form::{ChainInput, read_chain};
 use m3ua_capture::read_stream;

@@ -12,7 +12,7 @@ use Rattle.section_model.specs.Opening.{wish_of, question_of}
 use Rattle.section_model.specs.Journals.{IsConnJournal, lane_of}
 use Rattle.section_model.specs.Laws.{openings_from}
 use Rattle.section_model.specs.Lane.{Lane, IsConnectionJournal, legal_outputs, answer_of, openings_after}
-use Rattle.journal_law.proofs.Splitting.{splits}
+use Rattle.lane_law.proofs.Splitting.{splits}
 use Rattle.conn_journal.specs.Lanes.{ConnLaneState, ConnLaneTakes, conn_asked_of}
 use Rattle.conn_journal.specs.Outcomes.{next_outputs, next_connection, taken_by}
 use Rattle.chain_node.specs.declared.coming.Coming.{Coming}

@@ -13,7 +13,7 @@ use Rattle.section_model.specs.Step.{end_is_gone}
 use Rattle.section_model.specs.References.{slot_of, generation_after}
 use Rattle.section_model.specs.Lane.{fed, is_at}
 use Rattle.section_model.proofs.References.{slot_below, once_more}
-use Rattle.hearing_law.proofs.Turns.{counted_mapped}
+use Rattle.lane_law.proofs.Turns.{counted_mapped}
 use Rattle.conn_journal.specs.declared.change.Next.{Next}
 use Rattle.conn_journal.specs.Inner.Changes.{given_up, taken, put, put_all}
 use Rattle.conn_journal.specs.Inner.Remnants.{Live, Seat, Remnant, seat_after, remnant_after, sits, took_slot, times_in}

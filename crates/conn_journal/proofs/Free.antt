@@ -7,7 +7,7 @@ use Rattle.relay_base.specs.declared.limits.TheConstants.{SLOTS}
 use Rattle.plant_core.specs.declared.terms.Ticks.{Ticks}
 use Rattle.section_model.specs.References.{slot_of, generation_after, reference_of_slot}
 use Rattle.section_model.specs.Lane.{Lane, Opening, gone_for, reference_of, is_at, is_kept_by, holds, is_held, took, times_taken, reference_at, lowest_free, enough}
-use Rattle.hearing_law.proofs.Turns.{counted_mapped}
+use Rattle.lane_law.proofs.Turns.{counted_mapped}
 use Rattle.conn_journal.specs.Inner.Remnants.{Remnant, remnant_of, takes_slot, took_slot, sits, seat_by, is_frozen_out, frozen_by, free_in, times_in, lowest_in}
 
 left_over : (freeze count : ℕ) → nat_lt count freeze ≡ not (freeze - count == 0)

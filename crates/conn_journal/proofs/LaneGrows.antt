@@ -17,7 +17,7 @@ use Rattle.section_model.specs.Ends.{Connection}
 use Rattle.section_model.specs.Laws.{openings_from}
 use Rattle.section_model.specs.Opening.{Wish, by_cr, by_user, no_wish, wish_of, wish_of_message, wish_of_reading, wish_of_request, question_of, slots_needed, opened, Opened as OpenedState}
 use Rattle.section_model.specs.Lane.{Lane, Opening, reference_of, with_event, opening_of, opening_list, openings_after, legal_outputs, other_outputs, outputs_by, answer_of, IsLegalEntry, stray_answer, is_tick}
-use Rattle.journal_law.proofs.Splitting.{splits}
+use Rattle.lane_law.proofs.Splitting.{splits}
 use Rattle.plant_core.specs.declared.terms.Ticks.{Ticks}
 use Rattle.section_coupling.specs.Duos.{DuoState, duo_at, taken_after}
 use Rattle.section_coupling.specs.Openings.{is_wish, IsAnswered}
@@ -42,7 +42,7 @@ use Rattle.section_coupling.specs.declared.side.Side.{Side}
 use Rattle.section_coupling.specs.declared.side.Side.TheVariants as side
 use Rattle.section_coupling.specs.Views.{end_at}
 use Rattle.section_coupling.specs.Sound.{IsCredit}
-use Rattle.hearing_law.proofs.Opened.{EndsAre, AreAmong}
+use Rattle.lane_law.proofs.Opened.{EndsAre, AreAmong}
 use Rattle.conn_journal.specs.declared.change.Change.{Change}
 use Rattle.conn_journal.specs.declared.change.Change.TheVariants.{Nothing, Heard, Opened, Ticked}
 use Rattle.conn_journal.specs.Inner.Changes.{changed, Fits, Makes, Opens, Takes, TakesNone, this_taken, that_taken}

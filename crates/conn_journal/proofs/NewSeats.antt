@@ -13,7 +13,7 @@ use Rattle.section_model.specs.Step.{end_is_gone}
 use Rattle.section_model.specs.References.{slot_of, generation_after, lane_number_of}
 use Rattle.section_model.specs.Lane.{Lane, heard, follow, gone_for, reference_of, reference_at}
 use Rattle.section_model.proofs.References.{slot_read, lane_read}
-use Rattle.hearing_law.proofs.Opened.{EndsAre, AreAmong, opened_among, IsSlotWithout, enough_are}
+use Rattle.lane_law.proofs.Opened.{EndsAre, AreAmong, opened_among, IsSlotWithout, enough_are}
 use Rattle.conn_journal.specs.Inner.Remnants.{Remnant, frozen_by, seat_by, remnant_of, remnant_after, sits, takes_slot, is_frozen_out, times_in, lowest_in}
 use Rattle.conn_journal.specs.Inner.Seated.{SeatIs, IsSeated, AreOrderly}
 use Rattle.conn_journal.specs.Inner.Turns.{opened_in, new_remnant, keeps_in}

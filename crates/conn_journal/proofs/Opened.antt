@@ -19,7 +19,7 @@ use Rattle.section_model.specs.Opening.{Wanted, Wish, by_cr, by_user, no_wish, f
 use Rattle.section_model.specs.Step.{end_is_gone, is_over}
 use Rattle.section_model.specs.Lane.{heard, follow, gone_for, reference_of}
 use Rattle.section_coupling.specs.Duos.{DuoState, duo_at}
-use Rattle.hearing_law.proofs.Opened.{EndsAre}
+use Rattle.lane_law.proofs.Opened.{EndsAre}
 use Rattle.conn_journal.specs.declared.change.NewConnection.{NewConnection}
 use Rattle.conn_journal.specs.declared.change.Change.TheVariants.{Opened}
 use Rattle.conn_journal.specs.Inner.Changes.{taken, owned, listed, Makes}

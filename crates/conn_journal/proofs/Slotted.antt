@@ -13,7 +13,7 @@ use Rattle.local_refs.specs.declared.state.SlotState.{SlotState}
 use Rattle.local_refs.specs.declared.state.SlotState.TheVariants.{Free, Held}
 use Rattle.section_model.specs.Lane.{Lane, reference_at}
 use Rattle.section_model.proofs.References.{slot_below}
-use Rattle.hearing_law.proofs.Opened.{IsSlotWithout, slots_without}
+use Rattle.lane_law.proofs.Opened.{IsSlotWithout, slots_without}
 use Rattle.conn_journal.specs.Inner.Remnants.{Remnant, takes_slot, free_in, times_in, lowest_in}
 use Rattle.conn_journal.specs.Inner.Seated.{AreApart}
 use Rattle.conn_journal.specs.Inner.Lowest.{lowest_of}

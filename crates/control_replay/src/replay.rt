@@ -7,12 +7,11 @@ ghost use Rattle.control_replay.specs.Inner.Lanes.{IsLastWritten};
 
 use crate::collector::Collector;
 use capture_form::Capture;
-use entry_lines::is_control_entry_written;
 use journal_form::EntryForm;
-use lane_audit::{Judged, Replay};
-use lane_heads::{control_head_of, plant_of};
+use lane_audit::{Judged, Replay, is_control_entry_written};
 use plant_core::{ControlEntry, ControlEvent, ControlList, Group, Plant};
 use relay_base::{Memory, Stamp};
+use right_book::{control_head_of, plant_of};
 use scmg::ControlLane;
 use std::alloc::Global;
 use std::marker::Model;

@@ -2,11 +2,11 @@
 ghost use Rattle.std.specs.Prelude.{◌≡◌, [], IfOk, OnOk, OnErr};
 ghost use Rattle.plant_core.specs.Terms.{IsLaneHead};
 
+use crate::journal::UnitJournal;
 use plant_core::{EntryList, LaneHead, Plant};
 use relay_base::{Event, Memory, Stamp};
 use std::alloc::Global;
 use std::marker::Model;
-use unit_journal::UnitJournal;
 
 /// The units of one lane. Its journal is a legal one at all times.
 pub struct DataLane {
@@ -20,7 +20,7 @@ impl Drop for DataLane {
 }
 
 impl Model for DataLane {
-    ghost use Rattle.unit_journal.specs.Legal.{LaneState};
+    ghost use Rattle.data_lane.specs.Legal.{LaneState};
 
     ghost Value = { LaneState };
 
@@ -28,7 +28,7 @@ impl Model for DataLane {
 }
 
 impl DataLane {
-    ghost use Rattle.unit_journal.specs.Legal.{IsDataJournal, AddsEntry};
+    ghost use Rattle.data_lane.specs.Legal.{IsDataJournal, AddsEntry};
 
     /// The data lane of this number, from 0, before its first event.
     pub fn new(alloc: Global, head: &LaneHead, number: u8) -> Result<DataLane, Memory>

@@ -9,7 +9,7 @@ use Rattle.relay_base.specs.declared.words.Event.{Event}
 use Rattle.plant_core.specs.declared.entry.ControlEntry.{ControlEntry}
 use Rattle.plant_core.specs.declared.entry.Entry.{Entry}
 use Rattle.section_model.specs.Journals.{IsConnJournal}
-use Rattle.unit_journal.specs.Legal.{IsDataJournal}
+use Rattle.data_lane.specs.Legal.{IsDataJournal}
 use Rattle.node_head.specs.declared.head.Head.{Head}
 use Rattle.journal_text.specs.declared.book.Book.{Book}
 use Rattle.capture_form.specs.Events.{Stamped}
@@ -19,11 +19,11 @@ use Rattle.journal_form.specs.Headings.{EntryWords}
 use Rattle.journal_form.specs.Parts.{EntryPart, LanePart, HasForm, lane_size, entry_lines, lines_of}
 use Rattle.journal_form.specs.Stamps.{stamp_of}
 use Rattle.journal_form.specs.Words.{parted}
-use Rattle.form_law.specs.Printed.{PrintedEntry, PrintedLane, printed, printed_entry, printed_control, printed_kind, read_entry, read_lane, entry_words}
-use Rattle.form_law.specs.Written.{IsWritableEntry, IsWritableControl, IsPrintable}
-use Rattle.form_law.specs.FormLaw.{IsStamp}
-use Rattle.form_law.proofs.Reading.{lines_of_entry, lines_of_entries, lines_of_lane, lines_of_lanes}
-use Rattle.form_law.proofs.Stamps.{stamps_are_read}
+use Rattle.printable_law.specs.Printed.{PrintedEntry, PrintedLane, printed, printed_entry, printed_control, printed_kind, read_entry, read_lane, entry_words}
+use Rattle.printable_law.specs.Written.{IsWritableEntry, IsWritableControl, IsPrintable}
+use Rattle.printable_law.specs.FormLaw.{IsStamp}
+use Rattle.printable_law.proofs.FormReading.{lines_of_entry, lines_of_entries, lines_of_lane, lines_of_lanes}
+use Rattle.printable_law.proofs.Stamps.{stamps_are_read}
 use Rattle.right_book.specs.Heads.{lane_head_of}
 use Rattle.right_book.specs.Lanes.{LaneKind, LanesFrom, IsServed, conn_kind, data_kind}
 use Rattle.right_book.specs.Right.{IsRight}

@@ -6,8 +6,8 @@ use Rattle.plant_core.specs.declared.entry.Entry.{Entry}
 use Rattle.journal_form.specs.Form.{kind_lines}
 use Rattle.journal_form.specs.Parts.{LanePart, entry_lines, lines_of}
 use Rattle.book_output.specs.Print.{line_of_lane}
-use Rattle.form_law.specs.Printed.{PrintedLane, printed_entry, printed_kind, read_entry, read_lane}
-use Rattle.form_law.proofs.Reading.{lines_of_entries, lines_of_lanes}
+use Rattle.printable_law.specs.Printed.{PrintedLane, printed_entry, printed_kind, read_entry, read_lane}
+use Rattle.printable_law.proofs.FormReading.{lines_of_entries, lines_of_lanes}
 use Rattle.right_book.specs.Lanes.{LanesFrom}
 use Rattle.journal_finding.specs.declared.finding.Fault.{Fault}
 use Rattle.journal_finding.specs.Entries.{LaneRules, ◌>>=◌}

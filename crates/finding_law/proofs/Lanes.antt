@@ -12,8 +12,8 @@ use Rattle.plant_core.specs.declared.entry.ControlEvent.{ControlEvent}
 use Rattle.plant_core.specs.declared.entry.ControlEvent.TheVariants.{Plain, Change}
 use Rattle.plant_core.specs.declared.entry.Entry.{Entry}
 use Rattle.section_model.specs.Journals.{IsConnJournal, lane_of}
-use Rattle.journal_law.proofs.Splitting.{splits as conn_splits}
-use Rattle.unit_journal.specs.Legal.{IsDataJournal, at_first}
+use Rattle.lane_law.proofs.Splitting.{splits as conn_splits}
+use Rattle.data_lane.specs.Legal.{IsDataJournal, at_first}
 use Rattle.unit_law.proofs.Splitting.{splits as data_splits}
 use Rattle.scmg.specs.Control.{IsControlJournal, IsLegalEntry, start_of_control, changes_in}
 use Rattle.scmg.specs.Inner.Kept.{after_entries}

@@ -16,7 +16,7 @@ use Rattle.journal_finding.specs.declared.finding.FindingKind.TheVariants.{Order
 use Rattle.book_output.specs.Print.{line_of_output}
 use Rattle.journal_finding.specs.Entries.{LaneRules, event_next, may_name, routing_of, same_lines, is_written, if_written, with_routing, with_event, with_stamp, entry_of, all_taken, at_line, ◌>>=◌, journal_from}
 use Rattle.capture_form.proofs.PhaseLemmas.{both-left, both-right}
-use Rattle.form_law.proofs.Outputs.{same_self}
+use Rattle.printable_law.proofs.Outputs.{same_self}
 use Rattle.finding_law.proofs.Next.{IsRoutingNext, HasParts, IsNext, Along, lines_by}
 use Rattle.finding_law.proofs.Results.{behind}
 

@@ -13,10 +13,10 @@ use Rattle.book_output.proofs.LineLemmas.{print_is_in_lines}
 use Rattle.journal_form.specs.Form.{ended_lines, last_piece}
 use Rattle.journal_form.specs.Parts.{EntryPart, LanePart, lane_size, AreLanes, HasForm, lines_of}
 use Rattle.journal_form.specs.Words.{parted}
-use Rattle.form_law.specs.FormLaw.{IsStamp}
-use Rattle.form_law.specs.Printed.{PrintedEntry, printed, read_entry, routing_words}
-use Rattle.form_law.specs.Written.{AreWritable, of_asked, IsWritableEntry, IsWritableControl}
-use Rattle.form_law.proofs.Reading.{lines_of_lanes, book_printed}
+use Rattle.printable_law.specs.FormLaw.{IsStamp}
+use Rattle.printable_law.specs.Printed.{PrintedEntry, printed, read_entry, routing_words}
+use Rattle.printable_law.specs.Written.{AreWritable, of_asked, IsWritableEntry, IsWritableControl}
+use Rattle.printable_law.proofs.FormReading.{lines_of_lanes, book_printed}
 use Rattle.journal_finding.specs.Entries.{LaneRules}
 use Rattle.finding_law.proofs.Steps.{SaysEdition, IsPartOf, ArePartsOf}
 use Rattle.finding_law.proofs.Values.{value_of_decimal}

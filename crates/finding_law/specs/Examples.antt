@@ -9,7 +9,7 @@ use Rattle.plant_core.specs.declared.terms.TheConstants.{USUAL_TICKS}
 use Rattle.connectionless.specs.Asking.{matter_of}
 use Rattle.section_model.specs.Opening.{wish_of, question_of, slots_needed, opened}
 use Rattle.section_model.specs.Lane.{lowest_free, legal_outputs, openings_after}
-use Rattle.unit_journal.specs.Legal.{step_of}
+use Rattle.data_lane.specs.Legal.{step_of}
 use Rattle.scmg.specs.Control.{effect_of, control_after, managed}
 use Rattle.node_head.specs.declared.head.Head.{Head}
 use Rattle.journal_text.specs.declared.book.Book.{Book}

@@ -6,7 +6,7 @@ use Rattle.journal_text.specs.declared.book.Book.{Book}
 use Rattle.capture_form.specs.Events.{Stamped}
 use Rattle.right_book.specs.Right.{IsRight}
 use Rattle.book_output.specs.Print.{print_of}
-use Rattle.capture_ranges.specs.CaptureRanges.{InputInRange}
+use Rattle.printable_law.specs.CaptureRanges.{InputInRange}
 use Rattle.printable_law.specs.PrintableLaw.{IsGiven}
 use Rattle.journal_finding.specs.declared.finding.Fault.{Fault}
 use Rattle.journal_finding.specs.Finding.{Finds}

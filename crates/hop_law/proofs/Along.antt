@@ -17,8 +17,8 @@ use Rattle.section_model.specs.Lengths.{UnitsWithin}
 use Rattle.section_model.specs.Step.{hears, event_step, connection_step, after_event}
 use Rattle.section_model.specs.Opening.{wish_of}
 use Rattle.section_model.specs.Lane.{next, heard, follow}
-use Rattle.carried_law.specs.Units.{units_from, units_on}
-use Rattle.carried_law.proofs.Reading.{joined_on}
+use Rattle.hop_law.specs.Units.{units_from, units_on}
+use Rattle.hop_law.proofs.Reading.{joined_on}
 use Rattle.connection_law.specs.InStep.{Stage, asked, asking, connected, over, Meets, section_stage, user_stage, stage_at, class_at, passed_at, got_at, sent_at, AreInStep, IsInStep}
 use Rattle.connection_law.specs.Messages.{acted, stepped}
 use Rattle.connection_law.specs.DataSent.{all_as_data, data_on}
@@ -29,23 +29,23 @@ use Rattle.connection_law.proofs.Flow.Ordering.{Stays}
 use Rattle.connection_law.proofs.Flow.Step.{step_keeps}
 use Rattle.connection_law.proofs.Message.Sent.{after_leaving, data_sent}
 use Rattle.connection_law.proofs.Reference.Ends.{Both}
-use Rattle.text_law.specs.TextLaw.{Begins}
-use Rattle.passing_law.specs.ClassLaw.{IsOfAClass}
-use Rattle.passing_law.specs.PassingLaw.{IsOpen, dt1_among, StaysOrClears, Brings, Passing, none, on_this, on_that}
-use Rattle.passing_law.specs.PlaceLaw.{SamePlace, KeepsPlace, StaysPut}
-use Rattle.passing_law.specs.LeavingLaw.{AreSides, this_and_that, that_and_this, IsApart, ComeIn}
-use Rattle.passing_law.specs.EarlyLaw.{IsBefore, IsEmptyEarly}
-use Rattle.passing_law.specs.ClearingLaw.{is_reset, SendsReset}
-use Rattle.passing_law.proofs.Accepting.{any_after}
-use Rattle.passing_law.proofs.Carrying.{only_dt2}
-use Rattle.passing_law.proofs.Passing.{units_pass}
-use Rattle.passing_law.proofs.Leaving.{brought_within, other_data, nothing_on, units_leave}
-use Rattle.passing_law.proofs.Placing.{end_then, event_place, step_place, along_place, after_place}
-use Rattle.passing_law.proofs.Early.{KeptEarly, step_early, opening_empty}
-use Rattle.passing_law.proofs.Classes.{classes_stay}
-use Rattle.passing_law.proofs.Heads.{after_heads, apart_before}
-use Rattle.passing_law.proofs.Clearing.{Goes, event_goes}
-use Rattle.passing_law.proofs.Taking.{SameHead}
+use Rattle.hop_law.specs.TextLaw.{Begins}
+use Rattle.hop_law.specs.ClassLaw.{IsOfAClass}
+use Rattle.hop_law.specs.PassingLaw.{IsOpen, dt1_among, StaysOrClears, Brings, Passing, none, on_this, on_that}
+use Rattle.hop_law.specs.PlaceLaw.{SamePlace, KeepsPlace, StaysPut}
+use Rattle.hop_law.specs.LeavingLaw.{AreSides, this_and_that, that_and_this, IsApart, ComeIn}
+use Rattle.hop_law.specs.EarlyLaw.{IsBefore, IsEmptyEarly}
+use Rattle.hop_law.specs.ClearingLaw.{is_reset, SendsReset}
+use Rattle.hop_law.proofs.Accepting.{any_after}
+use Rattle.hop_law.proofs.Carrying.{only_dt2}
+use Rattle.hop_law.proofs.Passing.{units_pass}
+use Rattle.hop_law.proofs.Leaving.{brought_within, other_data, nothing_on, units_leave}
+use Rattle.hop_law.proofs.Placing.{end_then, event_place, step_place, along_place, after_place}
+use Rattle.hop_law.proofs.Early.{KeptEarly, step_early, opening_empty}
+use Rattle.hop_law.proofs.Classes.{classes_stay}
+use Rattle.hop_law.proofs.Heads.{after_heads, apart_before}
+use Rattle.hop_law.proofs.Clearing.{Goes, event_goes}
+use Rattle.hop_law.proofs.Taking.{SameHead}
 use Rattle.hop_law.specs.LeftAlong.{outs_along, StaysApart, LeftAlong}
 
 -- Units on a section, which its place alone decides.

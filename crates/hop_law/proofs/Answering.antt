@@ -37,12 +37,12 @@ use Rattle.section_model.specs.Step.{names_both, ends_both, names_another, is_of
 use Rattle.connection_law.specs.InStep.{asked, Meets, section_stage, user_stage, stage_at, AreInStep, IsInStep}
 use Rattle.connection_law.specs.Messages.{acted}
 use Rattle.connection_law.proofs.Flow.Flowing.{either}
-use Rattle.passing_law.specs.LeavingLaw.{AreSides, this_and_that, that_and_this, IsApart}
+use Rattle.hop_law.specs.LeavingLaw.{AreSides, this_and_that, that_and_this, IsApart}
 use Rattle.connection_law.proofs.Flow.Ends.{kept_back}
-use Rattle.passing_law.proofs.Exchanging.{both}
-use Rattle.passing_law.proofs.Taking.{SameHead}
-use Rattle.passing_law.proofs.Heads.{after_heads}
-use Rattle.passing_law.proofs.Passing.{first_true, second_true}
+use Rattle.hop_law.proofs.Exchanging.{both}
+use Rattle.hop_law.proofs.Taking.{SameHead}
+use Rattle.hop_law.proofs.Heads.{after_heads}
+use Rattle.hop_law.proofs.Passing.{first_true, second_true}
 use Rattle.hop_law.specs.Waiting.{Waiting, messages_to}
 use Rattle.hop_law.specs.Answering.{waiting_on, Answers, silent as is_silent, accepts as has_accepted, refuses as has_refused, IsAnswered}
 use Rattle.hop_law.proofs.Queued.{messages_joined}

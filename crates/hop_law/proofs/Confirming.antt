@@ -34,13 +34,13 @@ use Rattle.section_model.specs.Step.{checked, hears_checked, in_touch, is_from_e
 use Rattle.connection_law.proofs.Flow.Flowing.{either}
 use Rattle.connection_law.proofs.Message.Hearing.{other_named}
 use Rattle.connection_law.proofs.Reference.Ends.{Both}
-use Rattle.passing_law.specs.TakingLaw.{at_this as at_this_end, at_that as at_that_end}
-use Rattle.passing_law.specs.LeavingLaw.{AreSides, this_and_that, that_and_this}
-use Rattle.passing_law.proofs.Effects.{AreTaken, exchanged}
-use Rattle.passing_law.proofs.Exchanging.{both}
-use Rattle.passing_law.proofs.Taking.{SameHead}
-use Rattle.passing_law.proofs.Heads.{after_heads}
-use Rattle.passing_law.proofs.Passing.{first_true}
+use Rattle.hop_law.specs.TakingLaw.{at_this as at_this_end, at_that as at_that_end}
+use Rattle.hop_law.specs.LeavingLaw.{AreSides, this_and_that, that_and_this}
+use Rattle.hop_law.proofs.Effects.{AreTaken, exchanged}
+use Rattle.hop_law.proofs.Exchanging.{both}
+use Rattle.hop_law.proofs.Taking.{SameHead}
+use Rattle.hop_law.proofs.Heads.{after_heads}
+use Rattle.hop_law.proofs.Passing.{first_true}
 use Rattle.hop_law.specs.Confirming.{IsStill, IsConfirmed, ByArrival, ByConfirm, is_answer, OnlyByConfirm, ByAnswer, BecomesKnown}
 use Rattle.hop_law.proofs.Along.{of_end}
 

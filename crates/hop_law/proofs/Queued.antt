@@ -9,19 +9,19 @@ use Rattle.relay_base.specs.declared.words.Output.TheVariants.{Sent, Told, Lost}
 use Rattle.plant_core.specs.declared.terms.Ticks.{Ticks}
 use Rattle.section_model.specs.Ends.{End, wire, owner, DataUnit, SectionHead, Section, Connection}
 use Rattle.section_model.specs.Step.{connection_step}
-use Rattle.carried_law.specs.CarriedLaw.{all_as_dt1}
-use Rattle.carried_law.specs.Units.{units_for, units_from, units_on}
+use Rattle.hop_law.specs.CarriedLaw.{all_as_dt1}
+use Rattle.hop_law.specs.Units.{units_for, units_from, units_on}
 use Rattle.connection_law.specs.InStep.{passed_at, got_at, sent_at, IsInStep}
 use Rattle.connection_law.specs.Messages.{is_of_type, data_among, acted, stepped}
 use Rattle.connection_law.specs.DataSent.{all_as_data, data_on}
 use Rattle.connection_law.proofs.Flow.Flowing.{either}
 use Rattle.connection_law.proofs.Message.Sent.{data_sent}
-use Rattle.passing_law.specs.PassingLaw.{dt1_among, at_once, Brings, Passing, none, on_this, on_that}
-use Rattle.passing_law.specs.PlaceLaw.{StaysPut}
-use Rattle.passing_law.specs.LeavingLaw.{this_and_that, that_and_this, IsApart}
-use Rattle.passing_law.proofs.Carrying.{no_units}
-use Rattle.passing_law.proofs.Passing.{units_pass}
-use Rattle.passing_law.proofs.Placing.{event_place}
+use Rattle.hop_law.specs.PassingLaw.{dt1_among, at_once, Brings, Passing, none, on_this, on_that}
+use Rattle.hop_law.specs.PlaceLaw.{StaysPut}
+use Rattle.hop_law.specs.LeavingLaw.{this_and_that, that_and_this, IsApart}
+use Rattle.hop_law.proofs.Carrying.{no_units}
+use Rattle.hop_law.proofs.Passing.{units_pass}
+use Rattle.hop_law.proofs.Placing.{event_place}
 use Rattle.hop_law.specs.Waiting.{Waiting, message_to, messages_to, units_waiting, UnitsWait}
 use Rattle.hop_law.proofs.Lists.{all_joined, each_filtered}
 

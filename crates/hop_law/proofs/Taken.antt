@@ -18,27 +18,27 @@ use Rattle.section_model.specs.Ends.{End, wire, owner, DataUnit, Section, Connec
 use Rattle.section_model.specs.Step.{hears, is_named, connection_step}
 use Rattle.section_model.specs.Opening.{wish_of}
 use Rattle.section_model.specs.Lane.{next, heard, follow, reference_of}
-use Rattle.carried_law.specs.Units.{carries, unit_of, units_by, units_for}
+use Rattle.hop_law.specs.Units.{carries, unit_of, units_by, units_for}
 use Rattle.connection_law.specs.InStep.{class_at, got_at, IsInStep}
 use Rattle.connection_law.specs.Messages.{is_of_type, stepped}
 use Rattle.connection_law.proofs.Flow.Flowing.{either}
 use Rattle.connection_law.proofs.Flow.Opening.{opening_begins}
 use Rattle.connection_law.proofs.Flow.Step.{step_keeps}
 use Rattle.connection_law.proofs.Reference.Step.{step_stays}
-use Rattle.text_law.specs.TextLaw.{Begins}
-use Rattle.passing_law.specs.ClassLaw.{IsOfAClass}
-use Rattle.passing_law.specs.PassingLaw.{IsOpen, StaysOrClears, Brings, Passing, none, on_this, on_that}
-use Rattle.passing_law.specs.PlaceLaw.{StaysPut}
-use Rattle.passing_law.specs.TakingLaw.{AsksReset, IsFor, StandsAt, at_this, at_that, IsTaken}
-use Rattle.passing_law.specs.LeavingLaw.{AreSides, this_and_that, that_and_this}
-use Rattle.passing_law.specs.EarlyLaw.{IsEmptyEarly}
-use Rattle.passing_law.specs.ClearingLaw.{is_reset, SendsReset}
-use Rattle.passing_law.proofs.Accepting.{units_are_taken}
-use Rattle.passing_law.proofs.Passing.{first_true, second_true, units_pass}
-use Rattle.passing_law.proofs.Placing.{along_place}
-use Rattle.passing_law.proofs.Early.{step_early, opening_empty}
-use Rattle.passing_law.proofs.Classes.{classes_stay}
-use Rattle.passing_law.proofs.Clearing.{no_clearing}
+use Rattle.hop_law.specs.TextLaw.{Begins}
+use Rattle.hop_law.specs.ClassLaw.{IsOfAClass}
+use Rattle.hop_law.specs.PassingLaw.{IsOpen, StaysOrClears, Brings, Passing, none, on_this, on_that}
+use Rattle.hop_law.specs.PlaceLaw.{StaysPut}
+use Rattle.hop_law.specs.TakingLaw.{AsksReset, IsFor, StandsAt, at_this, at_that, IsTaken}
+use Rattle.hop_law.specs.LeavingLaw.{AreSides, this_and_that, that_and_this}
+use Rattle.hop_law.specs.EarlyLaw.{IsEmptyEarly}
+use Rattle.hop_law.specs.ClearingLaw.{is_reset, SendsReset}
+use Rattle.hop_law.proofs.Accepting.{units_are_taken}
+use Rattle.hop_law.proofs.Passing.{first_true, second_true, units_pass}
+use Rattle.hop_law.proofs.Placing.{along_place}
+use Rattle.hop_law.proofs.Early.{step_early, opening_empty}
+use Rattle.hop_law.proofs.Classes.{classes_stay}
+use Rattle.hop_law.proofs.Clearing.{no_clearing}
 use Rattle.hop_law.specs.LeftAlong.{outs_along}
 use Rattle.hop_law.specs.TakenAlong.{brought_to, brought_along, IsOfClass, ArrivalFits, Fits, AllFit, TakenAlong}
 use Rattle.hop_law.proofs.Along.{section_at, of_end, empty_first, stays_early, AllHear, all_hear, neither}

@@ -11,7 +11,7 @@ use Rattle.section_model.specs.Line.{credit_of}
 use Rattle.section_model.specs.Step.{connection_step}
 use Rattle.connection_law.specs.InStep.{IsInStep}
 use Rattle.connection_law.specs.Messages.{acted}
-use Rattle.passing_law.specs.LeavingLaw.{AreSides, IsApart}
+use Rattle.hop_law.specs.LeavingLaw.{AreSides, IsApart}
 use Rattle.hop_law.specs.Waiting.{Waiting, messages_to}
 
 abbrev pub waiting_on : SectionHead → Message → Waiting

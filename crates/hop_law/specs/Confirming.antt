@@ -9,8 +9,8 @@ use Rattle.section_model.specs.declared.cell.SectionState.TheVariants.{Up, Endin
 use Rattle.section_model.specs.Parameters.{Arrival, arrival_in}
 use Rattle.section_model.specs.Ends.{End, wire, SectionHead, Section, Connection, is_reached}
 use Rattle.section_model.specs.Step.{is_named, hears, connection_step}
-use Rattle.passing_law.specs.TakingLaw.{StandsAt}
-use Rattle.passing_law.specs.LeavingLaw.{AreSides}
+use Rattle.hop_law.specs.TakingLaw.{StandsAt}
+use Rattle.hop_law.specs.LeavingLaw.{AreSides}
 
 -- CC for the section came from a point: that is the section's point now, and the references are each other's. It is up, in the class that CC names, or
 -- it is released.

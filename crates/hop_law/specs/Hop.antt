@@ -14,13 +14,13 @@ use Rattle.section_model.specs.Parameters.{Arrival, arrival_in}
 use Rattle.section_model.specs.Ends.{End, wire, Section, Connection, is_reached, is_gone}
 use Rattle.section_model.specs.Step.{destination_of}
 use Rattle.section_model.specs.Lane.{fed, part_by, reference_of}
-use Rattle.carried_law.specs.Units.{units_on}
+use Rattle.hop_law.specs.Units.{units_on}
 use Rattle.connection_law.specs.InStep.{got_at, IsInStep}
-use Rattle.text_law.specs.TextLaw.{Begins}
-use Rattle.passing_law.specs.ClassLaw.{IsOfAClass}
-use Rattle.passing_law.specs.LeavingLaw.{IsApart}
-use Rattle.passing_law.specs.ClearingLaw.{is_reset}
-use Rattle.passing_law.specs.ClosingLaw.{may_take}
+use Rattle.hop_law.specs.TextLaw.{Begins}
+use Rattle.hop_law.specs.ClassLaw.{IsOfAClass}
+use Rattle.hop_law.specs.LeavingLaw.{IsApart}
+use Rattle.hop_law.specs.ClearingLaw.{is_reset}
+use Rattle.hop_law.specs.ClosingLaw.{may_take}
 use Rattle.hop_law.specs.Waiting.{Waiting, messages_to, units_waiting}
 
 -- The connection as it is at the node that asked for it, and at the one that was asked: the sections to each other are `that` at the near node, and

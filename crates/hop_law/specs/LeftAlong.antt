@@ -12,11 +12,11 @@ use Rattle.section_model.specs.Ends.{End, wire, SectionHead, Section, Connection
 use Rattle.section_model.specs.Step.{connection_step}
 use Rattle.section_model.specs.Opening.{wish_of, opened}
 use Rattle.section_model.specs.Lane.{next, heard, follow}
-use Rattle.carried_law.specs.Units.{units_on}
+use Rattle.hop_law.specs.Units.{units_on}
 use Rattle.connection_law.specs.InStep.{class_at, passed_at, got_at}
-use Rattle.passing_law.specs.ClassLaw.{IsOfAClass}
-use Rattle.passing_law.specs.LeavingLaw.{AreSides, IsApart}
-use Rattle.passing_law.specs.ClearingLaw.{is_reset}
+use Rattle.hop_law.specs.ClassLaw.{IsOfAClass}
+use Rattle.hop_law.specs.LeavingLaw.{AreSides, IsApart}
+use Rattle.hop_law.specs.ClearingLaw.{is_reset}
 
 -- what a connection sends along events
 unfoldable pub outs_along : Ticks → Connection → List Event → List Output

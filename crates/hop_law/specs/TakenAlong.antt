@@ -15,11 +15,11 @@ use Rattle.section_model.specs.Parameters.{Arrival, arrival_in}
 use Rattle.section_model.specs.Ends.{End, wire, DataUnit, SectionHead, Section, Connection, is_up}
 use Rattle.section_model.specs.Opening.{wish_of, opened}
 use Rattle.section_model.specs.Lane.{next, heard, follow, reference_of}
-use Rattle.carried_law.specs.Units.{carries, units_for}
+use Rattle.hop_law.specs.Units.{carries, units_for}
 use Rattle.connection_law.specs.InStep.{class_at}
-use Rattle.passing_law.specs.ClassLaw.{IsOfAClass}
-use Rattle.passing_law.specs.LeavingLaw.{AreSides}
-use Rattle.passing_law.specs.ClearingLaw.{is_reset}
+use Rattle.hop_law.specs.ClassLaw.{IsOfAClass}
+use Rattle.hop_law.specs.LeavingLaw.{AreSides}
+use Rattle.hop_law.specs.ClearingLaw.{is_reset}
 use Rattle.hop_law.specs.LeftAlong.{outs_along}
 
 -- the unit that a message brings for a section that is up

@@ -7,10 +7,10 @@ use Rattle.relay_base.specs.declared.words.Output.TheVariants.{Sent}
 use Rattle.plant_core.specs.declared.terms.Ticks.{Ticks}
 use Rattle.section_model.specs.Ends.{End, wire, DataUnit, Section, Connection}
 use Rattle.section_model.specs.Step.{hears, connection_step}
-use Rattle.carried_law.specs.Units.{units_for, units_on}
+use Rattle.hop_law.specs.Units.{units_for, units_on}
 use Rattle.connection_law.specs.InStep.{IsInStep}
 use Rattle.connection_law.specs.Messages.{acted}
-use Rattle.passing_law.specs.LeavingLaw.{AreSides, IsApart}
+use Rattle.hop_law.specs.LeavingLaw.{AreSides, IsApart}
 
 -- a message that waits: its link selection and its octets
 pub record Waiting : Type 0 where

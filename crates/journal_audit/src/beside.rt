@@ -9,16 +9,15 @@ ghost use Rattle.journal_audit.specs.Inner.Judging.{fault_in, IsShort, AreShort,
 use crate::lanes::judge_first;
 use capture_form::Capture;
 use conn_journal::ConnJournal;
-use connection_list::ListedConnections;
+use data_lane::UnitJournal;
 use journal_finding::Fault;
 use journal_form::LaneForm;
 use lane_events::{Editions, PlacedPhases};
-use lane_heads::plant_of;
-use lane_replays::{PlainLane, PlainReplay};
+use lane_replays::{ListedConnections, PlainLane, PlainReplay};
 use plant_core::{ControlList, Group};
 use relay_base::Memory;
+use right_book::plant_of;
 use std::alloc::Global;
-use unit_journal::UnitJournal;
 
 /// What the lanes behind the control lane are judged beside.
 #[derive(Clone, Copy)]

@@ -15,9 +15,9 @@ use journal_finding::Fault;
 use journal_form::LaneForm;
 use lane_audit::{Replay, judge_lane};
 use lane_events::{Editions, Lane, LaneEvents, PlacedPhases};
-use lane_heads::plant_of;
 use plant_core::ControlList;
 use relay_base::Memory;
+use right_book::plant_of;
 use std::alloc::Global;
 
 /// The first fault of a lane in a text, or none, and then the lane's journal is the one that the text writes. The lane was before its first event.

@@ -14,7 +14,7 @@ use Rattle.plant_core.specs.declared.entry.Entry.{Entry}
 use Rattle.section_model.specs.Journals.{lane_of}
 use Rattle.section_model.specs.Lane.{legal_outputs}
 use Rattle.section_model.specs.Laws.{openings_from}
-use Rattle.unit_journal.specs.Legal.{at_first, state_after, step_of}
+use Rattle.data_lane.specs.Legal.{at_first, state_after, step_of}
 use Rattle.scmg.specs.Control.{Control, Managed, managed, edition_after, start_of_control, changes_in}
 use Rattle.scmg.specs.Inner.Kept.{after_entries}
 use Rattle.node_head.specs.declared.head.Head.{Head}

@@ -1,3 +1,4 @@
+pub mod LineLemmas
 pub mod EntryLemmas
 pub mod JudgeLemmas
 pub mod LaneLemmas

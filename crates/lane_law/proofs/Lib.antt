@@ -1,3 +1,10 @@
+pub mod Opened
+pub mod Held
+pub mod Standing
+pub mod Hearing
+pub mod Turns
+pub mod Splitting
+pub mod Playing
 pub mod Moments
 pub mod Parts
 pub mod Worlds

@@ -17,7 +17,7 @@ use Rattle.section_model.specs.Parameters.{arrival_of, arrival_by, arrival_in}
 use Rattle.section_model.specs.Step.{hears, names, named, is_in_range, destination_of}
 use Rattle.section_model.specs.Opening.{no_wish, wish_of, wish_of_message, wish_of_reading, wish_of_request}
 use Rattle.section_model.specs.Lane.{Lane, Opening, connection_of, is_tick, other_outputs, outputs_by, legal_outputs, answer_of, part_of, outputs_of_hearing}
-use Rattle.hearing_law.proofs.Hearing.{one_hears}
+use Rattle.lane_law.proofs.Hearing.{one_hears}
 use Rattle.lane_law.specs.SideBySide.{ticks_of, openings_at, PartsStand}
 use Rattle.lane_law.proofs.Moments.{entry_is_legal}
 

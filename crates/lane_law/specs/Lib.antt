@@ -1,1 +1,4 @@
+pub mod HearingLaw
+pub mod TurnLaw
+pub mod Played
 pub mod SideBySide

@@ -11,7 +11,7 @@ use Rattle.section_model.specs.Ends.{Connection}
 use Rattle.section_model.specs.Step.{hears, connection_step}
 use Rattle.section_model.specs.Opening.{Wish, Opened, wish_of, slots_needed}
 use Rattle.section_model.specs.Lane.{Lane, Opening, next, heard, part_of, connection_of, is_tick, lowest_free, opening_of, answer_of, IsConnectionJournal}
-use Rattle.hearing_law.specs.HearingLaw.{openings_of}
+use Rattle.lane_law.specs.HearingLaw.{openings_of}
 
 -- An entry of a lane's journal, with those before it and those since.
 pub record Moment : Type 0 where

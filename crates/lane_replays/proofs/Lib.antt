@@ -1,1 +1,2 @@
+mod Scans
 pub mod RulesLemmas

@@ -1,6 +1,6 @@
 -- What the lanes of the two kinds have to do is what a journal's text is judged by.
 use Rattle.std.proofs.Common.{◌≡◌, refl}
-use Rattle.unit_journal.specs.Legal.{question_of}
+use Rattle.data_lane.specs.Legal.{question_of}
 use Rattle.right_book.specs.Lanes.{conn_question}
 use Rattle.journal_finding.specs.Lanes.{conn_rules, data_rules}
 use Rattle.lane_events.specs.declared.placing.Lane.TheVariants.{Conn, Data}

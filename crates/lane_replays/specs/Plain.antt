@@ -12,7 +12,7 @@ use Rattle.plant_core.specs.declared.terms.LaneHead.{LaneHead}
 use Rattle.section_model.specs.Journals.{lane_of}
 use Rattle.section_model.specs.Lane.{legal_outputs}
 use Rattle.section_model.specs.Laws.{openings_from}
-use Rattle.unit_journal.specs.Legal.{at_first, state_after, step_of}
+use Rattle.data_lane.specs.Legal.{at_first, state_after, step_of}
 use Rattle.node_head.specs.declared.head.Head.{Head}
 use Rattle.capture_form.specs.Events.{Stamped}
 use Rattle.right_book.specs.Heads.{lane_head_of}

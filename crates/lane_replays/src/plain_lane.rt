@@ -1,11 +1,12 @@
 //! The lanes whose events are no changes of routing data.
+
+use crate::listed::ListedConnections;
 use conn_journal::ConnJournal;
-use connection_list::ListedConnections;
+use data_lane::UnitJournal;
 use lane_events::Lane;
 use plant_core::{EntryList, LaneHead, Plant};
 use relay_base::{Event, Memory, Stamp};
 use std::alloc::Global;
-use unit_journal::UnitJournal;
 
 /// A lane of a kind whose events are no changes of routing data. Its journal is a legal one at all
 /// times.
@@ -67,7 +68,7 @@ impl PlainLane for ConnJournal<ListedConnections> {
     ghost use Rattle.std.specs.Prelude.{[], ◌∷◌};
     ghost use Rattle.section_model.specs.Journals.{IsConnJournal, lane_of};
     ghost use Rattle.right_book.specs.Lanes.{conn_question};
-    ghost use Rattle.journal_law.proofs.Splitting.{splits as conn_splits};
+    ghost use Rattle.lane_law.proofs.Splitting.{splits as conn_splits};
     ghost use Rattle.lane_events.specs.declared.placing.Lane.TheVariants.{Conn};
     ghost use Rattle.lane_replays.specs.Plain.{conn_outcomes};
 
@@ -107,7 +108,7 @@ impl PlainLane for ConnJournal<ListedConnections> {
 
 impl PlainLane for UnitJournal {
     ghost use Rattle.std.specs.Prelude.{[], ◌∷◌};
-    ghost use Rattle.unit_journal.specs.Legal.{IsDataJournal, at_first, question_of};
+    ghost use Rattle.data_lane.specs.Legal.{IsDataJournal, at_first, question_of};
     ghost use Rattle.unit_law.proofs.Splitting.{splits as data_splits};
     ghost use Rattle.lane_events.specs.declared.placing.Lane.TheVariants.{Data};
     ghost use Rattle.lane_replays.specs.Plain.{data_outcomes};

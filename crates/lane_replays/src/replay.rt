@@ -9,12 +9,11 @@ ghost use Rattle.journal_finding.specs.Entries.{same_lines};
 
 use crate::plain_lane::PlainLane;
 use capture_form::Capture;
-use entry_lines::is_entry_written;
 use journal_form::EntryForm;
-use lane_audit::{Judged, Replay};
-use lane_heads::lane_head_of;
+use lane_audit::{Judged, Replay, is_entry_written};
 use plant_core::{ControlEvent, ControlList, Entry, Plant};
 use relay_base::{Event, Memory, Stamp};
+use right_book::lane_head_of;
 use std::alloc::Global;
 use std::marker::Model;
 

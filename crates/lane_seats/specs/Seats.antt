@@ -11,8 +11,8 @@ use Rattle.plant_core.specs.declared.entry.Asked.{Asked}
 use Rattle.plant_core.specs.declared.entry.Entry.{Entry}
 use Rattle.plant_core.specs.declared.terms.LaneHead.{LaneHead}
 use Rattle.gtt_editions.specs.Standing.{Standing, LooksFrom, newest_of}
-use Rattle.unit_journal.specs.Legal.{LaneState}
-use Rattle.unit_journal.specs.Legal.{question_of as question_of_unit}
+use Rattle.data_lane.specs.Legal.{LaneState}
+use Rattle.data_lane.specs.Legal.{question_of as question_of_unit}
 use Rattle.node_head.specs.declared.head.Head.{Head}
 use Rattle.capture_form.specs.declared.lane_place.LanePlace.{LanePlace}
 use Rattle.capture_form.specs.Events.{Stamped}

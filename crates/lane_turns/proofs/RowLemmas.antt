@@ -16,7 +16,7 @@ use Rattle.link_threads.specs.Phases.{links_of}
 use Rattle.link_threads.specs.Gates.{IsAtOpening, HasTaken}
 use Rattle.scmg.specs.Lane.{ControlState}
 use Rattle.conn_journal.specs.Lanes.{ConnLaneState}
-use Rattle.unit_journal.specs.Legal.{LaneState}
+use Rattle.data_lane.specs.Legal.{LaneState}
 use Rattle.link_threads.specs.Pairs.{Beside, PairsFrom}
 use Rattle.lane_seats.specs.Seats.{SeatState, WentOn, conn_seat, data_seat, data_seated}
 use Rattle.lane_seats.specs.Controls.{ControlSeatState}

@@ -4,7 +4,7 @@ use Rattle.plant_core.specs.declared.terms.TheConstants.{USUAL_TICKS}
 use Rattle.gtt_editions.specs.Published.{nothing}
 use Rattle.gtt_editions.specs.Shown.{no_edition}
 use Rattle.conn_journal.specs.Lanes.{ConnLaneState}
-use Rattle.unit_journal.specs.Legal.{LaneState}
+use Rattle.data_lane.specs.Legal.{LaneState}
 use Rattle.lane_seats.specs.Seats.{SeatState}
 use Rattle.lane_seats.specs.Controls.{ControlSeatState}
 

@@ -5,7 +5,7 @@ use Rattle.node_head.specs.declared.head.Head.{Head}
 use Rattle.capture_form.specs.Events.{Stamped}
 use Rattle.scmg.specs.Lane.{ControlState}
 use Rattle.conn_journal.specs.Lanes.{ConnLaneState}
-use Rattle.unit_journal.specs.Legal.{LaneState}
+use Rattle.data_lane.specs.Legal.{LaneState}
 use Rattle.gtt_editions.specs.Standing.{Publishing}
 use Rattle.link_threads.specs.declared.lane_name.LaneName.{LaneName}
 use Rattle.link_threads.specs.declared.lane_name.LaneName.TheVariants as name

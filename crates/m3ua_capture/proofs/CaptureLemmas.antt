@@ -13,7 +13,7 @@ use Rattle.plant_core.specs.declared.entry.ControlEvent.TheVariants.{Plain}
 use Rattle.node_head.specs.declared.head.Head.{Head}
 use Rattle.node_head.specs.Head.{head_of}
 use Rattle.node_head.specs.declared.fault.HeadFault.{HeadFault}
-use Rattle.m3ua_head.specs.OneLink.{one_link, one_link_head}
+use Rattle.m3ua_capture.specs.OneLink.{one_link, one_link_head}
 use Rattle.capture_form.specs.Capture.{at_head}
 use Rattle.capture_form.specs.Events.{Stamped, all_events, AreOfPhases, IsStamped}
 use Rattle.capture_form.specs.Links.{comes_on_link, AreLinked}

@@ -1,3 +1,4 @@
+pub mod TextLemmas
 mod FrameLemmas
 mod PartLemmas
 pub mod CaptureLemmas

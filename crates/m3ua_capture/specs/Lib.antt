@@ -1,3 +1,4 @@
+pub mod OneLink
 pub mod Note
 pub mod Streams
 pub mod Inner

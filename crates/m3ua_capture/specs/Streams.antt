@@ -9,7 +9,7 @@ use Rattle.relay_base.specs.declared.words.Event.{Event}
 use Rattle.plant_core.specs.declared.entry.ControlEvent.TheVariants.{Plain}
 use Rattle.node_head.specs.declared.head.Head.{Head}
 use Rattle.node_head.specs.declared.fault.HeadKind.TheVariants as kind
-use Rattle.m3ua_head.specs.OneLink.{one_link_head}
+use Rattle.m3ua_capture.specs.OneLink.{one_link_head}
 use Rattle.node_head.specs.Refusals.{fault}
 use Rattle.capture_form.specs.Events.{Stamped}
 use Rattle.capture_form.specs.Capture.{at_head}

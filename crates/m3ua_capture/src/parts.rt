@@ -6,8 +6,8 @@ ghost use Rattle.node_head.specs.Refusals.{fault};
 ghost use Rattle.capture_form.specs.Capture.{Reads};
 ghost use Rattle.m3ua_capture.specs.Streams.{is_mark, stream_start, head_before};
 
+use crate::one_link::read_one_link_head;
 use capture_form::CaptureFault;
-use m3ua_head::read_one_link_head;
 use node_head::{Head, HeadFault, HeadKind, HeadRefused};
 use relay_base::{Memory, Octets};
 use std::alloc::Global;

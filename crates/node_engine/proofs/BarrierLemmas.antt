@@ -18,7 +18,7 @@ use Rattle.plant_core.specs.declared.entry.ControlEvent.TheVariants.{Plain}
 use Rattle.plant_core.specs.declared.terms.LaneHead.{LaneHead}
 use Rattle.gtt_editions.specs.Published.{Published, published, nothing, Begins}
 use Rattle.gtt_editions.specs.Standing.{Standing, LooksFrom, newest_of}
-use Rattle.unit_journal.specs.Legal.{LaneState}
+use Rattle.data_lane.specs.Legal.{LaneState}
 use Rattle.conn_journal.specs.Lanes.{ConnLaneState}
 use Rattle.node_head.specs.declared.head.Head.{Head}
 use Rattle.capture_form.specs.Events.{Stamped, AreOfLinks}

@@ -8,7 +8,7 @@ use Rattle.plant_core.specs.declared.entry.Entry.{Entry}
 use Rattle.plant_core.specs.declared.entry.ControlEntry.{ControlEntry}
 use Rattle.plant_core.specs.declared.entry.ControlEvent.{ControlEvent}
 use Rattle.plant_core.specs.declared.entry.ControlEvent.TheVariants.{Plain}
-use Rattle.unit_journal.specs.Legal.{LaneState, IsDataJournal}
+use Rattle.data_lane.specs.Legal.{LaneState, IsDataJournal}
 use Rattle.section_model.specs.Journals.{IsConnJournal}
 use Rattle.conn_journal.specs.Lanes.{ConnLaneState}
 use Rattle.scmg.specs.Control.{IsControlJournal}

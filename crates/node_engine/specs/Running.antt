@@ -6,7 +6,7 @@ use Rattle.relay_base.specs.declared.words.Event.{Event}
 use Rattle.plant_core.specs.Asking.{Question}
 use Rattle.plant_core.specs.declared.entry.Entry.{Entry}
 use Rattle.plant_core.specs.declared.entry.ControlEntry.{ControlEntry}
-use Rattle.unit_journal.specs.Legal.{LaneState, IsDataJournal}
+use Rattle.data_lane.specs.Legal.{LaneState, IsDataJournal}
 use Rattle.section_model.specs.Journals.{IsConnJournal}
 use Rattle.conn_journal.specs.Lanes.{ConnLaneState}
 use Rattle.node_head.specs.declared.head.Head.{Head}

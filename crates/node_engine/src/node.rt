@@ -10,9 +10,9 @@ ghost use Rattle.node_engine.specs.Running.{IsFirst, IsConnLaneOf, IsDataLaneOf}
 
 use conn_lane::ConnLane;
 use data_lane::DataLane;
-use lane_heads::{control_head_of, lane_head_of, plant_of};
 use node_head::Head;
 use relay_base::Memory;
+use right_book::{control_head_of, lane_head_of, plant_of};
 use scmg::{ControlHead, ControlLane};
 use std::alloc::Global;
 

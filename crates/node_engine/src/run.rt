@@ -2,7 +2,7 @@
 ghost use Rattle.std.specs.Prelude.{◌≡◌, ◌<◌, ◌^◌, [], length, IfOk, OnOk, OnErr};
 ghost use Rattle.std.specs.List.{AllByRecursion};
 ghost use Rattle.section_model.specs.Journals.{IsConnJournal};
-ghost use Rattle.unit_journal.specs.Legal.{IsDataJournal};
+ghost use Rattle.data_lane.specs.Legal.{IsDataJournal};
 ghost use Rattle.node_head.specs.Ranges.{IsHead};
 ghost use Rattle.journal_text.specs.Book.{IsEmpty};
 ghost use Rattle.capture_form.specs.Events.{all_events, IsStamped};

@@ -22,7 +22,7 @@ use Rattle.section_model.specs.Opening.{Wanted, Wish, by_cr, by_user, no_wish, w
 use Rattle.connection_law.proofs.Flow.Flowing.{either}
 use Rattle.hop_law.specs.Waiting.{messages_to}
 use Rattle.chain_step.specs.Run.{messages_in}
-use Rattle.row_law.proofs.Reading.{IsCrWith, reads_cr}
+use Rattle.passage_law.proofs.Reading.{IsCrWith, reads_cr}
 
 -- CR from a node, with this source
 pub record IsCr (own mine : ℕ) (event : Event) : Type 0 where

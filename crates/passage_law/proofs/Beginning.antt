@@ -16,29 +16,29 @@ use Rattle.section_model.specs.Opening.{wish_of}
 use Rattle.section_model.specs.Journals.{IsConnJournal}
 use Rattle.section_model.specs.Lane.{answer_of, reference_of, heard, follow, legal_outputs, IsLegalEntry}
 use Rattle.section_model.specs.Laws.{openings_from}
-use Rattle.journal_law.proofs.Splitting.{splits}
-use Rattle.carried_law.specs.Units.{units_on}
-use Rattle.carried_law.proofs.Reading.{joined_on}
+use Rattle.lane_law.proofs.Splitting.{splits}
+use Rattle.hop_law.specs.Units.{units_on}
+use Rattle.hop_law.proofs.Reading.{joined_on}
 use Rattle.connection_law.specs.InStep.{class_at, IsInStep}
 use Rattle.connection_law.proofs.Flow.Opening.{opening_begins}
-use Rattle.passing_law.specs.ClassLaw.{IsOfAClass}
-use Rattle.passing_law.specs.LeavingLaw.{IsApart}
-use Rattle.passing_law.proofs.Early.{opening_empty}
+use Rattle.hop_law.specs.ClassLaw.{IsOfAClass}
+use Rattle.hop_law.specs.LeavingLaw.{IsApart}
+use Rattle.hop_law.proofs.Early.{opening_empty}
 use Rattle.hop_law.specs.LeftAlong.{outs_along}
 use Rattle.hop_law.specs.Waiting.{Waiting, messages_to}
 use Rattle.hop_law.specs.Hop.{Hop, Neighbours, GotNothing, IsStrange, IsElsewhere, IsBegun}
 use Rattle.hop_law.proofs.Along.{apart_place}
 use Rattle.hop_law.proofs.Lists.{all_joined, each_filtered}
 use Rattle.chain_step.specs.Run.{NodeState, RunState, head_of, messages_in, neighbour, given_of, node_at}
-use Rattle.row_law.specs.Nodes.{IsNode}
-use Rattle.row_law.specs.Links.{is_from}
-use Rattle.row_law.specs.Fair.{AreStrange}
-use Rattle.row_law.proofs.Linking.{sent_by, Links}
-use Rattle.trail_law.specs.Trails.{Leg, lane_at, IsLeg, heard_on, now_on, outs_on, IsNext}
-use Rattle.trail_law.specs.Hops.{as_waiting, queue_of}
-use Rattle.trail_law.specs.Resets.{met_on}
-use Rattle.trail_law.proofs.Opening.{opens_outs}
-use Rattle.trail_law.proofs.Trailing.{references_at, is_legal}
+use Rattle.passage_law.specs.Nodes.{IsNode}
+use Rattle.passage_law.specs.Links.{is_from}
+use Rattle.passage_law.specs.Fair.{AreStrange}
+use Rattle.passage_law.proofs.Linking.{sent_by, Links}
+use Rattle.passage_law.specs.Trails.{Leg, lane_at, IsLeg, heard_on, now_on, outs_on, IsNext}
+use Rattle.passage_law.specs.Hops.{as_waiting, queue_of}
+use Rattle.passage_law.specs.Resets.{met_on}
+use Rattle.passage_law.proofs.Opening.{opens_outs}
+use Rattle.passage_law.proofs.Trailing.{references_at, is_legal}
 use Rattle.passage_law.proofs.Fair.{IsOfOthers, IsNotTo, ReferenceFits, sent_to, IsBeginning}
 use Rattle.passage_law.proofs.Queue.{waiting_in}
 use Rattle.passage_law.proofs.Asking.{IsCr, Asks, IsAskedAs, opening_as, IsAskedBy, asked_by}

@@ -10,12 +10,12 @@ use Rattle.section_model.specs.Ends.{End, Connection}
 use Rattle.section_model.specs.Lane.{part_by}
 use Rattle.hop_law.specs.Waiting.{Waiting}
 use Rattle.hop_law.proofs.Lists.{all_joined}
-use Rattle.reset_law.specs.Answering.{BringsRsr, NoneBringsRsr}
-use Rattle.reset_law.specs.Coming.{SendsNoRsr, NoRsrWaits}
-use Rattle.reset_law.proofs.Coming.{parted, strange_not, elsewhere_brings_none}
-use Rattle.course_law.proofs.Flows.{Comes, elsewhere, first}
-use Rattle.trail_law.specs.Trails.{Leg, now_on, outs_on}
-use Rattle.trail_law.specs.Resets.{met_on, RsrCrosses}
+use Rattle.hop_law.specs.ResetAnswering.{BringsRsr, NoneBringsRsr}
+use Rattle.hop_law.specs.Coming.{SendsNoRsr, NoRsrWaits}
+use Rattle.hop_law.proofs.Coming.{parted, strange_not, elsewhere_brings_none}
+use Rattle.hop_law.proofs.Flows.{Comes, elsewhere, first}
+use Rattle.passage_law.specs.Trails.{Leg, now_on, outs_on}
+use Rattle.passage_law.specs.Resets.{met_on, RsrCrosses}
 use Rattle.passage_law.proofs.Waiting.{IsNoAnswer}
 use Rattle.passage_law.proofs.Legs.{leg_more, events_more, outs_on_more}
 

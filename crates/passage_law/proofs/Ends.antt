@@ -21,33 +21,33 @@ use Rattle.section_model.specs.Lane.{reference_of, opening_of, answer_of}
 use Rattle.section_model.specs.Laws.{openings_from}
 use Rattle.hop_law.specs.Hop.{IsElsewhere}
 use Rattle.hop_law.proofs.Lists.{all_joined}
-use Rattle.reset_law.specs.Answering.{IsRsrFor, BringsRsr, NoneBringsRsr}
-use Rattle.reset_law.proofs.Coming.{elsewhere_brings_none}
+use Rattle.hop_law.specs.ResetAnswering.{IsRsrFor, BringsRsr, NoneBringsRsr}
+use Rattle.hop_law.proofs.Coming.{elsewhere_brings_none}
 use Rattle.chain_step.specs.declared.step.Step.{Step}
 use Rattle.chain_step.specs.Fresh.{all_fresh}
 use Rattle.chain_step.specs.Run.{NodeState, RunState, head_of, messages_in, node_at, run_of}
-use Rattle.row_law.specs.Nodes.{AreSteps}
-use Rattle.row_law.specs.Links.{is_from}
-use Rattle.row_law.specs.Naming.{NamesArrival, NamesMessage}
-use Rattle.row_law.specs.References.{Firsts, firsts_in, OfOne, IsTo, IsAskedBy, ArePaired, IsCrFrom, AnswersTo, allowed}
-use Rattle.row_law.specs.Once.{is_cr_from}
-use Rattle.row_law.specs.Ways.{IsOnward}
-use Rattle.row_law.proofs.Standing.{are_nodes}
-use Rattle.row_law.proofs.Linking.{sent_by, is_row}
-use Rattle.row_law.proofs.Referring.{IsSentEvent, all_sent, is_referred}
-use Rattle.row_law.proofs.AskedOnce.{is_that_cr}
-use Rattle.row_law.proofs.Once.{IsNoCr, sent_among, cr_is_of_opening}
-use Rattle.row_law.proofs.Fair.{opening_least}
-use Rattle.row_law.proofs.Own.{none_named}
-use Rattle.row_law.proofs.Ways.{all_go_on}
-use Rattle.trail_law.specs.Trails.{Leg, IsLeg, IsNext, IsWhole, AreLegs, is_user, last_of}
-use Rattle.trail_law.specs.Resets.{met_on, RunEnds}
-use Rattle.trail_law.specs.TrailLaw.{UsersEndTrails}
-use Rattle.trail_law.proofs.Trailing.{within}
-use Rattle.trail_law.proofs.Resetting.{user_brings_none}
-use Rattle.trail_law.proofs.Openings.{leg_opening, leg_has, opened_leg}
-use Rattle.trail_law.proofs.Coming.{asked_came, is_from_cr}
-use Rattle.trail_law.proofs.Standing.{onward_of}
+use Rattle.passage_law.specs.Nodes.{AreSteps}
+use Rattle.passage_law.specs.Links.{is_from}
+use Rattle.passage_law.specs.Naming.{NamesArrival, NamesMessage}
+use Rattle.passage_law.specs.References.{Firsts, firsts_in, OfOne, IsTo, IsAskedBy, ArePaired, IsCrFrom, AnswersTo, allowed}
+use Rattle.passage_law.specs.Once.{is_cr_from}
+use Rattle.passage_law.specs.Ways.{IsOnward}
+use Rattle.passage_law.proofs.RowStanding.{are_nodes}
+use Rattle.passage_law.proofs.Linking.{sent_by, is_row}
+use Rattle.passage_law.proofs.Referring.{IsSentEvent, all_sent, is_referred}
+use Rattle.passage_law.proofs.AskedOnce.{is_that_cr}
+use Rattle.passage_law.proofs.Once.{IsNoCr, sent_among, cr_is_of_opening}
+use Rattle.passage_law.proofs.RowFair.{opening_least}
+use Rattle.passage_law.proofs.Own.{none_named}
+use Rattle.passage_law.proofs.Ways.{all_go_on}
+use Rattle.passage_law.specs.Trails.{Leg, IsLeg, IsNext, IsWhole, AreLegs, is_user, last_of}
+use Rattle.passage_law.specs.Resets.{met_on, RunEnds}
+use Rattle.passage_law.specs.TrailLaw.{UsersEndTrails}
+use Rattle.passage_law.proofs.Trailing.{within}
+use Rattle.passage_law.proofs.Resetting.{user_brings_none}
+use Rattle.passage_law.proofs.Openings.{leg_opening, leg_has, opened_leg}
+use Rattle.passage_law.proofs.Coming.{asked_came, is_from_cr}
+use Rattle.passage_law.proofs.Standing.{onward_of}
 use Rattle.passage_law.proofs.Fair.{IsOfOthers}
 use Rattle.passage_law.proofs.Asking.{Asks}
 use Rattle.passage_law.proofs.Beginning.{leg_parts, all_came, leg_opens}

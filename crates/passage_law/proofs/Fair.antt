@@ -14,12 +14,12 @@ use Rattle.chain_step.specs.declared.step.Step.{Step}
 use Rattle.chain_step.specs.Fresh.{all_fresh}
 use Rattle.chain_step.specs.Run.{NodeState, RunState, messages_in, outputs_of, node_at, run_of, after_step}
 use Rattle.chain_step.specs.Steps.{is_step}
-use Rattle.row_law.specs.Nodes.{AreSteps}
-use Rattle.row_law.specs.Links.{is_from}
-use Rattle.row_law.specs.Fair.{AreStrange}
-use Rattle.row_law.proofs.Changing.{meets, change_by}
-use Rattle.trail_law.specs.Trails.{Leg, now_on}
-use Rattle.trail_law.specs.Hops.{AreNeighbours}
+use Rattle.passage_law.specs.Nodes.{AreSteps}
+use Rattle.passage_law.specs.Links.{is_from}
+use Rattle.passage_law.specs.Fair.{AreStrange}
+use Rattle.passage_law.proofs.Changing.{meets, change_by}
+use Rattle.passage_law.specs.Trails.{Leg, now_on}
+use Rattle.passage_law.specs.Hops.{AreNeighbours}
 
 -- A node meets an event. Of its outputs some are the part of the leg's connection; all others that go to the point of the hop's other node are strange to
 -- the connection there. And a message from elsewhere doesn't name the section to that node.

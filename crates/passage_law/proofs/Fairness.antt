@@ -24,23 +24,23 @@ use Rattle.chain_step.specs.Fresh.{has_twice, all_fresh}
 use Rattle.chain_step.specs.Run.{NodeState, RunState, neighbour, given_of, waiting, outputs_of, entry_of, node_at, start, run_of, after_step}
 use Rattle.chain_step.specs.Steps.{is_step, has_neighbour}
 use Rattle.chain_step.proofs.Running.{after_more, passer_exists, neighbour_exists}
-use Rattle.row_law.specs.Nodes.{AreSteps}
-use Rattle.row_law.specs.Links.{is_from}
-use Rattle.row_law.specs.References.{firsts_of, Firsts, firsts_in, OfOne, IsTo, IsAskedBy, Gave, Asks, IsCrFrom}
-use Rattle.row_law.specs.Own.{NamesOwn}
-use Rattle.row_law.specs.Fair.{Has, AreJoined, AreStrange, HasStrange, IsNewEntry}
-use Rattle.row_law.proofs.Changing.{Change, stays, meets, gives, changed, at_node, passes, change_by, node_changed}
-use Rattle.row_law.proofs.Standing.{AreNodes}
-use Rattle.row_law.proofs.Linking.{sent_by, all_at, Links, IsRow, is_row}
-use Rattle.row_law.proofs.Referring.{IsSentEvent, all_sent, is_referred}
-use Rattle.row_law.proofs.Freshness.{ends_of, given_by, AreFresh, run_fresh, in_one_part, among_given, is_one, to_has, freshness_before}
-use Rattle.row_law.proofs.Own.{names_no_other}
-use Rattle.row_law.proofs.Fair.{has_first, opening_least, others_are_strange}
-use Rattle.row_law.proofs.Beginning.{nothing_before}
-use Rattle.trail_law.specs.Trails.{Leg, IsLeg, now_on}
-use Rattle.trail_law.specs.Hops.{AreNeighbours}
-use Rattle.trail_law.proofs.Openings.{leg_opening, leg_has, firsts_opened}
-use Rattle.trail_law.proofs.Coming.{asked_came}
+use Rattle.passage_law.specs.Nodes.{AreSteps}
+use Rattle.passage_law.specs.Links.{is_from}
+use Rattle.passage_law.specs.References.{firsts_of, Firsts, firsts_in, OfOne, IsTo, IsAskedBy, Gave, Asks, IsCrFrom}
+use Rattle.passage_law.specs.Own.{NamesOwn}
+use Rattle.passage_law.specs.Fair.{Has, AreJoined, AreStrange, HasStrange, IsNewEntry}
+use Rattle.passage_law.proofs.Changing.{Change, stays, meets, gives, changed, at_node, passes, change_by, node_changed}
+use Rattle.passage_law.proofs.RowStanding.{AreNodes}
+use Rattle.passage_law.proofs.Linking.{sent_by, all_at, Links, IsRow, is_row}
+use Rattle.passage_law.proofs.Referring.{IsSentEvent, all_sent, is_referred}
+use Rattle.passage_law.proofs.Freshness.{ends_of, given_by, AreFresh, run_fresh, in_one_part, among_given, is_one, to_has, freshness_before}
+use Rattle.passage_law.proofs.Own.{names_no_other}
+use Rattle.passage_law.proofs.RowFair.{has_first, opening_least, others_are_strange}
+use Rattle.passage_law.proofs.RowBeginning.{nothing_before}
+use Rattle.passage_law.specs.Trails.{Leg, IsLeg, now_on}
+use Rattle.passage_law.specs.Hops.{AreNeighbours}
+use Rattle.passage_law.proofs.Openings.{leg_opening, leg_has, firsts_opened}
+use Rattle.passage_law.proofs.Coming.{asked_came}
 use Rattle.passage_law.proofs.Fair.{IsMeeting, IsOfOthers, IsNotTo, ReferenceFits, sent_to, IsBeginning, RunsAreFair}
 use Rattle.passage_law.proofs.Queue.{IsMessageOf, waits_of_node}
 use Rattle.passage_law.proofs.Legs.{LegCut, opened_now, was_before, cut_leg, as_leg, no_leg_yet, along_run}

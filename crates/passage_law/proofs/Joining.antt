@@ -14,24 +14,24 @@ use Rattle.section_model.specs.Lane.{Opening, heard, connection_of, reference_of
 use Rattle.connection_law.proofs.Reference.Following.{following_stays}
 use Rattle.chain_step.specs.declared.step.Step.{Step}
 use Rattle.chain_step.specs.Run.{NodeState, head_of, openings_of, node_at, run_of}
-use Rattle.row_law.specs.Nodes.{AreSteps}
-use Rattle.row_law.specs.Links.{is_from}
-use Rattle.row_law.specs.Naming.{StandsOn, AsksFrom, NamesMessage}
-use Rattle.row_law.specs.References.{Firsts, firsts_in, OfOne, IsTo, IsAskedBy, Asks, HasSource, IsCrFrom, IsSection, allowed}
-use Rattle.row_law.specs.Fair.{Has, AreJoined}
-use Rattle.row_law.specs.Ways.{IsOnward}
-use Rattle.row_law.proofs.Linking.{Links}
-use Rattle.row_law.proofs.LaneNames.{AllStand}
-use Rattle.row_law.proofs.Referring.{IsSentEvent, all_sent, is_referred}
-use Rattle.row_law.proofs.Parting.{stand_back}
-use Rattle.row_law.proofs.Ways.{all_go_on}
-use Rattle.trail_law.specs.Trails.{Leg, IsLeg}
-use Rattle.trail_law.specs.Hops.{AreNeighbours}
-use Rattle.trail_law.proofs.Opening.{StandsWhere}
-use Rattle.trail_law.proofs.Trailing.{is_legal}
-use Rattle.trail_law.proofs.Openings.{leg_opening, leg_has}
-use Rattle.trail_law.proofs.Coming.{leg_came, is_from_cr}
-use Rattle.trail_law.proofs.Standing.{onward_of}
+use Rattle.passage_law.specs.Nodes.{AreSteps}
+use Rattle.passage_law.specs.Links.{is_from}
+use Rattle.passage_law.specs.Naming.{StandsOn, AsksFrom, NamesMessage}
+use Rattle.passage_law.specs.References.{Firsts, firsts_in, OfOne, IsTo, IsAskedBy, Asks, HasSource, IsCrFrom, IsSection, allowed}
+use Rattle.passage_law.specs.Fair.{Has, AreJoined}
+use Rattle.passage_law.specs.Ways.{IsOnward}
+use Rattle.passage_law.proofs.Linking.{Links}
+use Rattle.passage_law.proofs.LaneNames.{AllStand}
+use Rattle.passage_law.proofs.Referring.{IsSentEvent, all_sent, is_referred}
+use Rattle.passage_law.proofs.Parting.{stand_back}
+use Rattle.passage_law.proofs.Ways.{all_go_on}
+use Rattle.passage_law.specs.Trails.{Leg, IsLeg}
+use Rattle.passage_law.specs.Hops.{AreNeighbours}
+use Rattle.passage_law.proofs.Opening.{StandsWhere}
+use Rattle.passage_law.proofs.Trailing.{is_legal}
+use Rattle.passage_law.proofs.Openings.{leg_opening, leg_has}
+use Rattle.passage_law.proofs.Coming.{leg_came, is_from_cr}
+use Rattle.passage_law.proofs.Standing.{onward_of}
 use Rattle.passage_law.proofs.Asking.{IsAskedBy as IsAskedFrom, asked_by}
 use Rattle.passage_law.proofs.Beginning.{leg_parts, all_came, Opens, leg_opens, SentCr, sent_cr}
 

@@ -15,9 +15,9 @@ use Rattle.chain_step.specs.declared.step.Step.{Step}
 use Rattle.chain_step.specs.Run.{NodeState, RunState, entry_of, after_event, after_giving, node_at, start, run_of, after_step}
 use Rattle.chain_step.specs.Steps.{is_step}
 use Rattle.chain_step.proofs.Running.{after_more}
-use Rattle.row_law.specs.Nodes.{AreSteps}
-use Rattle.row_law.proofs.Standing.{first_is}
-use Rattle.trail_law.specs.Trails.{Leg, IsLeg, now_on, outs_on}
+use Rattle.passage_law.specs.Nodes.{AreSteps}
+use Rattle.passage_law.proofs.RowStanding.{first_is}
+use Rattle.passage_law.specs.Trails.{Leg, IsLeg, now_on, outs_on}
 
 -- with one entry more
 abbrev pub leg_more : Leg → Entry → Leg

@@ -6,10 +6,10 @@ use Rattle.section_model.specs.Lane.{fed, part_by}
 use Rattle.hop_law.specs.Waiting.{Waiting, messages_to}
 use Rattle.hop_law.specs.Hop.{Neighbours, HopStep, near_meets, far_meets, comes_forward, comes_back, joins_forward, joins_back, Course, near_fed, far_fed, come_forward, come_back, hop_step, hop_along, IsFair, AreFair}
 use Rattle.hop_law.proofs.Queued.{messages_joined}
-use Rattle.course_law.proofs.Flows.{Comes, elsewhere, first}
-use Rattle.course_law.proofs.Near.{back_is}
-use Rattle.course_law.proofs.Far.{forward_is}
-use Rattle.row_law.specs.Fair.{AreStrange}
+use Rattle.hop_law.proofs.Flows.{Comes, elsewhere, first}
+use Rattle.hop_law.proofs.Near.{back_is}
+use Rattle.hop_law.proofs.Far.{forward_is}
+use Rattle.passage_law.specs.Fair.{AreStrange}
 
 -- Fair steps lead from one course to another.
 pub record Leads (n : Neighbours) (g h : Course) : Type 0 where

@@ -11,9 +11,9 @@ use Rattle.chain_step.specs.declared.terms.TheConstants.{USER}
 use Rattle.chain_step.specs.Run.{NodeState, RunState, neighbour, given_of, waiting, node_at}
 use Rattle.chain_step.specs.Steps.{is_step}
 use Rattle.chain_step.proofs.Running.{passer_exists, neighbour_exists}
-use Rattle.row_law.specs.Links.{is_from}
-use Rattle.row_law.proofs.Changing.{Change, stays, meets, gives, at_node, passes, change_by}
-use Rattle.row_law.proofs.Linking.{sent_by, ComesFrom, waits_from, pass_own, pass_to, pass_from, pass_away, IsRow}
+use Rattle.passage_law.specs.Links.{is_from}
+use Rattle.passage_law.proofs.Changing.{Change, stays, meets, gives, at_node, passes, change_by}
+use Rattle.passage_law.proofs.Linking.{sent_by, ComesFrom, waits_from, pass_own, pass_to, pass_from, pass_away, IsRow}
 
 -- The changes at node i and at the next one. One of the two meets an event that isn't a message of the other; a message passes between them; or nothing of it.
 pub data Moves (i : ℕ) (near far : NodeState) : Change → Change → Type 0 where

@@ -10,33 +10,33 @@ use Rattle.plant_core.specs.declared.terms.LaneHead.{LaneHead}
 use Rattle.plant_core.specs.declared.terms.TheConstants.{USUAL_TICKS}
 use Rattle.section_model.specs.Ends.{End, wire, owner, SectionHead}
 use Rattle.section_model.specs.Lane.{fed, part_by, reference_of}
-use Rattle.carried_law.specs.Units.{units_on}
-use Rattle.carried_law.proofs.Reading.{joined_on}
+use Rattle.hop_law.specs.Units.{units_on}
+use Rattle.hop_law.proofs.Reading.{joined_on}
 use Rattle.connection_law.specs.ReferenceLaw.{BothStay}
 use Rattle.connection_law.proofs.Reference.Following.{following_stays}
-use Rattle.text_law.specs.TextLaw.{Begins}
-use Rattle.passing_law.specs.ClearingLaw.{is_reset}
+use Rattle.hop_law.specs.TextLaw.{Begins}
+use Rattle.hop_law.specs.ClearingLaw.{is_reset}
 use Rattle.hop_law.specs.Waiting.{Waiting, messages_to}
 use Rattle.hop_law.specs.Hop.{Hop, Course, begun, IsElsewhere, IsBegun, IsCarried}
 use Rattle.hop_law.proofs.Along.{neither}
-use Rattle.reset_law.specs.Answering.{is_rsr}
-use Rattle.reset_law.specs.Coming.{SendsNoRsr, NoRsrWaits}
-use Rattle.reset_law.proofs.Answering.{brings_as}
-use Rattle.reset_law.proofs.Coming.{rsr_is_sent}
-use Rattle.course_law.proofs.Flows.{Comes, elsewhere, first}
-use Rattle.course_law.proofs.Hopping.{one_hop}
+use Rattle.hop_law.specs.ResetAnswering.{is_rsr}
+use Rattle.hop_law.specs.Coming.{SendsNoRsr, NoRsrWaits}
+use Rattle.hop_law.proofs.ResetAnswering.{brings_as}
+use Rattle.hop_law.proofs.Coming.{rsr_is_sent}
+use Rattle.hop_law.proofs.Flows.{Comes, elsewhere, first}
+use Rattle.hop_law.proofs.Hopping.{one_hop}
 use Rattle.chain_step.specs.declared.step.Step.{Step}
 use Rattle.chain_step.specs.Fresh.{all_fresh}
 use Rattle.chain_step.specs.Run.{NodeState, RunState, given_of, waiting, outputs_of, entry_of, after_event, after_giving, node_at, start, run_of, after_step}
 use Rattle.chain_step.specs.Steps.{is_step}
-use Rattle.row_law.specs.Nodes.{AreSteps}
-use Rattle.row_law.specs.Links.{is_from}
-use Rattle.row_law.specs.Fair.{AreStrange}
-use Rattle.row_law.proofs.Changing.{Change, meets, changed, change_by, node_changed}
-use Rattle.row_law.proofs.Linking.{sent_by, Links, IsRow, row_kept, is_row}
-use Rattle.trail_law.specs.Trails.{Leg, IsLeg, heard_on, now_on, outs_on, IsNext}
-use Rattle.trail_law.specs.Hops.{queue_of, AreNeighbours, RunHop}
-use Rattle.trail_law.specs.Resets.{RsrCrosses, RunRsr}
+use Rattle.passage_law.specs.Nodes.{AreSteps}
+use Rattle.passage_law.specs.Links.{is_from}
+use Rattle.passage_law.specs.Fair.{AreStrange}
+use Rattle.passage_law.proofs.Changing.{Change, meets, changed, change_by, node_changed}
+use Rattle.passage_law.proofs.Linking.{sent_by, Links, IsRow, row_kept, is_row}
+use Rattle.passage_law.specs.Trails.{Leg, IsLeg, heard_on, now_on, outs_on, IsNext}
+use Rattle.passage_law.specs.Hops.{queue_of, AreNeighbours, RunHop}
+use Rattle.passage_law.specs.Resets.{RsrCrosses, RunRsr}
 use Rattle.passage_law.proofs.Fair.{IsMeeting, IsFairRun, RunsAreFair}
 use Rattle.passage_law.proofs.Queue.{IsMessageOf, sent_of_node, waits_of_node, queue_met, queue_given}
 use Rattle.passage_law.proofs.Meeting.{Leads, leads_then, leads_nowhere, near_after, far_after, near_event, far_event}

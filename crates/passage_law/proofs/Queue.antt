@@ -12,9 +12,9 @@ use Rattle.plant_core.specs.declared.entry.Entry.{Entry}
 use Rattle.hop_law.specs.Waiting.{Waiting, message_to, messages_to}
 use Rattle.chain_step.specs.Run.{NodeState, arrives, messages_in, neighbour, given_of, waiting, outputs_of, entry_of, after_event, after_giving}
 use Rattle.chain_step.proofs.Journals.{sent_more}
-use Rattle.row_law.specs.Links.{all_waiting}
-use Rattle.row_law.proofs.Linking.{sent_by, all_flat, all_at}
-use Rattle.trail_law.specs.Hops.{as_waiting, queue_of}
+use Rattle.passage_law.specs.Links.{all_waiting}
+use Rattle.passage_law.proofs.Linking.{sent_by, all_flat, all_at}
+use Rattle.passage_law.specs.Hops.{as_waiting, queue_of}
 
 -- The messages to a point, with the point from which they come or without it.
 

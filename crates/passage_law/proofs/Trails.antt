@@ -1,6 +1,6 @@
 -- The laws of a trail, of those of one hop.
-use Rattle.trail_law.specs.TrailLaw.{TextsKeepOrder, HopsKeepOrder}
-use Rattle.trail_law.proofs.Ordering.{order_of_hops}
+use Rattle.passage_law.specs.TrailLaw.{TextsKeepOrder, HopsKeepOrder}
+use Rattle.passage_law.proofs.Ordering.{order_of_hops}
 use Rattle.passage_law.proofs.Fairness.{runs_are_fair}
 use Rattle.passage_law.proofs.Passing.{run_hop, run_rsr}
 use Rattle.passage_law.proofs.Ends.{run_ends}

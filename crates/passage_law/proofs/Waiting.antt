@@ -11,25 +11,25 @@ use Rattle.section_model.specs.Parameters.{Arrival, arrival_in}
 use Rattle.section_model.specs.Ends.{End, wire, SectionHead, Section, Connection, is_gone, is_reached}
 use Rattle.section_model.specs.Step.{hears, destination_of, connection_step}
 use Rattle.section_model.specs.Lane.{next, heard, follow, fed, part_by, reference_of}
-use Rattle.carried_law.specs.Units.{units_on}
-use Rattle.carried_law.proofs.Reading.{joined_on}
+use Rattle.hop_law.specs.Units.{units_on}
+use Rattle.hop_law.proofs.Reading.{joined_on}
 use Rattle.connection_law.specs.ReferenceLaw.{BothStay}
 use Rattle.connection_law.proofs.Reference.Following.{fed_stays}
-use Rattle.passing_law.specs.LeavingLaw.{that_and_this, IsApart}
-use Rattle.passing_law.proofs.Leaving.{nothing_on}
+use Rattle.hop_law.specs.LeavingLaw.{that_and_this, IsApart}
+use Rattle.hop_law.proofs.Leaving.{nothing_on}
 use Rattle.hop_law.specs.LeftAlong.{outs_along}
 use Rattle.hop_law.specs.Confirming.{IsStill, ByArrival, ByConfirm}
 use Rattle.hop_law.specs.Hop.{is_stray_answer, GotNothing, IsStrange}
-use Rattle.step_law.specs.Soundness.{IsSound}
-use Rattle.step_law.specs.SectionLaw.{SectionAfter}
-use Rattle.step_law.specs.Apart.{Confirms, ConfirmsFrom}
-use Rattle.step_law.proofs.Hearing.{stays_sound}
-use Rattle.step_law.proofs.Section.{sections_stay}
-use Rattle.step_law.proofs.Apart.{keeps_apart}
-use Rattle.step_law.proofs.Unset.{nothing_passes}
-use Rattle.step_law.proofs.Setup.{asking_stays}
-use Rattle.course_law.proofs.Near.{unknown_not}
-use Rattle.course_law.proofs.Flows.{gone_only}
+use Rattle.hop_law.specs.Soundness.{IsSound}
+use Rattle.hop_law.specs.SectionLaw.{SectionAfter}
+use Rattle.hop_law.specs.Apart.{Confirms, ConfirmsFrom}
+use Rattle.hop_law.proofs.Hearing.{stays_sound}
+use Rattle.hop_law.proofs.Section.{sections_stay}
+use Rattle.hop_law.proofs.Apart.{keeps_apart}
+use Rattle.hop_law.proofs.Unset.{nothing_passes}
+use Rattle.hop_law.proofs.Setup.{asking_stays}
+use Rattle.hop_law.proofs.Near.{unknown_not}
+use Rattle.hop_law.proofs.Flows.{gone_only}
 
 -- A message that isn't CC for the section, nor CC from its point for the other end: it comes from elsewhere and doesn't name the section, or it is strange.
 abbrev pub IsNoAnswer : ℕ → Connection → Event → Type 0

@@ -1,0 +1,16 @@
+pub mod Nodes
+pub mod Links
+pub mod Naming
+pub mod References
+pub mod Own
+pub mod Once
+pub mod Fair
+pub mod Ways
+pub mod Beginning
+pub mod Freshness
+pub mod Trails
+pub mod Hops
+pub mod Resets
+pub mod Texts
+pub mod Users
+pub mod TrailLaw

@@ -7,14 +7,14 @@ use Rattle.right_book.specs.Right.{HasLanes}
 use Rattle.book_output.specs.Print.{print_of}
 use Rattle.journal_form.specs.Form.{lane_lines, form_fault}
 use Rattle.journal_form.specs.Parts.{LanePart, HasForm}
-use Rattle.form_law.specs.Printed.{read_lane, printed}
-use Rattle.form_law.specs.Written.{IsPrintable}
-use Rattle.form_law.proofs.Print.{print_has_form}
-use Rattle.form_law.proofs.Reading.{print_is_read}
-use Rattle.capture_ranges.proofs.Captures.{captures_are_in_range}
-use Rattle.stream_ranges.proofs.Streams.{streams_are_in_range}
-use Rattle.book_ranges.specs.BookRanges.{BookInRange}
-use Rattle.book_ranges.proofs.Books.{right_books_are_in_range}
+use Rattle.printable_law.specs.Printed.{read_lane, printed}
+use Rattle.printable_law.specs.Written.{IsPrintable}
+use Rattle.printable_law.proofs.Print.{print_has_form}
+use Rattle.printable_law.proofs.FormReading.{print_is_read}
+use Rattle.printable_law.proofs.Captures.{captures_are_in_range}
+use Rattle.printable_law.proofs.Streams.{streams_are_in_range}
+use Rattle.printable_law.specs.BookRanges.{BookInRange}
+use Rattle.printable_law.proofs.Books.{right_books_are_in_range}
 use Rattle.printable_law.specs.PrintableLaw.{IsGiven, RightIsPrintable, CapturesArePrintable, StreamsArePrintable, lines_of, PrintsHaveForm}
 use Rattle.printable_law.proofs.Writing.{lanes-written, control-written}
 

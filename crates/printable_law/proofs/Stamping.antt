@@ -5,10 +5,10 @@ use Rattle.relay_base.specs.declared.words.Stamp.{Stamp}
 use Rattle.plant_core.specs.declared.entry.Entry.{Entry}
 use Rattle.plant_core.specs.declared.entry.ControlEntry.{ControlEntry}
 use Rattle.journal_text.specs.declared.book.Book.{Book}
-use Rattle.form_law.specs.FormLaw.{IsStamp}
-use Rattle.capture_ranges.specs.CaptureRanges.{StampInRange}
-use Rattle.book_ranges.specs.BookRanges.{EntryGiven, ControlGiven, LanesGiven, BookInRange}
-use Rattle.book_ranges.proofs.Books.{right_books_are_in_range}
+use Rattle.printable_law.specs.FormLaw.{IsStamp}
+use Rattle.printable_law.specs.CaptureRanges.{StampInRange}
+use Rattle.printable_law.specs.BookRanges.{EntryGiven, ControlGiven, LanesGiven, BookInRange}
+use Rattle.printable_law.proofs.Books.{right_books_are_in_range}
 use Rattle.printable_law.specs.PrintableLaw.{AreStamped, HasStamps, RightIsStamped}
 
 is-stamp : (stamp : Stamp) → StampInRange stamp → IsStamp stamp

@@ -15,10 +15,10 @@ use Rattle.plant_core.specs.declared.answer.Answer.TheVariants.{Local, Forward, 
 use Rattle.plant_core.specs.declared.entry.Asked.{Asked}
 use Rattle.plant_core.specs.declared.entry.Entry.{Entry}
 use Rattle.plant_core.specs.declared.entry.ControlEntry.{ControlEntry}
-use Rattle.form_law.specs.Written.{IsWritable, AreWritable, AreWritableOutputs, IsWritableEntry, IsWritableControl, AreWritableLanes, optional, of_tell, of_read_fault, of_lost, of_output, of_answer, of_asked, of_published}
-use Rattle.octet_law.specs.OctetLaw.{IsOctet, AreOctets, IsSmallFault}
-use Rattle.octet_law.specs.Ranges.{IsPoint, IsReference, IsSelection, IsTag, AnswerInRange, TellInRange, LostInRange, OutputInRange, OutputsInRange}
-use Rattle.book_ranges.specs.BookRanges.{IsEdition, AskedInRange, EntryGiven, ControlGiven, LanesGiven}
+use Rattle.printable_law.specs.Written.{IsWritable, AreWritable, AreWritableOutputs, IsWritableEntry, IsWritableControl, AreWritableLanes, optional, of_tell, of_read_fault, of_lost, of_output, of_answer, of_asked, of_published}
+use Rattle.printable_law.specs.OctetLaw.{IsOctet, AreOctets, IsSmallFault}
+use Rattle.printable_law.specs.Ranges.{IsPoint, IsReference, IsSelection, IsTag, AnswerInRange, TellInRange, LostInRange, OutputInRange, OutputsInRange}
+use Rattle.printable_law.specs.BookRanges.{IsEdition, AskedInRange, EntryGiven, ControlGiven, LanesGiven}
 
 -- Numbers: each has fewer than 64 digits.
 

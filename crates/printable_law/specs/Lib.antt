@@ -1,1 +1,13 @@
+pub mod Written
+pub mod Printed
+pub mod FormLaw
+pub mod Examples
+pub mod OctetLaw
+pub mod Ranges
+pub mod SectionRanges
+pub mod UnitRanges
+pub mod ManagementRanges
+pub mod CaptureRanges
+pub mod StreamRanges
+pub mod BookRanges
 pub mod PrintableLaw

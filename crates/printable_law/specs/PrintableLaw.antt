@@ -12,12 +12,12 @@ use Rattle.right_book.specs.Right.{IsRight}
 use Rattle.book_output.specs.Print.{print_of}
 use Rattle.journal_form.specs.Form.{lane_lines, form_fault}
 use Rattle.journal_form.specs.Parts.{LanePart, HasForm}
-use Rattle.form_law.specs.FormLaw.{IsStamp}
-use Rattle.form_law.specs.Printed.{read_lane, printed}
-use Rattle.form_law.specs.Written.{IsPrintable}
+use Rattle.printable_law.specs.FormLaw.{IsStamp}
+use Rattle.printable_law.specs.Printed.{read_lane, printed}
+use Rattle.printable_law.specs.Written.{IsPrintable}
 use Rattle.m3ua_capture.specs.Streams.{stream_capture}
-use Rattle.octet_law.specs.OctetLaw.{AreOctets}
-use Rattle.capture_ranges.specs.CaptureRanges.{InputInRange}
+use Rattle.printable_law.specs.OctetLaw.{AreOctets}
+use Rattle.printable_law.specs.CaptureRanges.{InputInRange}
 
 -- a right book of a head and phases in their ranges
 pub record IsGiven (head : Head) (phases : List (List Stamped)) (book : Book) : Type 0 where

@@ -17,10 +17,10 @@ use Rattle.capture_generator.proofs.CaptureLemmas.{phases-linked}
 use Rattle.right_book.specs.Right.{IsRight}
 use Rattle.book_law.proofs.Books.{one_right_book}
 use Rattle.book_output.specs.Report.{report_text}
-use Rattle.length_law.proofs.Books.{none_is_left_out}
+use Rattle.book_law.proofs.LengthBooks.{none_is_left_out}
 use Rattle.chain_form.specs.declared.reading.ChainInput.{ChainInput}
 use Rattle.chain_text.specs.Print.{run_text}
-use Rattle.audit_form.specs.declared.reading.AuditInput.{AuditInput}
+use Rattle.capture_input.specs.declared.reading.AuditInput.{AuditInput}
 use Rattle.journal_audit.specs.declared.finding.Finding.{Finding}
 use Rattle.journal_audit.specs.Audit.{IsFinding, finding_of, finding_text}
 use Rattle.finding_law.proofs.Books.{found_once}

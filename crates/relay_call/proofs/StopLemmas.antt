@@ -7,7 +7,7 @@ use Rattle.journal_text.specs.declared.book.Book.{Book}
 use Rattle.capture_form.specs.declared.fault.LineFault.{LineFault}
 use Rattle.capture_form.specs.declared.fault.CaptureFault.TheVariants as refused
 use Rattle.m3ua_capture.specs.declared.fault.StreamFault.TheVariants as stream
-use Rattle.audit_form.specs.declared.reading.AuditInput.{AuditInput}
+use Rattle.capture_input.specs.declared.reading.AuditInput.{AuditInput}
 use Rattle.capture_input.specs.declared.fault.InputFault.{InputFault}
 use Rattle.capture_input.specs.declared.fault.InputFault.TheVariants as fault
 use Rattle.capture_form.specs.declared.capture.Capture.{Capture}

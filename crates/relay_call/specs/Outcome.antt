@@ -5,7 +5,7 @@ use Rattle.std.specs.Io.KnownBytes.{Appends, Keeps}
 use Rattle.relay_base.specs.Causes.{Rose}
 use Rattle.relay_base.specs.Streams.{AppendedPart}
 use Rattle.node_head.specs.declared.head.Head.{Head}
-use Rattle.audit_form.specs.declared.reading.AuditInput.{AuditInput}
+use Rattle.capture_input.specs.declared.reading.AuditInput.{AuditInput}
 use Rattle.capture_input.specs.declared.fault.InputFault.{InputFault}
 use Rattle.capture_input.specs.declared.input.Form.{Form}
 use Rattle.capture_input.specs.declared.input.Form.TheVariants as form
@@ -16,7 +16,7 @@ use Rattle.journal_text.specs.declared.book.Book.{Book}
 use Rattle.journal_text.specs.Book.{IsEmpty}
 use Rattle.book_output.specs.Print.{print_of}
 use Rattle.capture_generator.specs.Counts.{counts_text}
-use Rattle.length_law.specs.LengthLaw.{all_frames}
+use Rattle.book_law.specs.LengthLaw.{all_frames}
 use Rattle.chain_text.specs.Print.{run_text}
 use Rattle.journal_audit.specs.declared.finding.Finding.{Finding}
 use Rattle.journal_audit.specs.declared.finding.Finding.TheVariants.{Legal, Illegal}

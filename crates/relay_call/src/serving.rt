@@ -17,11 +17,10 @@ ghost use Rattle.relay_call.specs.Outcome.{GivesAs, Wrote, WrotePart, WroteAll, 
 ghost use Rattle.relay_call.specs.Inner.Reports.{report_of};
 ghost use Rattle.relay_call.specs.Inner.Stops.{LacksInput, Judged, StoppedJudging, StoppedLate, Stopped};
 
-use audit_form::AuditInput;
 use book_output::{Report, write_report};
 use capture_form::{Book, Capture};
 use capture_generator::generated;
-use capture_input::{Form, Input, Stop, take_input};
+use capture_input::{AuditInput, Form, Input, Stop, take_input};
 use chain_form::ChainInput;
 use chain_text::run_chain;
 use command_words::{Command, command_of};

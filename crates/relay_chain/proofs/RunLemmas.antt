@@ -9,8 +9,8 @@ use Rattle.chain_step.specs.Steps.{is_step}
 use Rattle.chain_step.specs.Chains.{ChainState, run_in}
 use Rattle.chain_step.proofs.Running.{after_more, taken_more, length_more}
 use Rattle.hop_law.proofs.Lists.{all_joined}
-use Rattle.row_law.specs.Nodes.{AreSteps}
-use Rattle.trail_law.specs.TrailLaw.{HopsAlong, TextsAlong}
+use Rattle.passage_law.specs.Nodes.{AreSteps}
+use Rattle.passage_law.specs.TrailLaw.{HopsAlong, TextsAlong}
 use Rattle.passage_law.proofs.Trails.{hops_keep_order, texts_keep_order}
 use Rattle.relay_chain.specs.Inner.Chains.{IsChain, AreShort}
 

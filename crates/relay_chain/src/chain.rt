@@ -4,7 +4,7 @@ ghost use Rattle.chain_step.specs.Run.{node_at, waiting_count, tells_by, is_idle
 ghost use Rattle.chain_step.specs.Steps.{is_step};
 ghost use Rattle.chain_step.specs.Fresh.{all_fresh};
 ghost use Rattle.chain_step.specs.Chains.{run_in};
-ghost use Rattle.trail_law.specs.TrailLaw.{HopsAlong, TextsAlong};
+ghost use Rattle.passage_law.specs.TrailLaw.{HopsAlong, TextsAlong};
 
 use crate::nodes::Nodes;
 use chain_node::TellList;

@@ -36,13 +36,13 @@ fn not_come() -> Arrival {
 
 /// Links 1 and 2, each held before its delivery until the other comes to its own.
 #[derive(Drop)]
-struct Meeting {
+pub struct Meeting {
     first: Arrival,
     second: Arrival,
 }
 
-impl Pace for Meeting {
-    fn before(&self, link: u8, _line: u32) {
+impl Meeting {
+    fn before(&self, link: u8) {
         let (mine, other) = if link == 1 {
             (&self.first, &self.second)
         } else {
@@ -54,7 +54,95 @@ impl Pace for Meeting {
         }
     }
 
-    fn after(&self, _link: u8, _line: u32) {}
+    fn is_kept(&self) -> bool {
+        self.first.saw.load(Ordering::SeqCst) && self.second.saw.load(Ordering::SeqCst)
+    }
+}
+
+/// A line that is held before its delivery until another was delivered.
+#[derive(Drop)]
+struct Hold {
+    line: u32,
+    behind: u32,
+    delivered: AtomicBool,
+    passed: AtomicBool,
+}
+
+fn held(line: u32, behind: u32) -> Hold {
+    Hold {
+        line,
+        behind,
+        delivered: AtomicBool::new(false),
+        passed: AtomicBool::new(false),
+    }
+}
+
+/// Lines of links that come one behind the other.
+#[derive(Drop)]
+pub struct Order {
+    holds: [Hold; 3],
+}
+
+impl Order {
+    fn before(&self, line: u32) {
+        for hold in &self.holds {
+            if hold.line == line && is_set(&hold.delivered) {
+                hold.passed.store(true, Ordering::SeqCst);
+            }
+        }
+    }
+
+    fn after(&self, line: u32) {
+        for hold in &self.holds {
+            if hold.behind == line {
+                hold.delivered.store(true, Ordering::SeqCst);
+            }
+        }
+    }
+
+    fn is_kept(&self) -> bool {
+        for hold in &self.holds {
+            if !hold.passed.load(Ordering::SeqCst) {
+                return false;
+            }
+        }
+        true
+    }
+}
+
+/// How the links of a run are held: one type, so that the top call is built once.
+#[derive(Drop)]
+pub enum Pacing {
+    Free,
+    Meeting(Meeting),
+    Order(Order),
+}
+
+impl Pacing {
+    /// Whether each line that was held saw what it was held for.
+    fn is_kept(&self) -> bool {
+        match self {
+            Pacing::Free => true,
+            Pacing::Meeting(meeting) => meeting.is_kept(),
+            Pacing::Order(order) => order.is_kept(),
+        }
+    }
+}
+
+impl Pace for Pacing {
+    fn before(&self, link: u8, line: u32) {
+        match self {
+            Pacing::Free => {}
+            Pacing::Meeting(meeting) => meeting.before(link),
+            Pacing::Order(order) => order.before(line),
+        }
+    }
+
+    fn after(&self, _link: u8, line: u32) {
+        if let Pacing::Order(order) = self {
+            order.after(line);
+        }
+    }
 }
 
 /// The units of two links, for two lanes.
@@ -80,58 +168,15 @@ const BOTH_PRINTED: &str = "= control
 /// Neither link waits for the other's delivery to end.
 #[test]
 fn two_links_at_once(rt: HostRuntime) -> Result<(), Fail> {
-    let meeting = Meeting {
+    let pacing = Pacing::Meeting(Meeting {
         first: not_come(),
         second: not_come(),
-    };
+    });
     let text = BOTH.as_bytes();
-    let ran = call_at(&rt, rt.alloc(), &["run"], text, [SOUND; 3], &meeting)?;
+    let ran = call_at(&rt, rt.alloc(), &["run"], text, [SOUND; 3], &pacing)?;
     assert_left(&rt, &ran, 0, BOTH_PRINTED.as_bytes(), b"");
-    assert!(rt; meeting.first.saw.load(Ordering::SeqCst));
-    assert!(rt; meeting.second.saw.load(Ordering::SeqCst));
+    assert!(rt; pacing.is_kept());
     Ok(())
-}
-
-/// A line that is held before its delivery until another was delivered.
-#[derive(Drop)]
-struct Hold {
-    line: u32,
-    behind: u32,
-    delivered: AtomicBool,
-    passed: AtomicBool,
-}
-
-fn held(line: u32, behind: u32) -> Hold {
-    Hold {
-        line,
-        behind,
-        delivered: AtomicBool::new(false),
-        passed: AtomicBool::new(false),
-    }
-}
-
-/// Lines of links that come one behind the other.
-#[derive(Drop)]
-struct Order {
-    holds: [Hold; 3],
-}
-
-impl Pace for Order {
-    fn before(&self, _link: u8, line: u32) {
-        for hold in &self.holds {
-            if hold.line == line && is_set(&hold.delivered) {
-                hold.passed.store(true, Ordering::SeqCst);
-            }
-        }
-    }
-
-    fn after(&self, _link: u8, line: u32) {
-        for hold in &self.holds {
-            if hold.behind == line {
-                hold.delivered.store(true, Ordering::SeqCst);
-            }
-        }
-    }
 }
 
 /// Two edits of a row that sends titles of digits 49 to point 300, with a unit and an opening behind each, in one phase.
@@ -170,14 +215,12 @@ const EDITS_PRINTED: &str = "= control
 /// A data lane and a connection lane see an edit of their own phase.
 #[test]
 fn edits_within_a_phase(rt: HostRuntime) -> Result<(), Fail> {
-    let order = Order {
+    let pacing = Pacing::Order(Order {
         holds: [held(11, 10), held(13, 12), held(14, 13)],
-    };
+    });
     let text = EDITS.as_bytes();
-    let ran = call_at(&rt, rt.alloc(), &["run"], text, [SOUND; 3], &order)?;
+    let ran = call_at(&rt, rt.alloc(), &["run"], text, [SOUND; 3], &pacing)?;
     assert_left(&rt, &ran, 0, EDITS_PRINTED.as_bytes(), b"");
-    for hold in &order.holds {
-        assert!(rt; hold.passed.load(Ordering::SeqCst));
-    }
+    assert!(rt; pacing.is_kept());
     Ok(())
 }

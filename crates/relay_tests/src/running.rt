@@ -1,8 +1,9 @@
 //! Calls of `relay` over memory, and what they leave.
 ghost use Rattle.std.specs.Prelude.{◌<◌};
 
+use crate::paces::Pacing;
 use capture_form::Book;
-use relay_base::{MemSink, MemSource, NoPace, Pace};
+use relay_base::{MemSink, MemSource};
 use relay_call::relay;
 use std::alloc::{AllocError, Global};
 use std::process::Abort;
@@ -66,17 +67,17 @@ pub fn call<R: Threads + Wait + Sync>(
     text: &[u8],
     devices: [Device; 3],
 ) -> Result<Ran, AllocError> {
-    call_at(rt, alloc, words, text, devices, &NoPace)
+    call_at(rt, alloc, words, text, devices, &Pacing::Free)
 }
 
 /// The same, at a pace.
-pub fn call_at<R: Threads + Wait + Sync, P: Pace>(
+pub fn call_at<R: Threads + Wait + Sync>(
     rt: &R,
     alloc: Global,
     words: &[&str],
     text: &[u8],
     devices: [Device; 3],
-    pace: &P,
+    pace: &Pacing,
 ) -> Result<Ran, AllocError> {
     let words = words_of(alloc, words)?;
     let mut source = source_of(alloc, text, devices[0])?;

@@ -6,7 +6,7 @@ use Rattle.relay_base.specs.declared.words.Event.{Event}
 use Rattle.plant_core.specs.Asking.{Question}
 use Rattle.section_model.specs.Opening.{wish_of}
 use Rattle.section_model.specs.Opening.{question_of as question_of_wish}
-use Rattle.unit_journal.specs.Legal.{question_of as question_of_unit}
+use Rattle.data_lane.specs.Legal.{question_of as question_of_unit}
 use Rattle.node_head.specs.declared.head.Head.{Head}
 use Rattle.plant_core.specs.declared.entry.Entry.{Entry}
 use Rattle.plant_core.specs.declared.entry.ControlEntry.{ControlEntry}

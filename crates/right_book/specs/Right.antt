@@ -3,7 +3,7 @@ use Rattle.std.specs.Prelude.{◌≡◌, List, length}
 use Rattle.node_head.specs.declared.head.Head.{Head}
 use Rattle.scmg.specs.Control.{IsControlJournal}
 use Rattle.section_model.specs.Journals.{IsConnJournal}
-use Rattle.unit_journal.specs.Legal.{IsDataJournal}
+use Rattle.data_lane.specs.Legal.{IsDataJournal}
 use Rattle.journal_text.specs.declared.book.Book.{Book}
 use Rattle.capture_form.specs.Events.{Stamped}
 use Rattle.right_book.specs.Own.{control_pairs_of}

@@ -11,7 +11,7 @@ use Rattle.section_model.specs.Step.{connection_step, hears}
 use Rattle.section_model.specs.Opening.{Wish, by_cr, by_user, no_wish, wish_of, opened}
 use Rattle.section_model.specs.Lane.{Lane, Opening, connection_of, heard, follow, next, part_of, hearing, outputs_of_hearing, other_outputs, outputs_by, legal_outputs, with_event, opening_list, opening_of, openings_after}
 use Rattle.section_model.proofs.Following.{one_more}
-use Rattle.journal_law.specs.Played.{played_from}
+use Rattle.lane_law.specs.Played.{played_from}
 use Rattle.section_rows.specs.Examples.{routed}
 use Rattle.section_rows.specs.Played.{played, Shows}
 use Rattle.section_rows.proofs.Showing.{shows}

@@ -10,8 +10,8 @@ use Rattle.plant_core.specs.declared.entry.Entry.{Entry}
 use Rattle.plant_core.specs.Asking.{Question, answer_in}
 use Rattle.section_model.specs.Opening.{wish_of, question_of}
 use Rattle.section_model.specs.Lane.{Lane}
-use Rattle.journal_law.specs.Played.{played_from, given_of, IsRouted}
-use Rattle.journal_law.proofs.Playing.{is_played}
+use Rattle.lane_law.specs.Played.{played_from, given_of, IsRouted}
+use Rattle.lane_law.proofs.Playing.{is_played}
 use Rattle.section_rows.specs.Examples.{answer_to, routed}
 use Rattle.section_rows.specs.Played.{played, IsOf, Shows}
 

@@ -26,7 +26,7 @@ use Rattle.section_model.specs.Coupling.{exchange}
 use Rattle.section_model.specs.Step.{hears_message, asks, fires_due, after_event, connection_step, hears}
 use Rattle.section_model.specs.Opening.{wish_of, question_of, opened_by_cr, opened_by_user, slots_needed, opened}
 use Rattle.section_model.specs.Lane.{Lane, heard, follow, gone_for, lowest_free, stray_answer, legal_outputs, openings_after, IsConnectionJournal}
-use Rattle.journal_law.specs.Played.{played_from, given_of}
+use Rattle.lane_law.specs.Played.{played_from, given_of}
 use Rattle.section_rows.specs.Examples.{routed}
 
 -- the outputs of a lane for these events

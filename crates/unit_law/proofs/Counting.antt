@@ -7,7 +7,7 @@ use Rattle.plant_core.specs.declared.entry.Entry.{Entry}
 use Rattle.plant_core.specs.declared.terms.LaneHead.{LaneHead}
 use Rattle.plant_core.specs.Asking.{answer_in}
 use Rattle.connectionless.specs.Asking.{Matter, from_network, from_user, settled, of_tick, matter_of}
-use Rattle.unit_journal.specs.Legal.{State, step_of, effect_by, entry_after, state_after}
+use Rattle.data_lane.specs.Legal.{State, step_of, effect_by, entry_after, state_after}
 use Rattle.unit_law.specs.OwnOutputs.{is_cut_by, is_cut}
 use Rattle.unit_law.proofs.Cutting.{routed_cut, given_cut}
 

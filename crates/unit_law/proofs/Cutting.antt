@@ -16,7 +16,7 @@ use Rattle.connectionless.specs.Asking.{Matter, from_network, from_user, settled
 use Rattle.long_interwork.specs.declared.forward.Forward.{Forward}
 use Rattle.long_interwork.specs.Shortening.{shortened, is_entire, fits, extended, cutting}
 use Rattle.long_interwork.specs.Routed.{routed, routed_by, forward_in, forward_of}
-use Rattle.unit_journal.specs.Legal.{effect_by}
+use Rattle.data_lane.specs.Legal.{effect_by}
 use Rattle.unit_law.specs.OwnOutputs.{is_cut_by}
 
 -- two outcomes by one choice, of which the third alone differs

@@ -1,3 +1,10 @@
+pub mod Sizes
+pub mod Feeding
+pub mod Lengths
+pub mod Together
+pub mod Short
+pub mod Translated
+pub mod Segments
 pub mod Splitting
 pub mod Playing
 pub mod Cutting

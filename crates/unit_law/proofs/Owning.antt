@@ -14,9 +14,9 @@ use Rattle.q713_codec.specs.Names.{Message}
 use Rattle.connectionless.specs.Unitdata.{Unitdata, unitdata_of}
 use Rattle.connectionless.specs.Asking.{Matter, from_network, from_user, settled, of_tick, matter_of, matter_by_message, matter_by_unit, matter_by_question, message_in, question_of}
 use Rattle.reassembly.specs.declared.process.Process.{Process}
-use Rattle.unit_journal.specs.declared.effect.Work.{Work}
-use Rattle.unit_journal.specs.declared.effect.Work.TheVariants as work
-use Rattle.unit_journal.specs.Legal.{State, at_first, step_of, effect_by, work_of, worked, state_after, IsLegalEntry, IsDataJournal}
+use Rattle.data_lane.specs.declared.effect.Work.{Work}
+use Rattle.data_lane.specs.declared.effect.Work.TheVariants as work
+use Rattle.data_lane.specs.Legal.{State, at_first, step_of, effect_by, work_of, worked, state_after, IsLegalEntry, IsDataJournal}
 use Rattle.unit_law.specs.OwnOutputs.{IsAlone, StandsAlone, is_cut_by, is_cut, own_outputs, outputs_after, outputs_of, OutputsAreOwn, EarlierFirst}
 use Rattle.unit_law.proofs.Cutting.{matter_uncut, none_cut, routed_next}
 use Rattle.unit_law.proofs.Counting.{cut_counts}

@@ -6,7 +6,7 @@ use Rattle.relay_base.specs.declared.words.Output.{Output}
 use Rattle.plant_core.specs.declared.entry.Entry.{Entry}
 use Rattle.plant_core.specs.declared.terms.LaneHead.{LaneHead}
 use Rattle.plant_core.specs.Asking.{answer_in}
-use Rattle.unit_journal.specs.Legal.{State, at_first, step_of, entry_after, question_of, LegalFrom}
+use Rattle.data_lane.specs.Legal.{State, at_first, step_of, entry_after, question_of, LegalFrom}
 use Rattle.unit_law.specs.Played.{played_from, given_of, LegalIsPlayed}
 
 abbrev AreRouted : List Entry → Type 0

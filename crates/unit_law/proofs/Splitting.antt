@@ -2,7 +2,7 @@
 use Rattle.std.proofs.Common.{ℕ, List, [], ◌∷◌, ◌++◌}
 use Rattle.plant_core.specs.declared.entry.Entry.{Entry}
 use Rattle.plant_core.specs.declared.terms.LaneHead.{LaneHead}
-use Rattle.unit_journal.specs.Legal.{State, entry_after, state_after, LegalFrom}
+use Rattle.data_lane.specs.Legal.{State, entry_after, state_after, LegalFrom}
 use Rattle.unit_law.specs.Played.{JournalSplits}
 
 pub parted : (head : LaneHead) (number : ℕ) (s : State) (one other : List Entry) → LegalFrom head number s (one ++ other)

@@ -14,7 +14,7 @@ use Rattle.connectionless.specs.Routed.{unit_outcome}
 use Rattle.connectionless.specs.Given.{given_outcome}
 use Rattle.connectionless.specs.Asking.{Matter, from_network, from_user, settled, of_tick, matter_of}
 use Rattle.long_interwork.specs.Routed.{routed}
-use Rattle.unit_journal.specs.Legal.{effect_by, IsDataJournal}
+use Rattle.data_lane.specs.Legal.{effect_by, IsDataJournal}
 
 -- neither a tick, nor a segment that is handed to a reassembly (Q.714, 4.1.1)
 abbrev pub IsAlone : ℕ → Matter → Option Answer → Type 0

@@ -7,7 +7,7 @@ use Rattle.plant_core.specs.Asking.{answer_in}
 use Rattle.plant_core.specs.declared.answer.Answer.{Answer}
 use Rattle.plant_core.specs.declared.entry.Entry.{Entry}
 use Rattle.plant_core.specs.declared.terms.LaneHead.{LaneHead}
-use Rattle.unit_journal.specs.Legal.{State, at_first, step_of, question_of, state_after, LegalFrom, IsDataJournal}
+use Rattle.data_lane.specs.Legal.{State, at_first, step_of, question_of, state_after, LegalFrom, IsDataJournal}
 
 -- the outputs of a run over events with their answers, from what the entries before left
 abbrev pub played_from : LaneHead → ℕ → State → List (Event × Option Answer) → List (List Output)

@@ -1,7 +1,7 @@
 -- What stands where a run stops.
 use Rattle.std.specs.Prelude.{◌≡◌, ◌⊎◌, ℕ, List, Option, Some, None}
 use Rattle.std.specs.Io.KnownBytes.{Keeps}
-use Rattle.audit_form.specs.declared.reading.AuditInput.{AuditInput}
+use Rattle.capture_input.specs.declared.reading.AuditInput.{AuditInput}
 use Rattle.journal_text.specs.declared.book.Book.{Book}
 use Rattle.command_words.specs.declared.command.Command.{Command}
 use Rattle.capture_input.specs.declared.input.Form.{Form}

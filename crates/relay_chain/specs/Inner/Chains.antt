@@ -2,7 +2,7 @@
 use Rattle.std.specs.Prelude.{◌≡◌, ℕ, ◌≤◌, List, length, get_or}
 use Rattle.chain_step.specs.declared.step.Step.{Step}
 use Rattle.chain_step.specs.Run.{NodeState, RunState, first_node, run_of}
-use Rattle.row_law.specs.Nodes.{AreSteps}
+use Rattle.passage_law.specs.Nodes.{AreSteps}
 
 -- no journal has more entries than steps were taken
 abbrev pub AreShort : ℕ → List NodeState → Type 0

@@ -5,7 +5,7 @@ use Rattle.std.proofs.lemmas.List.Elements.{All-tail, All-push}
 use Rattle.std.proofs.lemmas.Iterator.Adapters.{YieldsList-from_vec}
 use Rattle.std.proofs.lemmas.Iterator.Consumers.{YieldsList-end}
 use Rattle.conn_journal.specs.Lanes.{ConnLaneState}
-use Rattle.unit_journal.specs.Legal.{LaneState}
+use Rattle.data_lane.specs.Legal.{LaneState}
 use Rattle.lane_seats.specs.Seats.{SeatState}
 use Rattle.lane_turns.specs.Turns.{TurnState, IsTurn}
 use Rattle.lane_turns.specs.Rows.{HasPlace, IsSeated, conn_of, data_of, lanes_of}

@@ -1,6 +1,6 @@
 use Rattle.std.proofs.Common.{◌≡◌, ◌∙◌, ◌+◌, [], ◌∷◌, length, sym, ap, subst, arith, length-append}
 use Rattle.std.specs.List.{AllByRecursion}
-use Rattle.unit_journal.specs.Legal.{LaneState}
+use Rattle.data_lane.specs.Legal.{LaneState}
 use Rattle.right_book.specs.Lanes.{LanesFrom}
 use Rattle.node_engine.specs.Running.{IsDataLaneOf}
 use Rattle.right_book.proofs.ListLemmas.{all-push, lanes-push}

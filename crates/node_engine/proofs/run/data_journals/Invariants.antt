@@ -1,6 +1,6 @@
 use Rattle.std.proofs.Common.{◌≡◌}
 use Rattle.std.specs.List.{AllByRecursion}
-use Rattle.unit_journal.specs.Legal.{IsDataJournal}
+use Rattle.data_lane.specs.Legal.{IsDataJournal}
 use Rattle.node_engine.specs.Running.{data_journals}
 use Rattle.node_engine.proofs.run.data_journals.Given as goal
 

@@ -1,5 +1,0 @@
-use Rattle.book_law.proofs.Books.{one_right_book}
-use Rattle.book_law.proofs.laws.one_right_book.Goals as goal
-
-pub returns : goal.returns
-returns c = one_right_book

@@ -1,3 +1,0 @@
-mod Counting
-mod Placing
-pub mod Books

@@ -1,6 +1,0 @@
-mod Words
-mod Requests
-mod Changes
-pub mod Heads
-mod Lines
-pub mod Captures

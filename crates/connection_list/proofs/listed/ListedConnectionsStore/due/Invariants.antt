@@ -1,6 +1,0 @@
-use Rattle.connection_list.proofs.Scans.{AreScanned}
-use Rattle.connection_list.proofs.listed.ListedConnectionsStore.due.Given as goal
-
--- those of them that wake stand there
-abbrev pub invariant-loop-number : goal.invariant-loop-number
-invariant-loop-number l = AreScanned l.self-inside.taken l.self-inside.soonest.items l.number l.numbers.items

@@ -1,6 +1,0 @@
-use Rattle.connection_list.specs.Inner.Soonest.{FirstFireFrom}
-use Rattle.connection_list.proofs.soonest.first_of.Given as goal
-
--- none of so many timers fires before
-abbrev pub invariant-loop-timer : goal.invariant-loop-timer
-invariant-loop-timer l = FirstFireFrom l.timer l.soonest l.one

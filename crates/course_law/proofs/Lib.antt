@@ -1,9 +1,0 @@
-pub mod Queues
-pub mod Counts
-pub mod Sides
-pub mod Flows
-pub mod Courses
-pub mod Near
-pub mod Far
-pub mod Joining
-pub mod Hopping

@@ -1,4 +1,0 @@
-pub mod Written
-pub mod Printed
-pub mod FormLaw
-pub mod Examples

@@ -1,5 +1,0 @@
-pub mod Events
-pub mod Reading
-pub mod Splitting
-pub mod Whole
-pub mod Words

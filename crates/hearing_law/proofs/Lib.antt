@@ -1,5 +1,0 @@
-pub mod Opened
-pub mod Held
-pub mod Standing
-pub mod Hearing
-pub mod Turns

@@ -1,2 +1,0 @@
-pub mod HearingLaw
-pub mod TurnLaw

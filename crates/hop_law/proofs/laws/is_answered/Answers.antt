@@ -1,5 +1,0 @@
-use Rattle.hop_law.proofs.Answering.{is_answered}
-use Rattle.hop_law.proofs.laws.is_answered.Goals as goal
-
-pub returns : goal.returns
-returns c = is_answered

@@ -1,5 +1,0 @@
-use Rattle.interwork_law.proofs.Short.{shortened_together}
-use Rattle.interwork_law.proofs.laws.shortened_ones_come_together.Goals as goal
-
-pub returns : goal.returns
-returns c = shortened_together

@@ -1,5 +1,0 @@
-use Rattle.lane_law.proofs.Worlds.{two_worlds}
-use Rattle.lane_law.proofs.laws.two_worlds.Goals as goal
-
-pub returns : goal.returns
-returns c = two_worlds

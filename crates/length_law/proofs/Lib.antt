@@ -1,9 +1,0 @@
-pub mod Spelling
-pub mod Outputs
-pub mod Management
-pub mod Units
-pub mod Sections
-pub mod Settling
-pub mod Steps
-pub mod Connections
-pub mod Books

@@ -1,7 +1,0 @@
-use Rattle.std.proofs.Common.{◌≡◌, ◌++◌, drop}
-use Rattle.m3ua_frames.specs.Inner.Pushing.{lanes_frames}
-use Rattle.m3ua_frames.proofs.frames.push_lanes.Given as goal
-
--- the messages so far, and those of what is left
-abbrev pub invariant-loop-journal : goal.invariant-loop-journal
-invariant-loop-journal l = l.frames ++ lanes_frames l.own (drop l.journal-index l.lanes) ≡ l.initial.frames ++ lanes_frames l.own l.lanes

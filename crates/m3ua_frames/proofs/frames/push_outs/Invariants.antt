@@ -1,7 +1,0 @@
-use Rattle.std.proofs.Common.{◌≡◌, ◌++◌, drop}
-use Rattle.m3ua_frames.specs.Sending.{frames_of_outs}
-use Rattle.m3ua_frames.proofs.frames.push_outs.Given as goal
-
--- the messages so far, and those of what is left
-abbrev pub invariant-loop-output : goal.invariant-loop-output
-invariant-loop-output l = l.frames ++ frames_of_outs l.own (drop l.output-index l.outs) ≡ l.initial.frames ++ frames_of_outs l.own l.outs

@@ -1,2 +1,0 @@
-mod Effects
-pub mod Journals

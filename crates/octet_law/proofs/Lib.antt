@@ -1,7 +1,0 @@
-pub mod Lists
-pub mod Spelling
-pub mod Reading
-pub mod Messages
-pub mod Addresses
-pub mod Routing
-pub mod Management

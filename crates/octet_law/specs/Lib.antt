@@ -1,2 +1,0 @@
-pub mod OctetLaw
-pub mod Ranges

@@ -1,5 +1,0 @@
-use Rattle.passage_law.proofs.Trails.{texts_keep_order}
-use Rattle.passage_law.proofs.laws.texts_keep_order.Goals as goal
-
-pub returns : goal.returns
-returns c = texts_keep_order

@@ -1,5 +1,0 @@
-use Rattle.printable_law.proofs.Printable.{prints_have_form}
-use Rattle.printable_law.proofs.laws.prints_have_form.Goals as goal
-
-pub returns : goal.returns
-returns c = prints_have_form

@@ -1,5 +1,0 @@
-use Rattle.printable_law.proofs.Stamping.{right_is_stamped}
-use Rattle.printable_law.proofs.laws.right_is_stamped.Goals as goal
-
-pub returns : goal.returns
-returns c = right_is_stamped

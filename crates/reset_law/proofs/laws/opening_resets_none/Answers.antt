@@ -1,5 +1,0 @@
-use Rattle.reset_law.proofs.Opening.{opening_resets_none}
-use Rattle.reset_law.proofs.laws.opening_resets_none.Goals as goal
-
-pub returns : goal.returns
-returns c = opening_resets_none

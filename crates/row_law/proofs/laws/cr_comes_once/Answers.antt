@@ -1,5 +1,0 @@
-use Rattle.row_law.proofs.Once.{cr_comes_once}
-use Rattle.row_law.proofs.laws.cr_comes_once.Goals as goal
-
-pub returns : goal.returns
-returns c = cr_comes_once

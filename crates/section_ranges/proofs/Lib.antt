@@ -1,4 +1,0 @@
-mod Sections
-mod Settling
-mod Steps
-pub mod Connections

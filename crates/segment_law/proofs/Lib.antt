@@ -1,2 +1,0 @@
-pub mod Translated
-pub mod Segments

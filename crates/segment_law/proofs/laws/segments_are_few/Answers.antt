@@ -1,6 +1,0 @@
-use Rattle.segment_law.proofs.Translated.{translated-few}
-use Rattle.segment_law.proofs.Segments.{units-few}
-use Rattle.segment_law.proofs.laws.segments_are_few.Goals as goal
-
-pub returns : goal.returns
-returns c = record { translated = translated-few; units = units-few }

@@ -1,5 +1,0 @@
-use Rattle.step_law.proofs.Hearing.{unheard_is_idle}
-use Rattle.step_law.proofs.laws.unheard_is_idle.Goals as goal
-
-pub returns : goal.returns
-returns c = unheard_is_idle

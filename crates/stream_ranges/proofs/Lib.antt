@@ -1,2 +1,0 @@
-mod Frames
-pub mod Streams

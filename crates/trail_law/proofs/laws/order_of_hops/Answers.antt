@@ -1,5 +1,0 @@
-use Rattle.trail_law.proofs.Ordering.{order_of_hops}
-use Rattle.trail_law.proofs.laws.order_of_hops.Goals as goal
-
-pub returns : goal.returns
-returns c = order_of_hops

@@ -1,8 +1,0 @@
-//! The units that one lane takes, the messages that it puts together of segments, and the journal of what came of them.
-#![tactic(auto)]
-
-mod effect;
-mod gathering;
-mod journal;
-
-pub use journal::UnitJournal;

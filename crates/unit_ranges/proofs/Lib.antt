@@ -1,3 +1,0 @@
-pub mod Units
-mod Sending
-pub mod Journals
