@@ -21,7 +21,8 @@ use Rattle.hop_law.proofs.Lists.{all_joined}
 use Rattle.hop_law.proofs.Hearing.{by_hearing}
 use Rattle.hop_law.specs.ResetAnswering.{is_rsr, IsRsrFor, BringsRsr}
 use Rattle.hop_law.specs.Coming.{SendsNoRsr, NoRsrWaits, RsrIsSent}
-use Rattle.hop_law.proofs.ResetTyping.{IsNoRsr, is_no_rsr}
+use Rattle.section_model.specs.declared.cell.Occasion.TheVariants as on
+use Rattle.hop_law.proofs.Typing.{IsOther, is_other}
 
 -- No RSR among outputs, and so none in either part of them.
 
@@ -77,12 +78,12 @@ none_sent e point (out ∷ outs) none =
     let parts = neither (is_rsr out) (list_any is_rsr outs) none in
     all_joined (IsNotFor e) (message_to point out) (messages_to point outs) (by_output out parts.0) (none_sent e point outs parts.1)
   where
-    no_rsr : (a : Option Arrival) → IsNoRsr a → IsRsrFor (reference_of e) a → ⊥
+    no_rsr : (a : Option Arrival) → IsOther on.Rsr a → IsRsrFor (reference_of e) a → ⊥
     no_rsr None other rsr = rsr
     no_rsr (Some a) other rsr = other rsr.0
 
     by_output : (out : Output) → is_rsr out ≡ false → NoRsrWaits e (message_to point out)
-    by_output (Sent to sls bytes) other = either (NoRsrWaits e) (to == point) _ _ (λ _. (no_rsr (arrival_in bytes) (is_no_rsr bytes other), tt)) (λ _. tt)
+    by_output (Sent to sls bytes) other = either (NoRsrWaits e) (to == point) _ _ (λ _. (no_rsr (arrival_in bytes) (is_other on.Rsr bytes other), tt)) (λ _. tt)
     by_output (Told ssn tell) other = tt
     by_output (Lost lost) other = tt
 

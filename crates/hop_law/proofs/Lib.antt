@@ -1,7 +1,6 @@
 pub mod Sending
 pub mod ResetAnswering
 pub mod Opening
-pub mod ResetTyping
 pub mod Coming
 pub mod Queues
 pub mod Counts

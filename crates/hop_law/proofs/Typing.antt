@@ -1,12 +1,14 @@
 -- What a message is, by its type (Q.713, 2.1).
-use Rattle.std.proofs.Common.{◌≡◌, ℕ, zero, suc, ◌==◌, true, false, List, [], ◌∷◌, Option, Some, None, Ok, Err, refl, sym, subst}
+use Rattle.std.proofs.Common.{◌≡◌, ◌≢◌, ℕ, zero, suc, ◌==◌, true, false, List, [], ◌∷◌, Option, Some, None, Ok, Err, refl, sym, ◌∙◌, ap, subst}
 use Rattle.std.specs.declared.result.Result.{Result}
-use Rattle.std.proofs.lemmas.Bool.{false≢true, eqb-true}
+use Rattle.std.proofs.lemmas.Bool.{false≢true, eqb-true, eq-eqb}
 use Rattle.relay_base.specs.declared.words.ReadFault.{ReadFault}
 use Rattle.relay_base.specs.Giving.{◌>>=◌}
 use Rattle.q713_shape.specs.Format.{Values}
 use Rattle.q713_shape.specs.Reading.{values_of}
 use Rattle.q713_codec.specs.Reading.{Kind, kind_at, message_as, message_by, reading_of}
+use Rattle.section_model.specs.declared.cell.Occasion.{Occasion}
+use Rattle.section_model.specs.declared.cell.Occasion.TheVariants as on
 use Rattle.section_model.specs.Parameters.{Arrival, arrival_of, arrival_by, arrival_in}
 use Rattle.connection_law.specs.Messages.{begins_with}
 use Rattle.hop_law.specs.Setup.{IsNoConfirm}
@@ -30,43 +32,79 @@ of_type P kind n none some at [] is = absurd (false≢true is)
 of_type P kind n none some at (octet ∷ rest) is =
     subst (λ (o : ℕ). P (arrival_in (o ∷ rest))) (sym (eqb-true octet n is)) (by_kind P kind none some n rest at)
 
--- A message of another type is no CC.
+-- An arrival is of the type with which its octets begin: the type of the messages of an occasion, 0 for none.
 
-AtOctet : Option Kind → Type 0
-AtOctet None = Unit {0}
-AtOctet (Some kind) = OfKind IsNoConfirm kind
+abbrev pub type_of : Occasion → ℕ
+type_of on.Cc = 2
+type_of on.Cref = 3
+type_of on.Rlsd = 4
+type_of on.Rlc = 5
+type_of on.Dt1 = 6
+type_of on.Dt2 = 7
+type_of on.Ak = 8
+type_of on.Ed = 11
+type_of on.Ea = 12
+type_of on.Rsr = 13
+type_of on.Rsc = 14
+type_of on.Err = 15
+type_of on.It = 16
+type_of _ = 0
 
-by_octet : (octet : ℕ) → (octet == 2) ≡ false → AtOctet (kind_at octet)
+abbrev IsOfType : ℕ → Option Arrival → Type 0
+IsOfType octet None = Unit {0}
+IsOfType octet (Some a) = type_of a.occasion ≡ octet
+
+AtOctet : ℕ → Option Kind → Type 0
+AtOctet octet None = Unit {0}
+AtOctet octet (Some kind) = OfKind (IsOfType octet) kind
+
+by_octet : (octet : ℕ) → AtOctet octet (kind_at octet)
 unfolding AtOctet arrival_of
-by_octet zero not = tt
-by_octet (suc zero) not = λ values. tt
-by_octet (suc (suc zero)) not = absurd (false≢true (sym not))
-by_octet (suc (suc (suc zero))) not = λ values e. cc
-by_octet (suc (suc (suc (suc zero)))) not = λ values e. cc
-by_octet (suc (suc (suc (suc (suc zero))))) not = λ values e. cc
-by_octet (suc (suc (suc (suc (suc (suc zero)))))) not = λ values e. cc
-by_octet (suc (suc (suc (suc (suc (suc (suc zero))))))) not = λ values e. cc
-by_octet (suc (suc (suc (suc (suc (suc (suc (suc zero)))))))) not = λ values e. cc
-by_octet (suc (suc (suc (suc (suc (suc (suc (suc (suc zero))))))))) not = λ values. tt
-by_octet (suc (suc (suc (suc (suc (suc (suc (suc (suc (suc zero)))))))))) not = λ values. tt
-by_octet (suc (suc (suc (suc (suc (suc (suc (suc (suc (suc (suc zero))))))))))) not = λ values e. cc
-by_octet (suc (suc (suc (suc (suc (suc (suc (suc (suc (suc (suc (suc zero)))))))))))) not = λ values e. cc
-by_octet (suc (suc (suc (suc (suc (suc (suc (suc (suc (suc (suc (suc (suc zero))))))))))))) not = λ values e. cc
-by_octet (suc (suc (suc (suc (suc (suc (suc (suc (suc (suc (suc (suc (suc (suc zero)))))))))))))) not = λ values e. cc
-by_octet (suc (suc (suc (suc (suc (suc (suc (suc (suc (suc (suc (suc (suc (suc (suc zero))))))))))))))) not = λ values e. cc
-by_octet (suc (suc (suc (suc (suc (suc (suc (suc (suc (suc (suc (suc (suc (suc (suc (suc zero)))))))))))))))) not = λ values e. cc
-by_octet (suc (suc (suc (suc (suc (suc (suc (suc (suc (suc (suc (suc (suc (suc (suc (suc (suc zero))))))))))))))))) not = λ values. tt
-by_octet (suc (suc (suc (suc (suc (suc (suc (suc (suc (suc (suc (suc (suc (suc (suc (suc (suc (suc zero)))))))))))))))))) not = λ values. tt
-by_octet (suc (suc (suc (suc (suc (suc (suc (suc (suc (suc (suc (suc (suc (suc (suc (suc (suc (suc (suc zero))))))))))))))))))) not = λ values. tt
-by_octet (suc (suc (suc (suc (suc (suc (suc (suc (suc (suc (suc (suc (suc (suc (suc (suc (suc (suc (suc (suc zero)))))))))))))))))))) not = λ values. tt
-by_octet (suc (suc (suc (suc (suc (suc (suc (suc (suc (suc (suc (suc (suc (suc (suc (suc (suc (suc (suc (suc (suc n))))))))))))))))))))) not = tt
+by_octet zero = tt
+by_octet (suc zero) = λ values. tt
+by_octet (suc (suc zero)) = λ values. refl
+by_octet (suc (suc (suc zero))) = λ values. refl
+by_octet (suc (suc (suc (suc zero)))) = λ values. refl
+by_octet (suc (suc (suc (suc (suc zero))))) = λ values. refl
+by_octet (suc (suc (suc (suc (suc (suc zero)))))) = λ values. refl
+by_octet (suc (suc (suc (suc (suc (suc (suc zero))))))) = λ values. refl
+by_octet (suc (suc (suc (suc (suc (suc (suc (suc zero)))))))) = λ values. refl
+by_octet (suc (suc (suc (suc (suc (suc (suc (suc (suc zero))))))))) = λ values. tt
+by_octet (suc (suc (suc (suc (suc (suc (suc (suc (suc (suc zero)))))))))) = λ values. tt
+by_octet (suc (suc (suc (suc (suc (suc (suc (suc (suc (suc (suc zero))))))))))) = λ values. refl
+by_octet (suc (suc (suc (suc (suc (suc (suc (suc (suc (suc (suc (suc zero)))))))))))) = λ values. refl
+by_octet (suc (suc (suc (suc (suc (suc (suc (suc (suc (suc (suc (suc (suc zero))))))))))))) = λ values. refl
+by_octet (suc (suc (suc (suc (suc (suc (suc (suc (suc (suc (suc (suc (suc (suc zero)))))))))))))) = λ values. refl
+by_octet (suc (suc (suc (suc (suc (suc (suc (suc (suc (suc (suc (suc (suc (suc (suc zero))))))))))))))) = λ values. refl
+by_octet (suc (suc (suc (suc (suc (suc (suc (suc (suc (suc (suc (suc (suc (suc (suc (suc zero)))))))))))))))) = λ values. refl
+by_octet (suc (suc (suc (suc (suc (suc (suc (suc (suc (suc (suc (suc (suc (suc (suc (suc (suc zero))))))))))))))))) = λ values. tt
+by_octet (suc (suc (suc (suc (suc (suc (suc (suc (suc (suc (suc (suc (suc (suc (suc (suc (suc (suc zero)))))))))))))))))) = λ values. tt
+by_octet (suc (suc (suc (suc (suc (suc (suc (suc (suc (suc (suc (suc (suc (suc (suc (suc (suc (suc (suc zero))))))))))))))))))) = λ values. tt
+by_octet (suc (suc (suc (suc (suc (suc (suc (suc (suc (suc (suc (suc (suc (suc (suc (suc (suc (suc (suc (suc zero)))))))))))))))))))) = λ values. tt
+by_octet (suc (suc (suc (suc (suc (suc (suc (suc (suc (suc (suc (suc (suc (suc (suc (suc (suc (suc (suc (suc (suc n))))))))))))))))))))) = tt
 
-no_confirm : (kind : Option Kind) (octet : ℕ) (rest : List ℕ) → kind_at octet ≡ kind → AtOctet kind → IsNoConfirm (arrival_in (octet ∷ rest))
+of_kind : (kind : Option Kind) (octet : ℕ) (rest : List ℕ) → kind_at octet ≡ kind → AtOctet octet kind → IsOfType octet (arrival_in (octet ∷ rest))
 unfolding AtOctet arrival_in reading_of
-no_confirm None octet rest at other = subst (λ (k : Option Kind). IsNoConfirm (arrival_by (message_by k octet (octet ∷ rest)))) (sym at) tt
-no_confirm (Some kind) octet rest at other = by_kind IsNoConfirm kind tt other octet rest at
+of_kind None octet rest at typed = subst (λ (k : Option Kind). IsOfType octet (arrival_by (message_by k octet (octet ∷ rest)))) (sym at) tt
+of_kind (Some kind) octet rest at typed = by_kind (IsOfType octet) kind tt typed octet rest at
+
+-- A message of another type than that of an occasion is of another occasion.
+abbrev pub IsOther : Occasion → Option Arrival → Type 0
+IsOther occasion None = Unit {0}
+IsOther occasion (Some a) = a.occasion ≢ occasion
+
+other_occasion : (occasion : Occasion) (octet : ℕ) (a : Option Arrival) → IsOfType octet a → (octet == type_of occasion) ≡ false → IsOther occasion a
+other_occasion occasion octet None typed not = tt
+other_occasion occasion octet (Some a) typed not = λ same. false≢true (sym not ∙ eq-eqb octet (type_of occasion) (sym typed ∙ ap type_of same))
+
+pub is_other : (occasion : Occasion) (bytes : List ℕ) → begins_with (type_of occasion) bytes ≡ false → IsOther occasion (arrival_in bytes)
+unfolding arrival_in reading_of
+is_other occasion [] not = tt
+is_other occasion (octet ∷ rest) not = other_occasion occasion octet (arrival_in (octet ∷ rest)) (of_kind (kind_at octet) octet rest refl (by_octet octet)) not
 
 pub is_no_confirm : (bytes : List ℕ) → begins_with 2 bytes ≡ false → IsNoConfirm (arrival_in bytes)
-unfolding arrival_in reading_of
-is_no_confirm [] not = tt
-is_no_confirm (octet ∷ rest) not = no_confirm (kind_at octet) octet rest refl (by_octet octet not)
+is_no_confirm bytes not = no_confirm (arrival_in bytes) (is_other on.Cc bytes not)
+  where
+    no_confirm : (a : Option Arrival) → IsOther on.Cc a → IsNoConfirm a
+    no_confirm None other = tt
+    no_confirm (Some a) other = other
