@@ -1,3 +1,4 @@
+pub mod Cells
 pub mod Reference
 pub mod Flow
 pub mod Message

@@ -1,4 +1,4 @@
--- What the tables say of the cells that set a section up, take data, end a reset, or clear what came in.
+-- In which cells what the other end hands over is taken, and what a user asks.
 use Rattle.std.proofs.Common.{◌≡◌, true, refl}
 use Rattle.relay_base.specs.declared.words.Request.{Request}
 use Rattle.relay_base.specs.declared.words.Request.TheVariants as request
@@ -7,94 +7,25 @@ use Rattle.section_model.specs.declared.cell.Cell.TheVariants as cell
 use Rattle.section_model.specs.declared.cell.Occasion.{Occasion}
 use Rattle.section_model.specs.declared.cell.Occasion.TheVariants as on
 use Rattle.section_model.specs.declared.cell.SectionState.{SectionState}
-use Rattle.section_model.specs.declared.cell.SectionState.TheVariants.{Asked, Asking, Waning, Up, Resetting}
 use Rattle.section_model.specs.declared.cell.UserOccasion.{UserOccasion}
 use Rattle.section_model.specs.declared.cell.UserOccasion.TheVariants as by
 use Rattle.section_model.specs.declared.cell.UserState.{UserState}
 use Rattle.section_model.specs.declared.cell.UserState.TheVariants as user
 use Rattle.section_model.specs.declared.hand.Hand.{Hand}
 use Rattle.section_model.specs.declared.hand.Hand.TheVariants as hand
-use Rattle.section_model.specs.Table.{section_row, user_row, section_cell, user_cell}
+use Rattle.section_model.specs.Table.{user_row, user_cell}
 use Rattle.section_model.specs.Acting.{section_takes_by, user_takes_by}
 use Rattle.section_model.specs.Step.{asking_cell}
 use Rattle.hop_law.specs.Units.{carries}
 use Rattle.hop_law.specs.EarlyLaw.{IsBefore}
 use Rattle.connection_law.specs.InStep.{user_stage}
+use Rattle.connection_law.proofs.Cells.{IsDataMessage, IsCellOf, cell_of}
 
-abbrev pub IsResetComes : Occasion → Type 0
-IsResetComes on.ResetComes = Unit {0}
-IsResetComes _ = ⊥
-
--- A cell of a section is in its row and column.
-abbrev pub IsCellOf : Cell → Occasion → SectionState → Type 0
-IsCellOf cell.TakeData o s = (carries o ≡ true) × (s ≡ Up)
-IsCellOf cell.TakeNumberedData o s = (carries o ≡ true) × (s ≡ Up)
-IsCellOf cell.Confirm o s = s ≡ Asking
-IsCellOf cell.ConfirmLate o s = s ≡ Waning
-IsCellOf cell.KeepEnd o s = s ≡ Asking
-IsCellOf cell.PassAccept o s = s ≡ Asked
-IsCellOf cell.ResetComplete o s = s ≡ Resetting
-IsCellOf cell.PassReset o s = IsResetComes o
-IsCellOf cell.ClearCounts o s = IsResetComes o
-IsCellOf _ o s = Unit {0}
-
-pub cell_of : (o : Occasion) (s : SectionState) → IsCellOf (section_cell s o) o s
-unfolding section_row
-cell_of on.Cc Asking = refl
-cell_of on.Cc Waning = refl
-cell_of on.Cc _ = tt
-cell_of on.Cref Asked = tt
-cell_of on.Cref _ = tt
-cell_of on.Rlsd Asked = tt
-cell_of on.Rlsd _ = tt
-cell_of on.Rlc Asked = tt
-cell_of on.Rlc _ = tt
-cell_of on.Dt1 Up = (refl, refl)
-cell_of on.Dt1 _ = tt
-cell_of on.Dt2 Up = (refl, refl)
-cell_of on.Dt2 _ = tt
-cell_of on.Ak Asked = tt
-cell_of on.Ak _ = tt
-cell_of on.Ed Asked = tt
-cell_of on.Ed _ = tt
-cell_of on.Ea Asked = tt
-cell_of on.Ea _ = tt
-cell_of on.Rsr Resetting = refl
-cell_of on.Rsr _ = tt
-cell_of on.Rsc Resetting = refl
-cell_of on.Rsc _ = tt
-cell_of on.Err Asked = tt
-cell_of on.Err _ = tt
-cell_of on.It Asked = tt
-cell_of on.It _ = tt
-cell_of on.ConnectFires Asked = tt
-cell_of on.ConnectFires _ = tt
-cell_of on.ResetFires Asked = tt
-cell_of on.ResetFires _ = tt
-cell_of on.IarFires Asked = tt
-cell_of on.IarFires _ = tt
-cell_of on.IasFires Asked = tt
-cell_of on.IasFires _ = tt
-cell_of on.RelFires Asked = tt
-cell_of on.RelFires _ = tt
-cell_of on.IntFires Asked = tt
-cell_of on.IntFires _ = tt
-cell_of on.RepeatFires Asked = tt
-cell_of on.RepeatFires _ = tt
-cell_of on.AcceptComes Asked = refl
-cell_of on.AcceptComes _ = tt
-cell_of on.RefuseComes Asked = tt
-cell_of on.RefuseComes _ = tt
-cell_of on.EndComes Asking = refl
-cell_of on.EndComes _ = tt
-cell_of on.UnitComes Asked = tt
-cell_of on.UnitComes _ = tt
-cell_of on.ExpeditedComes Asked = tt
-cell_of on.ExpeditedComes _ = tt
-cell_of on.ResetComes Asked = tt
-cell_of on.ResetComes _ = tt
-cell_of on.DoneComes Asked = tt
-cell_of on.DoneComes _ = tt
+-- data that a message carries
+pub data_carried : (o : Occasion) → IsDataMessage o → carries o ≡ true
+data_carried on.Dt1 d = refl
+data_carried on.Dt2 d = refl
+data_carried _ d = absurd d
 
 -- what an effect of the other end is to a section
 abbrev pub as_occasion : Hand → Occasion

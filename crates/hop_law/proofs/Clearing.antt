@@ -40,6 +40,7 @@ use Rattle.section_model.specs.Coupling.{with_more, other_takes, exchange, settl
 use Rattle.section_model.specs.Laws.{hands_of}
 use Rattle.section_model.specs.Step.{checked, hears_checked, in_touch, is_from_elsewhere, hears_message, asking_cell, is_nothing, refusal, reason_against, asks_unless, asks, ticked, is_due_at, fires_at, fires, fires_next, fires_due, ticks_by, after_event, is_named, at_this, heard_by, asked_by, event_step, connection_step}
 use Rattle.connection_law.specs.InStep.{Stage, section_stage, stage_at, class_at, got_at, sent_at, AreInStep, IsInStep}
+use Rattle.connection_law.proofs.Cells.{IsResetComes, IsCellOf, cell_of}
 use Rattle.connection_law.proofs.Flow.Flowing.{either}
 use Rattle.connection_law.proofs.Message.Sent.{after_leaving}
 use Rattle.connection_law.proofs.Reference.Ends.{Both}
@@ -47,7 +48,7 @@ use Rattle.hop_law.specs.TextLaw.{Begins}
 use Rattle.hop_law.specs.EarlyLaw.{IsBefore, IsEmptyEarly}
 use Rattle.hop_law.specs.ClearingLaw.{is_reset, SendsReset, NoClearing}
 use Rattle.hop_law.specs.ClosingLaw.{may_take, is_resetting, IsNoOpening, StaysClosed}
-use Rattle.hop_law.proofs.Cells.{IsResetComes, IsCellOf, cell_of, as_occasion, taking_cell, IsResets, IsUserCellOf, as_asked, asking_cell_of, as_told, telling_cell}
+use Rattle.hop_law.proofs.Cells.{as_occasion, taking_cell, IsResets, IsUserCellOf, as_asked, asking_cell_of, as_told, telling_cell}
 use Rattle.hop_law.proofs.Effects.{AreTaken, exchanged}
 use Rattle.hop_law.proofs.Exchanging.{both}
 use Rattle.hop_law.proofs.Taking.{not_set_up}

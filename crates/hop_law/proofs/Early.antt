@@ -32,13 +32,14 @@ use Rattle.relay_base.specs.declared.words.Request.{Request}
 use Rattle.relay_base.specs.declared.words.Request.TheVariants as request
 use Rattle.section_model.specs.Step.{asking_cell, hears_checked, in_touch, ticked, is_due_at, fires_at, fires, fires_next, fires_due, ticks_by, event_step, connection_step}
 use Rattle.section_model.specs.Lane.{next, follow}
+use Rattle.connection_law.proofs.Cells.{IsCellOf, cell_of}
 use Rattle.connection_law.proofs.Flow.Flowing.{either}
 use Rattle.connection_law.proofs.Reference.Ends.{IsKept, Both, both_same, both_in_turn}
 use Rattle.connection_law.proofs.Reference.Settling.{settled}
 use Rattle.connection_law.proofs.Reference.Step.{Keeps, KeepsEnds, keeps_that, keeps_then, heard_kept, asked_kept, after_event_kept}
 use Rattle.connection_law.specs.InStep.{Stage, asked, asking, connected, over, Meets, section_stage, user_stage, stage_at, got_at}
 use Rattle.hop_law.specs.EarlyLaw.{IsBefore, WasEarly, IsEmptyEarly, EarlyLaw}
-use Rattle.hop_law.proofs.Cells.{IsCellOf, cell_of, IsUserCellOf, as_asked, asking_cell_of}
+use Rattle.hop_law.proofs.Cells.{IsUserCellOf, as_asked, asking_cell_of}
 
 -- from a stage and what came in to those later on
 abbrev Early : Stage → List DataUnit → Stage → List DataUnit → Type 0

@@ -38,13 +38,14 @@ use Rattle.section_model.specs.Step.{names_both, ends_both, names_another, is_of
 use Rattle.hop_law.specs.CarriedLaw.{dt1_of}
 use Rattle.hop_law.specs.Units.{carries, units_for}
 use Rattle.connection_law.specs.InStep.{Stage, connected, got_at, Meets, section_stage, user_stage, stage_at, AreInStep, IsInStep}
+use Rattle.connection_law.proofs.Cells.{IsCellOf, cell_of}
 use Rattle.connection_law.proofs.Flow.Flowing.{either}
 use Rattle.connection_law.proofs.Flow.Ends.{kept_back}
 use Rattle.connection_law.proofs.Flow.Ordering.{this_left}
 use Rattle.connection_law.proofs.Message.Hearing.{other_named}
 use Rattle.connection_law.proofs.Message.Sent.{after_leaving}
 use Rattle.hop_law.specs.PassingLaw.{dt1_among, passed_on, at_once, StaysOrClears, Brings, Passing, none, on_this, on_that as on_other, UnitsPass}
-use Rattle.hop_law.proofs.Cells.{IsCellOf, cell_of, IsUserCellOf, as_asked, asking_cell_of}
+use Rattle.hop_law.proofs.Cells.{data_carried, IsUserCellOf, as_asked, asking_cell_of}
 use Rattle.hop_law.proofs.Quiet.{IsQuiet, AreOther, ActsQuiet, dt1_joined, quiet_joined, none_quiet, resets_quiet, section_hears_quiet, section_fires_quiet, user_asks_quiet}
 use Rattle.hop_law.proofs.Exchanging.{both, Exchanges, Quiet, quiet_nowhere, quiet_then, quiet_back, exchange_quiet, settles_quiet}
 use Rattle.hop_law.proofs.Taking.{state_kept, SameHead, Passes, unit_passes}
@@ -128,11 +129,11 @@ unfolding section_hears line_hears windowed_hears HearsPass WindowsPass
 section_hears_passes cell.TakeData o G ticks point m x t that is k brought =
     either (HearsPass G ticks x t that) (x.head.class == 3) _ _ (λ _. nothing_passes G ticks x t that)
     (λ _. let u = unit_in_message m in
-    gives_unit G ticks x _ that u is.1 (brought is.0) (state_kept (record x { timers = t }) (record (line_in x) { got = x.windows.got ++ u ∷ [] }) refl)
+    gives_unit G ticks x _ that u is.1 (brought (data_carried o is.0)) (state_kept (record x { timers = t }) (record (line_in x) { got = x.windows.got ++ u ∷ [] }) refl)
     (other_meets (section_stage x.head.state) (stage_at that) (up_meets x.head.state is.1) k.0))
 section_hears_passes cell.TakeNumberedData o G ticks point m x t that is k brought =
     either (HearsPass G ticks x t that) (x.head.class == 3) _ _
-    (λ _. numbered_passes G ticks m x t that is.1 (brought is.0) (other_meets (section_stage x.head.state) (stage_at that) (up_meets x.head.state is.1) k.0))
+    (λ _. numbered_passes G ticks m x t that is.1 (brought (data_carried o is.0)) (other_meets (section_stage x.head.state) (stage_at that) (up_meets x.head.state is.1) k.0))
     (λ _. line_rests G ticks x t that)
 section_hears_passes c o G ticks point m x t that is k brought =
     quiet_passes G (both (wire x) that) _ (settles_quiet ticks (wire x) that _ (section_hears_quiet ticks c point m (record x { timers = t }) tt))

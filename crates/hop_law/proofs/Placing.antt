@@ -25,12 +25,13 @@ use Rattle.section_model.specs.Acting.{timed, by_windows, line_in, in_windows, s
 use Rattle.section_model.specs.Coupling.{on_that}
 use Rattle.section_model.specs.Step.{hears_checked, in_touch, ticked, is_due_at, fires_at, fires, fires_next, fires_due, ticks_by, after_event, event_step, connection_step}
 use Rattle.section_model.specs.Lane.{next, follow}
+use Rattle.connection_law.proofs.Cells.{IsCellOf, cell_of}
 use Rattle.connection_law.proofs.Flow.Flowing.{either}
 use Rattle.connection_law.proofs.Reference.Ends.{IsKept, Both, both_same, both_in_turn}
 use Rattle.connection_law.proofs.Reference.Settling.{settled}
 use Rattle.connection_law.proofs.Reference.Step.{Keeps, KeepsEnds, keeps_that, keeps_then, heard_kept, asked_kept, after_event_kept}
 use Rattle.hop_law.specs.PlaceLaw.{KeepsPlace, StaysPut, PlacesStay}
-use Rattle.hop_law.proofs.Cells.{IsCellOf, cell_of, as_occasion, taking_cell}
+use Rattle.hop_law.proofs.Cells.{as_occasion, taking_cell}
 
 -- a state in its place, as it was
 same : (x : SectionHead) → KeepsPlace x x

@@ -35,13 +35,14 @@ use Rattle.section_model.specs.Coupling.{exchange, settles}
 use Rattle.section_model.specs.Laws.{hands_of}
 use Rattle.section_model.specs.Step.{names_both, ends_both, names_another, is_of_other_class, checked, hears_checked, in_touch, is_from_elsewhere, hears_message, asking_cell, reason_against, asks_unless, asks, ticked, is_due_at, fires_at, fires, fires_next, fires_due, ticks_by, is_named, heard_by, event_step}
 use Rattle.connection_law.specs.InStep.{connected, over, Meets, section_stage, user_stage, stage_at, got_at, AreInStep}
+use Rattle.connection_law.proofs.Cells.{IsCellOf, cell_of}
 use Rattle.connection_law.proofs.Flow.Flowing.{either}
 use Rattle.connection_law.proofs.Reference.Ends.{Both}
 use Rattle.hop_law.specs.Texts.{joins}
 use Rattle.hop_law.specs.ClassLaw.{IsOfAClass}
 use Rattle.hop_law.specs.LeavingLaw.{AreSides, this_and_that, that_and_this}
 use Rattle.hop_law.specs.ClearingLaw.{is_reset, SendsReset}
-use Rattle.hop_law.proofs.Cells.{IsCellOf, cell_of, IsResets, IsUserCellOf, as_asked, asking_cell_of}
+use Rattle.hop_law.proofs.Cells.{IsResets, IsUserCellOf, as_asked, asking_cell_of}
 use Rattle.hop_law.proofs.Quiet.{Kept}
 use Rattle.hop_law.proofs.Exchanging.{both}
 use Rattle.hop_law.proofs.Taking.{state_kept, told_cell, Passes, unit_passes}

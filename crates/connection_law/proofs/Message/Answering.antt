@@ -27,12 +27,13 @@ use Rattle.section_model.specs.Timing.{firing_order, firing, rearmed}
 use Rattle.section_model.specs.Acting.{timed, windows_after, by_windows, line_in, in_windows, section_hears, section_fires, section_takes, section_takes_by, end_takes}
 use Rattle.section_model.specs.Coupling.{with_more, other_takes, exchange, settles, on_that}
 use Rattle.section_model.specs.Step.{checked, hears_checked, in_touch, is_from_elsewhere, hears_message, asking_cell, reason_against, asks_unless, asks, ticked, is_due_at, fires_at, fires, fires_next, fires_due, ticks_by, is_named, at_this, at_reference, heard_by, asked_by, event_step, names, destination_of, hears, on_windows, after_event}
+use Rattle.connection_law.proofs.Cells.{IsCellOf, cell_of}
 use Rattle.connection_law.proofs.Flow.Flowing.{either}
 use Rattle.connection_law.proofs.Flow.Ordering.{this_left}
 use Rattle.connection_law.specs.ExpeditedSent.{unanswered_at, AnswersIn, Answers, IsAtNothing, IsAnsweredAt, StaysUnanswered, BothStayUnanswered, AnswersNone}
 use Rattle.connection_law.proofs.Message.Exchanging.{left_keeps}
 use Rattle.connection_law.proofs.Message.Acting.{both}
-use Rattle.connection_law.proofs.Message.Hearing.{IsCellOf, cell_of, other_named}
+use Rattle.connection_law.proofs.Message.Hearing.{other_named}
 use Rattle.connection_law.proofs.Message.Leaving.{LeavesAlike, leaves_alike}
 
 -- The windows of a section.
@@ -63,7 +64,7 @@ data_stays A m x =
     (λ _. either (WindowsStay A x) (not (is_valid m.pr x.windows)) _ _ (λ _. resets_stay A RESET_INCORRECT_RECEIVE_NUMBER x)
     (λ _. λ e. inl e)))
 
-windows_hear : (c : Cell) (o : Occasion) (A : Type 0) (m : Parameters) (x : Windowed) → IsCellOf c o → (o ≡ on.Ea → A) → WindowsStay A x (windowed_hears c m x)
+windows_hear : (c : Cell) (o : Occasion) (A : Type 0) (m : Parameters) (x : Windowed) → IsCellOf c o x.head.state → (o ≡ on.Ea → A) → WindowsStay A x (windowed_hears c m x)
 unfolding windowed_hears WindowsStay
 windows_hear cell.TakeNumberedData o A m x is answers = data_stays A m x
 windows_hear cell.TakeAcknowledgement o A m x is answers =
@@ -114,7 +115,7 @@ SectionKeeps A x r = Keeps A x.windows r.0.windows
 abbrev EndKeeps : Type 0 → End → End → Type 0
 EndKeeps A e f = StaysUnanswered A e f × (IsAtNothing e → IsAtNothing f)
 
-section_hears_stays : (c : Cell) (o : Occasion) (A : Type 0) (ticks : Ticks) (point : ℕ) (m : Parameters) (x : Section) → IsCellOf c o → (o ≡ on.Ea → A)
+section_hears_stays : (c : Cell) (o : Occasion) (A : Type 0) (ticks : Ticks) (point : ℕ) (m : Parameters) (x : Section) → IsCellOf c o x.head.state → (o ≡ on.Ea → A)
     → StaysUnanswered A (wire x) (section_hears ticks c point m x).0
 unfolding SectionStays section_hears WindowsStay
 section_hears_stays c o A ticks point m x is answers =

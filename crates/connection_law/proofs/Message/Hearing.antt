@@ -16,11 +16,9 @@ use Rattle.section_model.specs.declared.cell.Cell.{Cell}
 use Rattle.section_model.specs.declared.cell.Cell.TheVariants as cell
 use Rattle.section_model.specs.declared.cell.Occasion.{Occasion}
 use Rattle.section_model.specs.declared.cell.Occasion.TheVariants as on
-use Rattle.section_model.specs.declared.cell.SectionState.{SectionState}
-use Rattle.section_model.specs.declared.cell.SectionState.TheVariants.{Asked, Up}
 use Rattle.section_model.specs.declared.hand.Hand.TheVariants as hand
 use Rattle.section_model.specs.declared.hand.Acted.{Acted}
-use Rattle.section_model.specs.Table.{section_row, section_cell}
+use Rattle.section_model.specs.Table.{section_cell}
 use Rattle.section_model.specs.Parameters.{Parameters, Arrival, arrival_in}
 use Rattle.section_model.specs.Ends.{End, wire, owner, SectionHead, Section, User, Timers, Connection, turned, gives_then}
 use Rattle.section_model.specs.Line.{line_hears}
@@ -31,76 +29,13 @@ use Rattle.section_model.specs.Timing.{firing_order, firing, rearmed}
 use Rattle.section_model.specs.Acting.{timed, by_windows, by_line, line_in, in_windows, section_hears}
 use Rattle.section_model.specs.Coupling.{settles, on_that}
 use Rattle.section_model.specs.Step.{names_both, ends_both, names_another, is_of_other_class, checked, hears_checked, in_touch, is_from_elsewhere, hears_message, asking_cell, reason_against, asks_unless, asks, ticked, is_due_at, fires_at, fires, fires_next, fires_due, ticks_by, is_named, at_this, at_reference, heard_by, asked_by, event_step, names, destination_of, hears}
+use Rattle.connection_law.proofs.Cells.{IsCellOf, cell_of}
 use Rattle.connection_law.proofs.Flow.Flowing.{either}
 use Rattle.connection_law.specs.Messages.{data_among, expedited_among}
 use Rattle.connection_law.specs.ExpeditedSent.{AnswersIn, GivesIn, Answers, Gives, none}
 use Rattle.connection_law.proofs.Message.Plain.{IsPlain, AreOther, ActsPlain, none_plain, plain_joined, resets_plain, line_hears_plain, section_fires_plain, units_other}
 use Rattle.connection_law.proofs.Message.Exchanging.{exchange_plain}
 use Rattle.connection_law.proofs.Message.Acting.{both, EventSends, plain_sends, turned_sends, settles_plain, settles_answer, settles_bringing, nothing_plain}
-
--- The table has the cells of ED and EA for these messages alone.
-
-abbrev pub IsCellOf : Cell → Occasion → Type 0
-IsCellOf cell.TakeExpedited o = o ≡ on.Ed
-IsCellOf cell.TakeExpeditedAcknowledgement o = o ≡ on.Ea
-IsCellOf _ o = Unit {0}
-
-pub cell_of : (o : Occasion) (s : SectionState) → IsCellOf (section_cell s o) o
-unfolding section_row
-cell_of on.Ed Up = refl
-cell_of on.Ed _ = tt
-cell_of on.Ea Up = refl
-cell_of on.Ea _ = tt
-cell_of on.Cc Asked = tt
-cell_of on.Cc _ = tt
-cell_of on.Cref Asked = tt
-cell_of on.Cref _ = tt
-cell_of on.Rlsd Asked = tt
-cell_of on.Rlsd _ = tt
-cell_of on.Rlc Asked = tt
-cell_of on.Rlc _ = tt
-cell_of on.Dt1 Asked = tt
-cell_of on.Dt1 _ = tt
-cell_of on.Dt2 Asked = tt
-cell_of on.Dt2 _ = tt
-cell_of on.Ak Asked = tt
-cell_of on.Ak _ = tt
-cell_of on.Rsr Asked = tt
-cell_of on.Rsr _ = tt
-cell_of on.Rsc Asked = tt
-cell_of on.Rsc _ = tt
-cell_of on.Err Asked = tt
-cell_of on.Err _ = tt
-cell_of on.It Asked = tt
-cell_of on.It _ = tt
-cell_of on.ConnectFires Asked = tt
-cell_of on.ConnectFires _ = tt
-cell_of on.ResetFires Asked = tt
-cell_of on.ResetFires _ = tt
-cell_of on.IarFires Asked = tt
-cell_of on.IarFires _ = tt
-cell_of on.IasFires Asked = tt
-cell_of on.IasFires _ = tt
-cell_of on.RelFires Asked = tt
-cell_of on.RelFires _ = tt
-cell_of on.IntFires Asked = tt
-cell_of on.IntFires _ = tt
-cell_of on.RepeatFires Asked = tt
-cell_of on.RepeatFires _ = tt
-cell_of on.AcceptComes Asked = tt
-cell_of on.AcceptComes _ = tt
-cell_of on.RefuseComes Asked = tt
-cell_of on.RefuseComes _ = tt
-cell_of on.EndComes Asked = tt
-cell_of on.EndComes _ = tt
-cell_of on.UnitComes Asked = tt
-cell_of on.UnitComes _ = tt
-cell_of on.ExpeditedComes Asked = tt
-cell_of on.ExpeditedComes _ = tt
-cell_of on.ResetComes Asked = tt
-cell_of on.ResetComes _ = tt
-cell_of on.DoneComes Asked = tt
-cell_of on.DoneComes _ = tt
 
 -- A message on a section.
 
@@ -142,7 +77,7 @@ answer_hears A G ticks x t that (Some body) answer unanswered waiting =
     settles_answer A G ticks x _ that body answer unanswered waiting refl
 
 windows_hear : (c : Cell) (o : Occasion) (A : Section → Type 0) (G : End → List ℕ → Type 0) (ticks : Ticks) (m : Parameters) (x : Section) (t : Timers) (that : End)
-    → IsCellOf c o → (o ≡ on.Ea → A x) → (o ≡ on.Ed → G (wire x) m.data_octets)
+    → IsCellOf c o x.head.state → (o ≡ on.Ea → A x) → (o ≡ on.Ed → G (wire x) m.data_octets)
     → WindowsSend A G ticks x (record x { timers = t }) that (windowed_hears c m (record { head = x.head; windows = x.windows }))
 unfolding windowed_hears ActsPlain IsPlain AreOther data_among expedited_among spelling_of octets_of
 windows_hear cell.TakeNumberedData o A G ticks m x t that is answers brings = data_hears A G ticks m x (record x { timers = t }) that (record { head = x.head; windows = x.windows })
@@ -163,7 +98,7 @@ windows_hear cell.ResetComplete o A G ticks m x t that is answers brings = windo
 windows_hear _ o A G ticks m x t that is answers brings = windows_plain A G ticks x (record x { timers = t }) that _ ((refl, refl), tt)
 
 section_hears_sends : (c : Cell) (o : Occasion) (A : Section → Type 0) (G : End → List ℕ → Type 0) (ticks : Ticks) (point : ℕ) (m : Parameters) (x : Section) (t : Timers) (that : End)
-    → IsCellOf c o → (o ≡ on.Ea → A x) → (o ≡ on.Ed → G (wire x) m.data_octets)
+    → IsCellOf c o x.head.state → (o ≡ on.Ea → A x) → (o ≡ on.Ed → G (wire x) m.data_octets)
     → EventSends A G (both (wire x) that) (settles ticks (section_hears ticks c point m (record x { timers = t })) that)
 unfolding section_hears HearsSends WindowsSend
 section_hears_sends c o A G ticks point m x t that is answers brings =

@@ -29,11 +29,12 @@ use Rattle.section_model.specs.Acting.{by_line, line_in, in_windows, section_hea
 use Rattle.section_model.specs.Laws.{hands_of}
 use Rattle.section_model.specs.Coupling.{with_more, other_takes, exchange, settles, on_that}
 use Rattle.section_model.specs.Step.{checked, hears_checked, in_touch, is_from_elsewhere, hears_message, asking_cell, reason_against, asks_unless, asks, ticked, is_due_at, fires_at, fires, fires_next, fires_due, ticks_by, is_named, at_this, at_reference, heard_by, asked_by, event_step, names, destination_of, hears, on_windows, on_each, after_event, connection_step}
+use Rattle.connection_law.proofs.Cells.{IsCellOf, cell_of}
 use Rattle.connection_law.proofs.Flow.Flowing.{either}
 use Rattle.connection_law.specs.ExpeditedSent.{waiting_at, GivesIn, Gives, IsHandedOver, AreHandedOver}
 use Rattle.connection_law.proofs.Message.Plain.{AreOther, ActsPlain, left_other, line_hears_plain, line_fires_plain, line_takes_plain, user_takes_plain, units_other}
 use Rattle.connection_law.proofs.Message.Acting.{both}
-use Rattle.connection_law.proofs.Message.Hearing.{IsCellOf, cell_of, other_named}
+use Rattle.connection_law.proofs.Message.Hearing.{other_named}
 
 same : (B : List ℕ → Type 0) (w : Option (List ℕ)) → IsHandedOver B w w
 same B w = λ body e. inl e
@@ -100,7 +101,7 @@ unfolding WindowsOver AreBrought
 leaves_over A B None x = (same A x.windows.waiting, tt)
 leaves_over A B (Some body) x = (dropped A x.windows.waiting, (tt, tt))
 
-windows_hear : (c : Cell) (o : Occasion) (A B : List ℕ → Type 0) (m : Parameters) (x : Windowed) → IsCellOf c o → (o ≡ on.Ed → B m.data_octets) → WindowsOver A B x (windowed_hears c m x)
+windows_hear : (c : Cell) (o : Occasion) (A B : List ℕ → Type 0) (m : Parameters) (x : Windowed) → IsCellOf c o x.head.state → (o ≡ on.Ed → B m.data_octets) → WindowsOver A B x (windowed_hears c m x)
 unfolding windowed_hears WindowsOver AreBrought
 windows_hear cell.TakeNumberedData o A B m x is brings = data_over A B m x
 windows_hear cell.TakeAcknowledgement o A B m x is brings =
@@ -147,7 +148,7 @@ line_over A B x act p =
 ActsOver : (List ℕ → Type 0) → (List ℕ → Type 0) → End → End × Acted → Type 0
 ActsOver A B e r = IsHandedOver A (waiting_at e) (waiting_at r.0) × AreBrought B (hands_of r.1)
 
-section_hears_over : (c : Cell) (o : Occasion) (A B : List ℕ → Type 0) (ticks : Ticks) (point : ℕ) (m : Parameters) (x : Section) → IsCellOf c o → (o ≡ on.Ed → B m.data_octets)
+section_hears_over : (c : Cell) (o : Occasion) (A B : List ℕ → Type 0) (ticks : Ticks) (point : ℕ) (m : Parameters) (x : Section) → IsCellOf c o x.head.state → (o ≡ on.Ed → B m.data_octets)
     → ActsOver A B (wire x) (section_hears ticks c point m x)
 unfolding ActsOver SectionOver section_hears WindowsOver
 section_hears_over c o A B ticks point m x is brings =
