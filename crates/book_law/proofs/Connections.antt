@@ -36,8 +36,8 @@ use Rattle.section_model.proofs.ReadWithin.{read_within}
 use Rattle.book_law.specs.LengthLaw.{FitsOne, IsCarried, AreCarried, ConnIsCarried}
 use Rattle.book_law.proofs.Outputs.{either, all-append}
 use Rattle.book_law.proofs.Spelling.{IsShortOption, spelled}
-use Rattle.book_law.proofs.Sections.{given-short}
-use Rattle.book_law.proofs.Settling.{BothShort}
+use Rattle.book_law.proofs.Keeping.{OfBoth}
+use Rattle.book_law.proofs.Sections.{lengths, given-short}
 use Rattle.book_law.proofs.Steps.{address-short, data-short, step-done}
 use Rattle.book_law.proofs.Units.{onward-short, status-carried}
 
@@ -93,7 +93,7 @@ wish-short terms Tick = tt
 -- The opening.
 
 abbrev OpenedShort : Opened → Type 0
-OpenedShort o = IfSome o.connection BothShort × AreCarried o.outs
+OpenedShort o = IfSome o.connection (OfBoth lengths) × AreCarried o.outs
 
 cref-carried : (w : Wanted) (cause : ℕ) → IsCarried (cref_to w cause)
 cref-carried w cause = spelled (Cref w.slr cause None None None) (tt, tt)
@@ -109,13 +109,13 @@ through-short : (terms : Terms) (w : Wanted) (point : ℕ) (rewrite : Rewrite) (
     → OpenedShort (opened_through terms w point rewrite hop refs)
 through-short terms w point rewrite hop [] short = refused-short w REFUSAL_NOT_AVAILABLE
 through-short terms w point rewrite hop (mine ∷ []) short = refused-short w REFUSAL_NOT_AVAILABLE
-through-short terms w point rewrite hop (mine ∷ next ∷ refs) short = (((tt, (tt, tt)), (tt, (tt, tt))), (onward-fits w rewrite hop next short, tt))
+through-short terms w point rewrite hop (mine ∷ next ∷ refs) short = (((tt, tt, (tt, tt)), (tt, tt, (tt, tt))), (onward-fits w rewrite hop next short, tt))
 
 by_cr-short : (terms : Terms) (w : Wanted) (answer : Answer) (refs : List ℕ) → IsShortWanted w → OpenedShort (opened_by_cr terms w answer refs)
 unfolding opened_by_cr
 by_cr-short terms w (Refused cause local) refs short = (tt, (cref-carried w (refusal_code cause), status-carried terms.own w.point w.sls local))
 by_cr-short terms w (Local ssn) [] short = refused-short w REFUSAL_NOT_AVAILABLE
-by_cr-short terms w (Local ssn) (mine ∷ refs) short = (((tt, (tt, tt)), tt), (tt, tt))
+by_cr-short terms w (Local ssn) (mine ∷ refs) short = (((tt, tt, (tt, tt)), tt), (tt, tt))
 by_cr-short terms w (Forward point rewrite hop) refs short =
     either OpenedShort (fits w rewrite hop) _ _ (through-short terms w point rewrite hop refs short) (refused-short w REFUSAL_UNQUALIFIED)
 
@@ -125,7 +125,7 @@ unfolding opened_by_user
 by_user-short terms ssn tag w (Refused cause local) refs short = (tt, (tt, tt))
 by_user-short terms ssn tag w (Local other) refs short = (tt, (tt, tt))
 by_user-short terms ssn tag w (Forward point rewrite hop) [] short = (tt, (tt, tt))
-by_user-short terms ssn tag w (Forward point rewrite hop) (mine ∷ refs) short = ((tt, (tt, (tt, tt))), (tt, (onward-fits w rewrite w.hop mine short, tt)))
+by_user-short terms ssn tag w (Forward point rewrite hop) (mine ∷ refs) short = ((tt, (tt, tt, (tt, tt))), (tt, (onward-fits w rewrite w.hop mine short, tt)))
 
 opened-short : (terms : Terms) (wish : Wish) (answer : Option Answer) (refs : List ℕ) → WishShort wish → OpenedShort (opened terms wish answer refs)
 unfolding opened
@@ -137,20 +137,20 @@ opened-short terms no_wish answer refs short = (tt, tt)
 
 -- A connection that was opened, after what it heard.
 
-heard-short : (ticks : Ticks) (c : Connection) (events : List Event) → BothShort c → BothShort (follow ticks c (heard ticks c events))
+heard-short : (ticks : Ticks) (c : Connection) (events : List Event) → OfBoth lengths c → OfBoth lengths (follow ticks c (heard ticks c events))
 unfolding heard follow
 heard-short ticks c [] short = short
 heard-short ticks c (event ∷ events) short = by_test (λ d both. heard-short ticks d events both) (hears c event) refl
   where
-    by_test : ((d : Connection) → BothShort d → BothShort (follow ticks d (heard ticks d events))) → (is : Bool) → hears c event ≡ is
-        → BothShort (follow ticks c (elim is [ true ↦ event ∷ heard ticks (next ticks c event) events | false ↦ heard ticks c events ]))
+    by_test : ((d : Connection) → OfBoth lengths d → OfBoth lengths (follow ticks d (heard ticks d events))) → (is : Bool) → hears c event ≡ is
+        → OfBoth lengths (follow ticks c (elim is [ true ↦ event ∷ heard ticks (next ticks c event) events | false ↦ heard ticks c events ]))
     by_test later true is = later (next ticks c event) (step-done ticks c event is short).0
     by_test later false is = later c short
 
 abbrev OpeningShort : Opening → Type 0
-OpeningShort o = BothShort o.first
+OpeningShort o = OfBoth lengths o.first
 
-part-carried : (ticks : Ticks) (event : Event) (c : Connection) → BothShort c → AreCarried (part_by ticks event c)
+part-carried : (ticks : Ticks) (event : Event) (c : Connection) → OfBoth lengths c → AreCarried (part_by ticks event c)
 part-carried ticks event c short = by_test (hears c event) refl
   where
     by_test : (is : Bool) → hears c event ≡ is → AreCarried (elim is [ true ↦ (connection_step ticks c event).1 | false ↦ [] ])
@@ -228,7 +228,7 @@ since-short : (event : Event) (openings : List Opening) → AllByRecursion Openi
 since-short event [] short = tt
 since-short event (o ∷ openings) short = (short.0, since-short event openings short.1)
 
-list-short : (c : Option Connection) → IfSome c BothShort → AllByRecursion OpeningShort (opening_list c)
+list-short : (c : Option Connection) → IfSome c (OfBoth lengths) → AllByRecursion OpeningShort (opening_list c)
 list-short None short = tt
 list-short (Some c) short = (short, tt)
 

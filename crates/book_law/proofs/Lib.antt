@@ -7,8 +7,8 @@ pub mod Spelling
 pub mod Outputs
 pub mod Management
 pub mod Units
+pub mod Keeping
 pub mod Sections
-pub mod Settling
 pub mod Steps
 pub mod Connections
 pub mod LengthBooks

@@ -27,7 +27,7 @@ use Rattle.scmg.specs.declared.effect.Effect.{Effect}
 use Rattle.scmg.specs.declared.head.ControlHead.{ControlHead}
 use Rattle.scmg.specs.Control.{Control, start_of_control, told_all, subsystems, is_told, service_format, to_concerned, service_known, made_known, only_among, known_by, publishes, refusal, is_by_operator, changes, announced, tested, is_replicate, asked_out, is_asked_of, granted, dropped, hears_notice, hears_data, hears, replicate_of, is_under_way, coordinates_with, may_grant, grants, asks, subsystem_of, test_sent, denied, is_due_test, is_due_coordination, tests_sent, ticks, effect_of, managed, count_after, after_entry, LegalFrom}
 use Rattle.book_law.specs.LengthLaw.{FitsOne, IsCarried, AreCarried, ControlIsCarried}
-use Rattle.book_law.proofs.Outputs.{either, all-append, all-map}
+use Rattle.book_law.proofs.Outputs.{either, all-append, all-given}
 use Rattle.book_law.proofs.Spelling.{spelled}
 
 pub management-fits : (format : Format) (ssn point : ℕ) → FitsOne (octets_of format ssn point)
@@ -39,13 +39,13 @@ EffectCarried effect = AreCarried effect.outs
 -- Changes.
 
 told-carried : (p : RoutingData) (subject : Option ℕ) (t : Tell) → AreCarried (told_all p subject t)
-told-carried p subject t = all-map IsCarried (λ ssn. Told ssn t) (λ ssn. tt) (filter (is_told p subject) subsystems)
+told-carried p subject t = all-given IsCarried (λ ssn. Told ssn t) (λ ssn. tt) (filter (is_told p subject) subsystems)
 
 known-carried : (head : ControlHead) (p : RoutingData) (up : Bool) (ssn : ℕ) → AreCarried (service_known head p up ssn)
 known-carried head p up ssn =
     all-append IsCarried (told_all p (Some ssn) (tell.State ssn p.own up)) (to_concerned head p up ssn)
     (told-carried p (Some ssn) (tell.State ssn p.own up))
-    (all-map IsCarried _ (λ to. management-fits (service_format up) ssn p.own) head.concerned)
+    (all-given IsCarried _ (λ to. management-fits (service_format up) ssn p.own) head.concerned)
 
 made-carried : (head : ControlHead) (p : RoutingData) (change : Change) → AreCarried (made_known head p change)
 made-carried head p (AddRow row) = tt
@@ -135,8 +135,8 @@ asks-carried head c ssn _ = tt
 ticks-carried : (c : Control) → EffectCarried (ticks c)
 ticks-carried c =
     all-append IsCarried (tests_sent c.tests) (map denied (filter is_due_coordination c.coordinations))
-    (all-map IsCarried test_sent (λ s. management-fits Tested s.ssn s.point) (map subsystem_of (filter is_due_test c.tests)))
-    (all-map IsCarried denied (λ x. tt) (filter is_due_coordination c.coordinations))
+    (all-given IsCarried test_sent (λ s. management-fits Tested s.ssn s.point) (map subsystem_of (filter is_due_test c.tests)))
+    (all-given IsCarried denied (λ x. tt) (filter is_due_coordination c.coordinations))
 
 effect-carried : (head : ControlHead) (c : Control) (event : ControlEvent) → EffectCarried (effect_of head c event)
 unfolding effect_of

@@ -1,4 +1,4 @@
--- Outputs that are no longer than one message carries.
+-- What holds of both arms, and of each element of a list.
 use Rattle.std.proofs.Common.{ℕ, zero, suc, Bool, true, false, List, [], ◌∷◌, ◌++◌, map, take, drop, if◌then◌else◌}
 use Rattle.std.specs.List.{AllByRecursion}
 
@@ -11,9 +11,10 @@ pub all-append : {A : Type 0} (P : A → Type 0) (xs ys : List A) → AllByRecur
 all-append P [] ys f g = g
 all-append P (x ∷ xs) ys f g = (f.0, all-append P xs ys f.1 g)
 
-pub all-map : {A B : Type 0} (P : B → Type 0) (f : A → B) → ((x : A) → P (f x)) → (xs : List A) → AllByRecursion P (map f xs)
-all-map P f holds [] = tt
-all-map P f holds (x ∷ xs) = (holds x, all-map P f holds xs)
+-- of each element of a list that a function gives, whatever it is given
+pub all-given : {A B : Type 0} (P : B → Type 0) (f : A → B) → ((x : A) → P (f x)) → (xs : List A) → AllByRecursion P (map f xs)
+all-given P f holds [] = tt
+all-given P f holds (x ∷ xs) = (holds x, all-given P f holds xs)
 
 pub all-take : {A : Type 0} (P : A → Type 0) (n : ℕ) (xs : List A) → AllByRecursion P xs → AllByRecursion P (take n xs)
 all-take P zero xs f = tt

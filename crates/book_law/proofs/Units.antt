@@ -63,7 +63,7 @@ use Rattle.data_lane.specs.declared.effect.Work.{Work}
 use Rattle.data_lane.specs.declared.effect.Work.TheVariants as work
 use Rattle.data_lane.specs.Legal.{State, at_first, effect_by, failure, failures, of_now, taken_outs, worked, step_of, entry_after, LegalFrom}
 use Rattle.book_law.specs.LengthLaw.{FitsOne, IsCarried, AreCarried, DataIsCarried}
-use Rattle.book_law.proofs.Outputs.{either, all-append, all-map}
+use Rattle.book_law.proofs.Outputs.{either, all-append, all-given}
 use Rattle.book_law.proofs.Spelling.{IsShort, IsShortOption, HasShortParts, spelled}
 use Rattle.book_law.proofs.Management.{management-fits}
 
@@ -177,7 +177,7 @@ segment-fits c k called calling =
 
 segments-carried : (c : Cutting) → IsShort c.called → IsShort c.calling → AreCarried (segment_outputs c)
 unfolding segment_output
-segments-carried c called calling = all-map IsCarried (segment_output c) (λ k. segment-fits c k called calling) (range_with_len 0 (segment_count c))
+segments-carried c called calling = all-given IsCarried (segment_output c) (λ k. segment-fits c k called calling) (range_with_len 0 (segment_count c))
 
 -- what can be cut leaves room in a segment beside the addresses
 room : (c : Cutting) → can_be_cut c ≡ true → IsShort c.called × IsShort c.calling
@@ -353,7 +353,7 @@ taken-carried own taken = all-append IsCarried (failures own taken.failed) (of_n
 worked-carried : (own ticks : ℕ) (processes : List Process) (todo : Work) → AreCarried (worked own ticks processes todo).outs
 worked-carried own ticks processes work.Nothing = tt
 worked-carried own ticks processes (work.Segment piece) = taken-carried own (takes ticks processes piece).1
-worked-carried own ticks processes work.Tick = all-map IsCarried (failure own RETURN_SEGMENTATION_FAILURE) (failure-carried own RETURN_SEGMENTATION_FAILURE) (ended_by_tick processes)
+worked-carried own ticks processes work.Tick = all-given IsCarried (failure own RETURN_SEGMENTATION_FAILURE) (failure-carried own RETURN_SEGMENTATION_FAILURE) (ended_by_tick processes)
 
 -- The journal.
 

@@ -38,6 +38,7 @@ use Rattle.section_model.specs.Opening.{Wanted, Wish, by_cr, by_user, no_wish, w
 use Rattle.section_model.specs.Step.{connection_step, hears, is_in_range}
 use Rattle.section_model.specs.Lane.{Lane, next, heard, follow, Opening, connection_of, part_by, part_of, free_slots, is_held, times_taken, reference_at, enough, lowest_free, stray_output, stray_arrival, stray_answer, opening_of, outputs_of_hearing, hearing, other_outputs, outputs_by, legal_outputs, opening_list, with_event, openings_after, answer_of, IsLegalFrom}
 use Rattle.section_model.specs.Journals.{lane_of}
+use Rattle.book_law.proofs.Keeping.{OfBoth}
 use Rattle.printable_law.specs.OctetLaw.{IsOctet, AreOctets, HasOctets, IsForm, IsRewrite}
 use Rattle.printable_law.specs.Ranges.{IsPoint, IsReference, IsSelection, IsTag, RequestInRange, EventInRange, EntryInRange, QuestionInRange, AnswerInRange, OutputInRange, OutputsInRange}
 use Rattle.printable_law.proofs.Addresses.{address-read, addresses_have_octets}
@@ -46,8 +47,7 @@ use Rattle.printable_law.proofs.Management.{management_keeps_ranges}
 use Rattle.printable_law.proofs.Reading.{ReadsAs, octets-read}
 use Rattle.printable_law.proofs.Spelling.{spelling-octets}
 use Rattle.printable_law.specs.SectionRanges.{ConnAsksInRange, ConnKeepsRanges}
-use Rattle.printable_law.proofs.Sections.{credit-small, credit_of-small, given-octets}
-use Rattle.printable_law.proofs.Settling.{BothInRange}
+use Rattle.printable_law.proofs.Sections.{ranges, credit-small, credit_of-small, given-octets}
 use Rattle.printable_law.proofs.Steps.{step-done}
 
 -- What is wanted of a connection.
@@ -95,7 +95,7 @@ abbrev AreReferences : List ℕ → Type 0
 AreReferences refs = AllByRecursion IsReference refs
 
 abbrev OpenedInRange : Opened → Type 0
-OpenedInRange o = IfSome o.connection BothInRange × OutputsInRange o.outs
+OpenedInRange o = IfSome o.connection (OfBoth ranges) × OutputsInRange o.outs
 
 cref-sent : (w : Wanted) (cause : ℕ) → WantedInRange w → IsOctet cause → OutputInRange (cref_to w cause)
 cref-sent w cause good small = (good.0, good.1, spelling-octets (Cref w.slr cause None None None) (small, tt, tt, tt))
@@ -196,21 +196,21 @@ lowest-references lane openings count small =
 abbrev EventsInRange : List Event → Type 0
 EventsInRange events = AllByRecursion EventInRange events
 
-heard-done : (ticks : Ticks) (c : Connection) (events : List Event) → EventsInRange events → BothInRange c → BothInRange (follow ticks c (heard ticks c events))
+heard-done : (ticks : Ticks) (c : Connection) (events : List Event) → EventsInRange events → OfBoth ranges c → OfBoth ranges (follow ticks c (heard ticks c events))
 unfolding heard follow
 heard-done ticks c [] taken good = good
 heard-done ticks c (event ∷ events) taken good =
     by_test (heard-done ticks (next ticks c event) events taken.1 (step-done ticks c event taken.0 good).0) (heard-done ticks c events taken.1 good) (hears c event)
   where
-    by_test : BothInRange (follow ticks (next ticks c event) (heard ticks (next ticks c event) events)) → BothInRange (follow ticks c (heard ticks c events)) → (is : Bool)
-        → BothInRange (follow ticks c (elim is [ true ↦ event ∷ heard ticks (next ticks c event) events | false ↦ heard ticks c events ]))
+    by_test : OfBoth ranges (follow ticks (next ticks c event) (heard ticks (next ticks c event) events)) → OfBoth ranges (follow ticks c (heard ticks c events)) → (is : Bool)
+        → OfBoth ranges (follow ticks c (elim is [ true ↦ event ∷ heard ticks (next ticks c event) events | false ↦ heard ticks c events ]))
     by_test after before true = after
     by_test after before false = before
 
 abbrev OpeningInRange : Opening → Type 0
-OpeningInRange o = BothInRange o.first × EventsInRange o.since
+OpeningInRange o = OfBoth ranges o.first × EventsInRange o.since
 
-part-done : (ticks : Ticks) (event : Event) (c : Connection) → EventInRange event → BothInRange c → OutputsInRange (part_by ticks event c)
+part-done : (ticks : Ticks) (event : Event) (c : Connection) → EventInRange event → OfBoth ranges c → OutputsInRange (part_by ticks event c)
 part-done ticks event c taken good = by_test (hears c event)
   where
     by_test : (is : Bool) → OutputsInRange (elim is [ true ↦ (connection_step ticks c event).1 | false ↦ [] ])
@@ -297,7 +297,7 @@ since-done : (event : Event) (openings : List Opening) → EventInRange event �
 since-done event openings taken good =
     all-map OpeningInRange OpeningInRange (with_event event) (λ o is. (is.0, all-append EventInRange o.since (event ∷ []) is.1 (taken, tt))) openings good
 
-list-done : (c : Option Connection) → IfSome c BothInRange → AllByRecursion OpeningInRange (opening_list c)
+list-done : (c : Option Connection) → IfSome c (OfBoth ranges) → AllByRecursion OpeningInRange (opening_list c)
 list-done None good = tt
 list-done (Some c) good = ((good, tt), tt)
 

@@ -14,7 +14,6 @@ pub mod Addresses
 pub mod Routing
 pub mod Management
 mod Sections
-mod Settling
 mod Steps
 pub mod Connections
 pub mod Units

@@ -1,17 +1,9 @@
 -- What holds of each element of a list.
-use Rattle.std.proofs.Common.{ℕ, zero, suc, ◌-◌, Bool, true, false, List, [], ◌∷◌, ◌++◌, length, map, take, drop, replicate, slice_index, slice_index_or, if◌then◌else◌, arith}
+use Rattle.std.proofs.Common.{ℕ, zero, suc, ◌-◌, Bool, List, [], ◌∷◌, length, map, replicate, slice_index, slice_index_or, arith}
 use Rattle.std.specs.List.{AllByRecursion, concat, filter}
 use Rattle.q713_shape.specs.Format.{filled}
+pub use Rattle.book_law.proofs.Outputs.{either, all-append, all-given, all-take, all-drop}
 use Rattle.printable_law.specs.OctetLaw.{IsOctet, AreOctets}
-
--- a property of both arms
-pub either : {A : Type 0} (P : A → Type 0) (b : Bool) (x y : A) → P x → P y → P (if b then x else y)
-either P true x y f g = f
-either P false x y f g = g
-
-pub all-append : {A : Type 0} (P : A → Type 0) (xs ys : List A) → AllByRecursion P xs → AllByRecursion P ys → AllByRecursion P (xs ++ ys)
-all-append P [] ys f g = g
-all-append P (x ∷ xs) ys f g = (f.0, all-append P xs ys f.1 g)
 
 pub all-concat : (P : ℕ → Type 0) (lists : List (List ℕ)) → AllByRecursion (λ xs. AllByRecursion P xs) lists → AllByRecursion P (concat lists)
 all-concat P [] f = tt
@@ -21,21 +13,6 @@ pub all-map : {A B : Type 0} (P : A → Type 0) (Q : B → Type 0) (f : A → B)
     → AllByRecursion Q (map f xs)
 all-map P Q f holds [] all = tt
 all-map P Q f holds (x ∷ xs) all = (holds x all.0, all-map P Q f holds xs all.1)
-
--- of each element of a list that a function gives, whatever it is given
-pub all-given : {A B : Type 0} (P : B → Type 0) (f : A → B) → ((x : A) → P (f x)) → (xs : List A) → AllByRecursion P (map f xs)
-all-given P f holds [] = tt
-all-given P f holds (x ∷ xs) = (holds x, all-given P f holds xs)
-
-pub all-take : {A : Type 0} (P : A → Type 0) (n : ℕ) (xs : List A) → AllByRecursion P xs → AllByRecursion P (take n xs)
-all-take P zero xs f = tt
-all-take P (suc n) [] f = tt
-all-take P (suc n) (x ∷ xs) f = (f.0, all-take P n xs f.1)
-
-pub all-drop : {A : Type 0} (P : A → Type 0) (n : ℕ) (xs : List A) → AllByRecursion P xs → AllByRecursion P (drop n xs)
-all-drop P zero xs f = f
-all-drop P (suc n) [] f = tt
-all-drop P (suc n) (x ∷ xs) f = all-drop P n xs f.1
 
 pub all-replicate : {A : Type 0} (P : A → Type 0) (n : ℕ) (x : A) → P x → AllByRecursion P (replicate n x)
 all-replicate P zero x f = tt
