@@ -10,6 +10,7 @@ use capture_generator::counts_line;
 use journal_text::{Book, WriteFault, write_book};
 use relay_base::{Octets, Pc, Sink, write_all};
 use std::alloc::Global;
+use std::thread::Threads;
 
 /// What is written of a book.
 #[derive(Clone, Copy)]
@@ -32,8 +33,9 @@ fn write_octets<K: Sink>(out: &mut K, octets: &Octets) -> Result<(), WriteFault>
     Ok(())
 }
 
-/// Writes a report of a book to a sink. After an error a front of it was written.
-pub fn write_report<K: Sink>(
+/// Writes a report of a book to a sink, its print in threads. After an error a front of it was written.
+pub fn write_report<R: Threads + Sync, K: Sink>(
+    rt: &R,
     alloc: Global,
     report: Report,
     book: &Book,
@@ -47,7 +49,7 @@ pub fn write_report<K: Sink>(
     ensures kept { result ≢ Err WriteFault.Sink → K.faults out.new ≡ K.faults out.old }
 {
     let octets = match report {
-        Report::Print => return write_book(alloc, book, out),
+        Report::Print => return write_book(rt, alloc, book, out),
         Report::Counts { lines } => counts_line(alloc, lines, book)?,
         Report::Frames { own } => sent_frames(alloc, own, book)?,
     };

@@ -3,7 +3,7 @@ use Rattle.std.proofs.Common.{◌≡◌, ℕ, zero, suc, ◌+◌, ◌≤◌, ◌
 use Rattle.std.proofs.lemmas.Bool.Decides.{nat_tests}
 use Rattle.std.proofs.lemmas.Grind.{flat_map-append}
 use Rattle.std.proofs.Math.ListN.{set}
-use Rattle.std.specs.List.{flat_map, filter_map, range_with_len}
+use Rattle.std.specs.List.{filter_map, range_with_len}
 use Rattle.relay_base.specs.Giving.{◌>>=◌}
 use Rattle.relay_base.specs.declared.words.Stamp.{Stamp}
 use Rattle.plant_core.specs.declared.entry.ControlEvent.{ControlEvent}
@@ -14,6 +14,7 @@ use Rattle.capture_form.specs.Text.{words}
 use Rattle.capture_form.specs.Line.{Linked, meaning_of}
 use Rattle.capture_form.specs.Groups.{may_stand, placed, event_in}
 use Rattle.capture_form.specs.declared.meaning.Meaning.{Meaning}
+use Rattle.capture_form.specs.declared.fault.LineKind.{LineKind}
 use Rattle.capture_form.specs.declared.fault.CaptureFault.{CaptureFault}
 use Rattle.capture_form.specs.declared.fault.CaptureFault.TheVariants as refused
 use Rattle.capture_form.specs.declared.fault.Limit.TheVariants as limit
@@ -93,28 +94,34 @@ tick-counted r h =
     either Counted (nat_le MOST_TICK_LINES r.ticks) (Err (refused.TooLong limit.Ticks)) (Ok (record r { ticks = r.ticks + 1 })) tt
     (record { fine = fine-same r (record r { ticks = r.ticks + 1 }) refl refl h.fine; less = h.less })
 
-line-counted : (r : Reading) (ws : List (List ℕ)) → Fine r → IfOk (line_counted r ws) Counted
-line-counted r ws h =
-    by_test Counted (nat_le MOST_LINES r.events) (Err (refused.TooLong limit.Lines)) (cond (begins (codes "t") ws) (tick_counted r) (Ok r)) (λ e. tt)
-    (λ e. either Counted (begins (codes "t") ws) (tick_counted r) (Ok r) (tick-counted r (record { fine = h; less = is-less r.events e })) (record { fine = h; less = is-less r.events e }))
+line-counted : (r : Reading) (tick : Bool) → Fine r → IfOk (line_counted r tick) Counted
+line-counted r tick h =
+    by_test Counted (nat_le MOST_LINES r.events) (Err (refused.TooLong limit.Lines)) (cond tick (tick_counted r) (Ok r)) (λ e. tt)
+    (λ e. either Counted tick (tick_counted r) (Ok r) (tick-counted r (record { fine = h; less = is-less r.events e })) (record { fine = h; less = is-less r.events e }))
 
-event-put : (head : Head) (ws : List (List ℕ)) (r : Reading) → Counted r → IfOk (event_put head ws r) Fine
-event-put head ws r h = after_any Fine (at_line r.line (placed (may_stand r.group ws) (meaning_of head ws))) (λ meaning. Ok (line_added (meaning_taken r meaning)))
+event-put : (stands : Bool) (form : Result Meaning LineKind) (r : Reading) → Counted r → IfOk (event_put stands form r) Fine
+event-put stands form r h = after_any Fine (at_line r.line (placed stands form)) (λ meaning. Ok (line_added (meaning_taken r meaning)))
     (λ meaning. fine-taken r meaning h.less h.fine)
 
-event-taken : (head : Head) (r : Reading) (ws : List (List ℕ)) → Fine r → IfOk (event_taken head r ws) Fine
-event-taken head r ws h = bound Counted Fine (line_counted r ws) (event_put head ws) (line-counted r ws h) (λ s. event-put head ws s)
+event-taken : (r : Reading) (tick stands : Bool) (form : Result Meaning LineKind) → Fine r → IfOk (event_taken r tick stands form) Fine
+event-taken r tick stands form h = bound Counted Fine (line_counted r tick) (event_put stands form) (line-counted r tick h) (λ s. event-put stands form s)
 
-barrier-taken : (head : Head) (r : Reading) (ws : List (List ℕ)) → Fine r → IfOk (barrier_taken head r ws) Fine
-barrier-taken head r ws h =
+barrier-taken : (head : Head) (r : Reading) (stands : Bool) (form : Result (Unit {0}) LineKind) → Fine r → IfOk (barrier_taken head r stands form) Fine
+barrier-taken head r stands form h =
     either Fine (nat_lt MOST_BARRIERS r.phase) (Err (refused.TooLong limit.Barriers)) _ tt
-    (after_any Fine (at_line r.line (placed (may_stand r.group ws) (barrier_form ws))) (λ _. Ok (phase_ended head r)) (λ _. fine-ended head r h))
+    (after_any Fine (at_line r.line (placed stands form)) (λ _. Ok (phase_ended head r)) (λ _. fine-ended head r h))
+
+words-taken : (head : Head) (r : Reading) (ws : List (List ℕ)) → Fine r → IfOk (words_taken head r ws) Fine
+words-taken head r ws h =
+    let stands : Bool = may_stand r.group ws in
+    either Fine (begins (codes "w") ws) (barrier_taken head r stands (barrier_form ws)) (event_taken r (begins (codes "t") ws) stands (meaning_of head ws))
+    (barrier-taken head r stands (barrier_form ws) h) (event-taken r (begins (codes "t") ws) stands (meaning_of head ws) h)
 
 line-taken : (head : Head) (r : Reading) (line : List ℕ) → Fine r → IfOk (line_taken head r line) Fine
 unfolding line_taken
 line-taken head r line h =
     either Fine (is_skipped line) (Ok (record r { line = r.line + 1 })) (words_taken head r (words line)) (fine-same r (record r { line = r.line + 1 }) refl refl h)
-    (either Fine (begins (codes "w") (words line)) (barrier_taken head r (words line)) (event_taken head r (words line)) (barrier-taken head r (words line) h) (event-taken head r (words line) h))
+    (words-taken head r (words line) h)
 
 lines-taken : (head : Head) (ls : List (List ℕ)) (r : Reading) → Fine r → IfOk (lines_taken head r ls) Fine
 unfolding lines_taken

@@ -15,6 +15,7 @@ use Rattle.capture_form.specs.Changes.{row_form, change_of}
 use Rattle.capture_form.specs.Groups.{event_in}
 use Rattle.capture_form.specs.Requests.{form_of, has_form, request_of}
 use Rattle.capture_form.specs.Line.{Linked, message_form, asked_form, request_form, tick_form, change_form, event_of, bound_form, edit_form, meaning_of}
+use Rattle.capture_form.specs.Inner.Reader.{IsWithin}
 use Rattle.capture_form.specs.Events.{Stamped, is_at, phase_lists, phase_events}
 use Rattle.capture_form.specs.Links.{comes_on_link, AreOnLinks, AreLinked}
 use Rattle.capture_form.specs.declared.meaning.Meaning.{Meaning}
@@ -37,77 +38,90 @@ use Rattle.capture_form.proofs.PhaseLemmas.{number-is, both-left, both-right}
 abbrev Agrees : ℕ → ControlEvent → Type 0
 Agrees link e = comes_on_link e ≡ nat_lt 0 link
 
-abbrev LinkAgrees : Linked → Type 0
-LinkAgrees e = Agrees e.0 e.1
+-- and one of these links
+abbrev LinkAgrees : ℕ → Linked → Type 0
+LinkAgrees links e = Agrees e.0 e.1 × (e.0 ≤ links)
 
-from-one : (n links : ℕ) → (nat_le 1 n && nat_le n links) ≡ true → 1 ≤ n
-from-one n links h = leb-true 1 n (both-left (nat_le 1 n) (nat_le n links) h)
+both-within : (n links : ℕ) → (nat_le 1 n && nat_le n links) ≡ true → (1 ≤ n) × (n ≤ links)
+both-within n links h =
+    (leb-true 1 n (both-left (nat_le 1 n) (nat_le n links) h), leb-true n links (both-right (nat_le 1 n) (nat_le n links) h))
 
-link-in : (links : ℕ) (n : Option ℕ) → IfOk (link_in links n) (λ k. 1 ≤ k)
+link-in : (links : ℕ) (n : Option ℕ) → IfOk (link_in links n) (λ k. (1 ≤ k) × (k ≤ links))
 link-in links None = tt
-link-in links (Some n) = by_test (λ k. 1 ≤ k) (nat_le 1 n && nat_le n links) (Ok n) (Err Number) (from-one n links) (λ e. tt)
+link-in links (Some n) = by_test (λ k. (1 ≤ k) × (k ≤ links)) (nat_le 1 n && nat_le n links) (Ok n) (Err Number) (both-within n links) (λ e. tt)
 
-message-agrees : (head : Head) (ws : List (List ℕ)) → IfOk (message_form head ws) LinkAgrees
+message-agrees : (head : Head) (ws : List (List ℕ)) → IfOk (message_form head ws) (LinkAgrees head.links)
 message-agrees head (link ∷ opc ∷ sls ∷ hex ∷ []) =
-    bound (λ k. 1 ≤ k) LinkAgrees (link_of head.links link) _ (link-in head.links (number_of link)) (λ k h.
-    after_any LinkAgrees (below POINT_CODES opc) _ (λ point.
-    after_any LinkAgrees (below LINK_SELECTIONS sls) _ (λ selection.
-    after_any LinkAgrees (octets_of hex) _ (λ octets. sym (lt-ltb 0 k h)))))
+    bound (λ k. (1 ≤ k) × (k ≤ head.links)) (LinkAgrees head.links) (link_of head.links link) _ (link-in head.links (number_of link)) (λ k h.
+    after_any (LinkAgrees head.links) (below POINT_CODES opc) _ (λ point.
+    after_any (LinkAgrees head.links) (below LINK_SELECTIONS sls) _ (λ selection.
+    after_any (LinkAgrees head.links) (octets_of hex) _ (λ octets. (sym (lt-ltb 0 k h.0), h.1)))))
 message-agrees head [] = tt
 message-agrees head (a ∷ []) = tt
 message-agrees head (a ∷ b ∷ []) = tt
 message-agrees head (a ∷ b ∷ c ∷ []) = tt
 message-agrees head (a ∷ b ∷ c ∷ d ∷ e ∷ more) = tt
 
-asked-agrees : (head : Head) (link ssn : List ℕ) (form : Option RequestForm) (more : List (List ℕ)) → IfOk (asked_form head link ssn form more) LinkAgrees
+asked-agrees : (head : Head) (link ssn : List ℕ) (form : Option RequestForm) (more : List (List ℕ)) → IfOk (asked_form head link ssn form more) (LinkAgrees head.links)
 asked-agrees head link ssn None more = tt
 asked-agrees head link ssn (Some form) more =
-    either LinkAgrees (has_form form more) _ (Err Words)
-    (bound (λ k. 1 ≤ k) LinkAgrees (link_of head.links link) _ (link-in head.links (number_of link)) (λ k h.
-    after_any LinkAgrees (user_of head.users ssn) _ (λ user.
-    after_any LinkAgrees (request_of form more) _ (λ asked. sym (lt-ltb 0 k h)))))
+    either (LinkAgrees head.links) (has_form form more) _ (Err Words)
+    (bound (λ k. (1 ≤ k) × (k ≤ head.links)) (LinkAgrees head.links) (link_of head.links link) _ (link-in head.links (number_of link)) (λ k h.
+    after_any (LinkAgrees head.links) (user_of head.users ssn) _ (λ user.
+    after_any (LinkAgrees head.links) (request_of form more) _ (λ asked. (sym (lt-ltb 0 k h.0), h.1)))))
     tt
 
-request-agrees : (head : Head) (ws : List (List ℕ)) → IfOk (request_form head ws) LinkAgrees
+request-agrees : (head : Head) (ws : List (List ℕ)) → IfOk (request_form head ws) (LinkAgrees head.links)
 request-agrees head (link ∷ ssn ∷ word ∷ more) = asked-agrees head link ssn (form_of word) more
 request-agrees head [] = tt
 request-agrees head (a ∷ []) = tt
 request-agrees head (a ∷ b ∷ []) = tt
 
-tick-agrees : (ws : List (List ℕ)) → IfOk (tick_form ws) LinkAgrees
-tick-agrees [] = refl
-tick-agrees (a ∷ more) = tt
+tick-agrees : (links : ℕ) (ws : List (List ℕ)) → IfOk (tick_form ws) (LinkAgrees links)
+tick-agrees links [] = (refl, omega arith)
+tick-agrees links (a ∷ more) = tt
 
-change-agrees : (head : Head) (first : List ℕ) (more : List (List ℕ)) → IfOk (change_form head first more) LinkAgrees
-change-agrees head first more = after_any LinkAgrees (change_of head first more) _ (λ change. refl)
+change-agrees : (head : Head) (first : List ℕ) (more : List (List ℕ)) → IfOk (change_form head first more) (LinkAgrees head.links)
+change-agrees head first more = after_any (LinkAgrees head.links) (change_of head first more) _ (λ change. (refl, omega arith))
 
-event-agrees : (head : Head) (ws : List (List ℕ)) → IfOk (event_of head ws) LinkAgrees
+event-agrees : (head : Head) (ws : List (List ℕ)) → IfOk (event_of head ws) (LinkAgrees head.links)
 event-agrees head [] = tt
 event-agrees head (first ∷ more) =
-    either LinkAgrees (same first (codes "m")) (message_form head more) _ (message-agrees head more)
-    (either LinkAgrees (same first (codes "u")) (request_form head more) _ (request-agrees head more)
-    (either LinkAgrees (same first (codes "t")) (tick_form more) (change_form head first more) (tick-agrees more) (change-agrees head first more)))
+    either (LinkAgrees head.links) (same first (codes "m")) (message_form head more) _ (message-agrees head more)
+    (either (LinkAgrees head.links) (same first (codes "u")) (request_form head more) _ (request-agrees head more)
+    (either (LinkAgrees head.links) (same first (codes "t")) (tick_form more) (change_form head first more) (tick-agrees head.links more) (change-agrees head first more)))
 
--- an edit comes on no link, and the event of another line on its own
-abbrev MeaningAgrees : Meaning → Type 0
-MeaningAgrees (Event link event) = Agrees link event
-MeaningAgrees meaning = Unit {0}
+-- an edit comes on no link, and the event of another line on its own, which is one of these
+abbrev MeaningAgrees : ℕ → Meaning → Type 0
+MeaningAgrees links (Event link event) = LinkAgrees links (link, event)
+MeaningAgrees links meaning = Unit {0}
 
-bound-agrees : (word : List ℕ) → IfOk (bound_form word) MeaningAgrees
-bound-agrees word =
-    either MeaningAgrees (same word (codes "begin")) (Ok Begin) _ tt
-    (either MeaningAgrees (same word (codes "commit")) (Ok Commit) (Err Words) tt tt)
+bound-agrees : (links : ℕ) (word : List ℕ) → IfOk (bound_form word) (MeaningAgrees links)
+bound-agrees links word =
+    either (MeaningAgrees links) (same word (codes "begin")) (Ok Begin) _ tt
+    (either (MeaningAgrees links) (same word (codes "commit")) (Ok Commit) (Err Words) tt tt)
 
-edit-agrees : (own : ℕ) (ws : List (List ℕ)) → IfOk (edit_form own ws) MeaningAgrees
-edit-agrees own [] = tt
-edit-agrees own (word ∷ []) = bound-agrees word
-edit-agrees own (word ∷ second ∷ more) = after_any MeaningAgrees (row_form own (word ∷ second ∷ more)) _ (λ change. tt)
+edit-agrees : (links own : ℕ) (ws : List (List ℕ)) → IfOk (edit_form own ws) (MeaningAgrees links)
+edit-agrees links own [] = tt
+edit-agrees links own (word ∷ []) = bound-agrees links word
+edit-agrees links own (word ∷ second ∷ more) = after_any (MeaningAgrees links) (row_form own (word ∷ second ∷ more)) _ (λ change. tt)
 
-meaning-agrees : (head : Head) (ws : List (List ℕ)) → IfOk (meaning_of head ws) MeaningAgrees
+meaning-agrees : (head : Head) (ws : List (List ℕ)) → IfOk (meaning_of head ws) (MeaningAgrees head.links)
 meaning-agrees head [] = tt
 meaning-agrees head (first ∷ more) =
-    either MeaningAgrees (same first (codes "e")) (edit_form head.point more) _ (edit-agrees head.point more)
-    (bound LinkAgrees MeaningAgrees (event_of head (first ∷ more)) _ (event-agrees head (first ∷ more)) (λ e h. h))
+    either (MeaningAgrees head.links) (same first (codes "e")) (edit_form head.point more) _ (edit-agrees head.links head.point more)
+    (bound (LinkAgrees head.links) (MeaningAgrees head.links) (event_of head (first ∷ more)) _ (event-agrees head (first ∷ more)) (λ e h. h))
+
+within-agrees : (links : ℕ) (r : Result Meaning LineKind) → IfOk r (MeaningAgrees links) → IfOk r (IsWithin links)
+within-agrees links (Ok (Event link event)) h = h.1
+within-agrees links (Ok (Edit change)) h = tt
+within-agrees links (Ok Begin) h = tt
+within-agrees links (Ok Commit) h = tt
+within-agrees links (Err kind) h = tt
+
+-- what a line means is about the links of the head
+pub meaning-within : (head : Head) (ws : List (List ℕ)) → IfOk (meaning_of head ws) (IsWithin head.links)
+meaning-within head ws = within-agrees head.links (meaning_of head ws) (meaning-agrees head ws)
 
 -- ---- the events of all lines
 
@@ -118,19 +132,19 @@ abbrev IfThere : Option (Stamp × ControlEvent) → Type 0
 IfThere None = Unit {0}
 IfThere (Some e) = StampAgrees e
 
-of-meaning : (number phase : ℕ) (before : Option OpenGroup) (meaning : Meaning) → MeaningAgrees meaning
+of-meaning : (links number phase : ℕ) (before : Option OpenGroup) (meaning : Meaning) → MeaningAgrees links meaning
     → IfThere (option_map (λ e. (record { phase = phase; link = e.0; line = number }, e.1)) (event_in before meaning))
-of-meaning number phase before (Event link event) h = h
-of-meaning number phase None (Edit change) h = refl
-of-meaning number phase (Some group) (Edit change) h = tt
-of-meaning number phase before Begin h = tt
-of-meaning number phase None Commit h = tt
-of-meaning number phase (Some group) Commit h = refl
+of-meaning links number phase before (Event link event) h = h.0
+of-meaning links number phase None (Edit change) h = refl
+of-meaning links number phase (Some group) (Edit change) h = tt
+of-meaning links number phase before Begin h = tt
+of-meaning links number phase None Commit h = tt
+of-meaning links number phase (Some group) Commit h = refl
 
-of-line : (number phase : ℕ) (before : Option OpenGroup) (r : Result Meaning LineKind) → IfOk r MeaningAgrees
+of-line : (links number phase : ℕ) (before : Option OpenGroup) (r : Result Meaning LineKind) → IfOk r (MeaningAgrees links)
     → IfThere (option_map (λ e. (record { phase = phase; link = e.0; line = number }, e.1)) (brought before r))
-of-line number phase before (Ok meaning) h = of-meaning number phase before meaning h
-of-line number phase before (Err kind) h = tt
+of-line links number phase before (Ok meaning) h = of-meaning links number phase before meaning h
+of-line links number phase before (Err kind) h = tt
 
 unless-barrier : (t : Bool) (x : Option (Stamp × ControlEvent)) → IfThere x → IfThere (cond t None x)
 unless-barrier true x h = tt
@@ -138,7 +152,7 @@ unless-barrier false x h = h
 
 event-there : (head : Head) (at : List Line × Line) → IfThere (event_at head at)
 event-there head (above, line) =
-    unless-barrier (is_barrier line) _ (of-line line.0 (barriers above + 1) (open_group head above) (meaning_of head line.1) (meaning-agrees head line.1))
+    unless-barrier (is_barrier line) _ (of-line head.links line.0 (barriers above + 1) (open_group head above) (meaning_of head line.1) (meaning-agrees head line.1))
 
 there-added : (x : Option (Stamp × ControlEvent)) (es : Stamped) → IfThere x → AllByRecursion StampAgrees es → AllByRecursion StampAgrees (cons_option x es)
 there-added None es h g = g

@@ -222,7 +222,7 @@ event_fault_of full tick late number f = cond full (Some (refused.TooLong Lines)
 -- an event line is counted before its form is tested
 counted-agrees : (head : Head) (more : List (List ℕ)) → Agrees head more → (above : List Line) (events : Stamped) (b n t number : ℕ) (g : Option OpenGroup) (ws : List (List ℕ)) → Counts head above events b n t g
     → is_barrier (number, ws) ≡ false → (full tick late : Bool) → is_tick (number, ws) ≡ tick
-    → then_read head more (counted_by full tick late (kept head.links events b n t number g) >>= event_put head ws)
+    → then_read head more (counted_by full tick late (kept head.links events b n t number g) >>= event_put (may_stand g ws) (meaning_of head ws))
     ≡ given_with head above events (number, ws) (lines_from (number + 1) more) (event_fault_of full tick late number (placed (may_stand g ws) (meaning_of head ws))) (option_map (stamped b number) (brought g (meaning_of head ws)))
 counted-agrees head more ih above events b n t number g ws c k true tick late e = refl
 counted-agrees head more ih above events b n t number g ws c k false true true e = refl
@@ -240,9 +240,13 @@ test-same false false f g = refl
 above-limit : (m n : ℕ) → nat_lt m (n + 1) ≡ nat_le m n
 above-limit m n = test-same (nat_lt m (n + 1)) (nat_le m n) (λ h. grind (arith, nat_tests)) (λ h. grind (arith, nat_tests))
 
+abbrev words_taken_as : Head → Reading → List (List ℕ) → Bool → Result Reading CaptureFault
+words_taken_as head r ws barrier =
+    cond barrier (barrier_taken head r (may_stand r.group ws) (barrier_form ws)) (event_taken r (is_tick (r.line, ws)) (may_stand r.group ws) (meaning_of head ws))
+
 words-agree : (head : Head) (more : List (List ℕ)) → Agrees head more → (above : List Line) (events : Stamped) (b n t number : ℕ) (g : Option OpenGroup) (ws : List (List ℕ)) → Counts head above events b n t g
     → (barrier : Bool) → is_barrier (number, ws) ≡ barrier
-    → then_read head more (cond barrier (barrier_taken head (kept head.links events b n t number g) ws) (event_taken head (kept head.links events b n t number g) ws))
+    → then_read head more (words_taken_as head (kept head.links events b n t number g) ws barrier)
     ≡ given_with head above events (number, ws) (lines_from (number + 1) more)
     (cond barrier (barrier_fault head above (number, ws)) (event_fault head above (number, ws)))
     (cond barrier None (option_map (stamped (barriers above) number) (brought (open_group head above) (meaning_of head ws))))

@@ -1,2 +1,4 @@
+pub mod Blocks
+pub mod LineRead
 pub mod Reader
 pub mod Words

@@ -1,5 +1,5 @@
 //! A capture: its head, and its events by phase and link.
-ghost use Rattle.std.specs.Prelude.{◌≡◌, ◌<◌, ◌≤◌, ◌+◌, ◌^◌, [], length, IsTrue, IfOk};
+ghost use Rattle.std.specs.Prelude.{◌≡◌, ◌<◌, ◌≤◌, ◌+◌, ◌^◌, ◌++◌, [], length, IsTrue, IfOk, OnOk};
 ghost use Rattle.node_head.specs.Lines.{lines, halves};
 ghost use Rattle.node_head.specs.Addable.{are_addable};
 ghost use Rattle.node_head.specs.Head.{begun};
@@ -8,17 +8,23 @@ ghost use Rattle.capture_form.specs.Capture.{Reads, at_head, capture_within, cap
 ghost use Rattle.capture_form.specs.Events.{all_events, IsStamped};
 ghost use Rattle.capture_form.specs.Links.{AreLinked};
 ghost use Rattle.capture_form.specs.declared.steps.TheConstants.{MOST_LINES};
+ghost use Rattle.capture_form.specs.Inner.Words.{texts};
 ghost use Rattle.capture_form.specs.Inner.Reader.{Takes, HeadReads, reading_from, lines_taken, closed, phases_read, phases_closed, capture_read};
 
 use crate::changes::OpenGroup;
 use crate::fault::{CaptureFault, Limit, LineFault, LineKind};
 use crate::reading::{PhaseList, Reading};
-use crate::steps::{empty_phase, take_line};
+use crate::reading_lines::{InThreads, InTurn, LineReader};
+use crate::steps::{empty_phase, take_reads};
 use bstr::{ByteSlice, Lines};
 use node_head::{Head, HeadRefused, take_head};
 use relay_base::Memory;
 use relay_base::limits::MOST_BYTES;
-use std::alloc::Global;
+use std::alloc::{AllocError, Global};
+use std::thread::Threads;
+
+/// The most lines that are read before what they say is taken.
+const MOST_IN_WINDOW: u32 = 65_536;
 
 /// What a capture holds.
 #[derive(Drop)]
@@ -56,23 +62,61 @@ fn reading_from(alloc: Global, head: &Head, line: u32) -> Result<Reading, Memory
     })
 }
 
-/// Reads all lines.
-#[tactic(auto, unfolding(crate::specs::Inner::Reader::lines_taken))]
-fn take_lines(
+/// Fills a window with the lines to come, up to the most. It stays empty where none is to come.
+fn fill<'a>(window: &mut Vec<&'a [u8]>, lines: &mut Lines<'a>) -> Result<(), AllocError>
+    ensures lines { OnOk result (texts window.new.items ++ lines.new ≡ lines.old) }
+    ensures some { OnOk result (length window.new.items ≡ 0 → lines.old ≡ []) }
+{
+    window.clear();
+    for _line in 0..MOST_IN_WINDOW {
+        match lines.next() {
+            None => return Ok(()),
+            Some(line) => window.push(line)?,
+        }
+    }
+    Ok(())
+}
+
+/// Reads the lines of a window.
+fn take_window<L: LineReader>(
     alloc: Global,
+    reader: &L,
+    head: &Head,
+    read: &mut Reading,
+    window: &[&[u8]],
+) -> Result<(), CaptureFault>
+    requires reader { L.can_read reader.now }
+    requires few { read.old.line + length window.now < 2 ^ 32 }
+    requires links { length read.old.current ≡ head.now.links + 1 }
+    ensures value { Takes read.new result (lines_taken head.now read.old (texts window.now)) }
+    ensures links { OnOk result (length read.new.current ≡ length read.old.current) }
+    ensures line { OnOk result (read.new.line ≡ read.old.line + length window.now) }
+{
+    let reads = reader.read(alloc, head, window)?;
+    take_reads(alloc, head, read, reads)
+}
+
+/// Reads all lines.
+fn take_lines<L: LineReader>(
+    alloc: Global,
+    reader: &L,
     head: &Head,
     read: &mut Reading,
     lines: &mut Lines<'_>,
 ) -> Result<(), CaptureFault>
+    requires reader { L.can_read reader.now }
     requires few { read.old.line + length lines.old < 2 ^ 32 }
     requires links { length read.old.current ≡ head.now.links + 1 }
     ensures { Takes read.new result (lines_taken head.now read.old lines.old) }
 {
-    let mut words = Vec::new(alloc);
-    while let Some(line) = lines.next() {
-        take_line(alloc, head, read, line, &mut words)?;
+    let mut window = Vec::new(alloc);
+    loop {
+        fill(&mut window, lines)?;
+        if window.is_empty() {
+            return Ok(());
+        }
+        take_window(alloc, reader, head, read, window.as_slice())?;
     }
-    Ok(())
 }
 
 /// No group stands open behind the last line, or it is faulty where it began.
@@ -105,17 +149,19 @@ fn phases_of(alloc: Global, read: Reading) -> Result<PhaseList, Memory>
 }
 
 /// What is read of the lines after a head, of which the first has the number `line`.
-fn read_lines(
+fn read_lines<L: LineReader>(
     alloc: Global,
+    reader: &L,
     head: &Head,
     line: u32,
     lines: &mut Lines<'_>,
 ) -> Result<Reading, CaptureFault>
-    requires { line + length lines.old < 2 ^ 32 }
+    requires reader { L.can_read reader.now }
+    requires few { line + length lines.old < 2 ^ 32 }
     ensures { Reads result (lines_taken head.now (reading_from head.now line) lines.old) }
 {
     let mut read = reading_from(alloc, head, line)?;
-    take_lines(alloc, head, &mut read, lines)?;
+    take_lines(alloc, reader, head, &mut read, lines)?;
     Ok(read)
 }
 
@@ -128,38 +174,48 @@ fn phases_closed(alloc: Global, read: Reading) -> Result<PhaseList, CaptureFault
 }
 
 /// The capture of a head and the lines after it, of which the first has the number `line`.
-fn capture_after(
+fn capture_after<L: LineReader>(
     alloc: Global,
+    reader: &L,
     head: Head,
     line: u32,
     lines: &mut Lines<'_>,
 ) -> Result<Capture, CaptureFault>
-    requires { line + length lines.old < 2 ^ 32 }
+    requires reader { L.can_read reader.now }
+    requires few { line + length lines.old < 2 ^ 32 }
     ensures value { Reads result (capture_read head line lines.old) }
     ensures head { IfOk result (λ c. c.head ≡ head) }
 {
-    let read = read_lines(alloc, &head, line, lines)?;
+    let read = read_lines(alloc, reader, &head, line, lines)?;
     let phases = phases_closed(alloc, read)?;
     Ok(Capture { head, phases })
 }
 
 /// The capture of an input of at most 67,108,864 bytes.
-fn capture_within(alloc: Global, bytes: &[u8]) -> Result<Capture, CaptureFault>
-    requires { length bytes.now ≤ MOST_BYTES }
+fn capture_within<L: LineReader>(
+    alloc: Global,
+    reader: &L,
+    bytes: &[u8],
+) -> Result<Capture, CaptureFault>
+    requires reader { L.can_read reader.now }
+    requires few { length bytes.now ≤ MOST_BYTES }
     ensures value { Reads result (capture_within bytes.now) }
     ensures addable { IfOk result (λ c. IsTrue (are_addable [] c.head.row)) }
     ensures range { IfOk result (λ c. IsHead c.head) }
 {
     let mut lines = bytes.lines();
     let (head, count) = head_part(alloc, &mut lines)?;
-    capture_after(alloc, head, count as u32 + 2, &mut lines)
+    capture_after(alloc, reader, head, count as u32 + 2, &mut lines)
 }
 
-/// The capture that an input is, or the first of its faults.
-///
-/// An input has at most 67,108,864 bytes, 200,000 event lines, 20,000 tick lines among them, and 1,000 barriers.
+/// The capture that an input is, or the first of its faults, of which the lines are read by this reader.
 #[tactic(auto, unfolding(crate::specs::Capture::capture_of))]
-pub fn read_capture(alloc: Global, bytes: &[u8]) -> Result<Capture, CaptureFault>
+fn capture_by<L: LineReader>(
+    alloc: Global,
+    reader: &L,
+    bytes: &[u8],
+) -> Result<Capture, CaptureFault>
+    requires reader { L.can_read reader.now }
     ensures value { Reads result (capture_of bytes.now) }
     ensures stamped { IfOk result (λ c. IsStamped c.head c.phases) }
     ensures linked { IfOk result (λ c. AreLinked c.phases) }
@@ -170,5 +226,35 @@ pub fn read_capture(alloc: Global, bytes: &[u8]) -> Result<Capture, CaptureFault
     if bytes.len() > MOST_BYTES {
         return Err(CaptureFault::TooLong(Limit::Bytes));
     }
-    capture_within(alloc, bytes)
+    capture_within(alloc, reader, bytes)
+}
+
+/// The capture that an input is, or the first of its faults.
+///
+/// An input has at most 67,108,864 bytes, 200,000 event lines, 20,000 tick lines among them, and 1,000 barriers.
+pub fn read_capture(alloc: Global, bytes: &[u8]) -> Result<Capture, CaptureFault>
+    ensures value { Reads result (capture_of bytes.now) }
+    ensures stamped { IfOk result (λ c. IsStamped c.head c.phases) }
+    ensures linked { IfOk result (λ c. AreLinked c.phases) }
+    ensures few { IfOk result (λ c. length (all_events c.phases) ≤ MOST_LINES) }
+    ensures addable { IfOk result (λ c. IsTrue (are_addable [] c.head.row)) }
+    ensures range { IfOk result (λ c. IsHead c.head) }
+{
+    capture_by(alloc, &InTurn, bytes)
+}
+
+/// The capture that an input is, or the first of its faults, as `read_capture` has it. Its lines are read in threads.
+pub fn read_capture_in_threads<R: Threads + Sync>(
+    rt: &R,
+    alloc: Global,
+    bytes: &[u8],
+) -> Result<Capture, CaptureFault>
+    ensures value { Reads result (capture_of bytes.now) }
+    ensures stamped { IfOk result (λ c. IsStamped c.head c.phases) }
+    ensures linked { IfOk result (λ c. AreLinked c.phases) }
+    ensures few { IfOk result (λ c. length (all_events c.phases) ≤ MOST_LINES) }
+    ensures addable { IfOk result (λ c. IsTrue (are_addable [] c.head.row)) }
+    ensures range { IfOk result (λ c. IsHead c.head) }
+{
+    capture_by(alloc, &InThreads::new(rt), bytes)
 }

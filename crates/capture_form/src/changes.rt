@@ -1,5 +1,5 @@
 //! What the lines of an operator change.
-ghost use Rattle.std.specs.Prelude.{◌≡◌, IfOk, OnOk};
+ghost use Rattle.std.specs.Prelude.{◌≡◌, OnOk};
 ghost use Rattle.plant_core.specs.Changes.{alone};
 ghost use Rattle.capture_form.specs.Groups.{with_change};
 ghost use Rattle.capture_form.specs.Inner.Words.{texts, States};
@@ -203,8 +203,7 @@ pub fn change_form(
     first: &[u8],
     words: &[&[u8]],
 ) -> Result<(u8, ControlEvent), LineRefused>
-    ensures value { States result (change_form head.now first.now (texts words.now)) }
-    ensures link { IfOk result (λ e. e.0 ≡ 0) }
+    ensures { States result (change_form head.now first.now (texts words.now)) }
 {
     match change_of(head, first, words) {
         Ok(change) => Ok((0, alone(alloc, change))),

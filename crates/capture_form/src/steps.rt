@@ -1,20 +1,16 @@
 //! What one line adds to what was read.
-ghost use Rattle.std.specs.Prelude.{◌≡◌, ◌<◌, ◌+◌, ◌-◌, ◌^◌, length, Some, IfOk, OnOk, Ok, Err};
-ghost use Rattle.capture_form.specs.Inner.Words.{texts, States, FaultAt};
-ghost use Rattle.capture_form.specs.Capture.{Reads, begins, is_skipped, barrier_form};
-ghost use Rattle.capture_form.specs.Inner.Reader.{Takes, IsNext, IsStill, IsWithin, pushed, with_event, empty_phase, phase_ended, barrier_taken, tick_counted, line_counted, meaning_taken, event_put, event_taken, line_taken, at_line};
-ghost use Rattle.capture_form.specs.Groups.{may_stand, placed};
-ghost use Rattle.capture_form.specs.Line.{meaning_of};
-ghost use Rattle.capture_form.specs.Text.{words};
+ghost use Rattle.std.specs.Prelude.{◌≡◌, ◌<◌, ◌+◌, ◌-◌, ◌^◌, length, Some, IfOk, OnOk, Ok};
+ghost use Rattle.std.specs.List.{AllByRecursion};
+ghost use Rattle.capture_form.specs.Capture.{Reads};
+ghost use Rattle.capture_form.specs.Inner.LineRead.{may_stand_as};
+ghost use Rattle.capture_form.specs.Inner.Reader.{Takes, IsNext, IsStill, IsWithin, IsReadWithin, pushed, with_event, empty_phase, phase_ended, barrier_taken, tick_counted, line_counted, meaning_taken, event_put, event_taken, read_taken, reads_taken, at_line};
 
 use crate::changes::{OpenGroup, alone};
 use crate::fault::{CaptureFault, Limit, LineFault, LineKind};
-use crate::groups::{may_stand, out_of_place};
-use crate::line::meaning_of;
+use crate::groups::{Standing, may_stand, placed};
+use crate::line_read::{EventRead, LineRead};
 use crate::meaning::Meaning;
 use crate::reading::{Phase, Reading, StampedControlList};
-use crate::refused::LineRefused;
-use crate::text::split_words;
 use node_head::Head;
 use plant_core::{Change, ChangeList, ControlEvent, Group};
 use relay_base::{Memory, Stamp};
@@ -58,78 +54,13 @@ fn put(
     Ok(())
 }
 
-/// Whether the first of the words is this one.
-fn begins(word: &[u8], words: &[&[u8]]) -> bool
-    ensures { result ≡ begins word.now (texts words.now) }
+/// What is wrong with the line of this number, if it is at fault.
+fn at_line<T: Drop>(line: u32, form: Result<T, LineKind>) -> Result<T, CaptureFault>
+    ensures { Reads result (at_line line form) }
 {
-    match words {
-        [] => false,
-        [first, ..] => *first == word,
-    }
-}
-
-/// An empty line, or a comment.
-pub fn is_skipped(line: &[u8]) -> bool
-    ensures { result ≡ is_skipped line.now }
-{
-    line.is_empty() || line[0] == b'#'
-}
-
-/// The fault of a line, or want of memory.
-fn fault_at(line: u32, refused: LineRefused) -> CaptureFault
-    ensures { FaultAt line refused result }
-{
-    match refused {
-        LineRefused::Kind(kind) => CaptureFault::Line(LineFault { line, kind }),
-        LineRefused::Memory => CaptureFault::Memory,
-    }
-}
-
-/// What a line means, if it may stand where it does.
-fn placed_meaning(
-    alloc: Global,
-    head: &Head,
-    stands: bool,
-    words: &[&[u8]],
-) -> Result<Meaning, LineRefused>
-    ensures value { States result (placed stands (meaning_of head.now (texts words.now))) }
-    ensures within { IfOk result (IsWithin head.now.links) }
-{
-    match meaning_of(alloc, head, words) {
-        Ok(meaning) if stands => Ok(meaning),
-        Ok(_) => Err(LineRefused::Kind(LineKind::Group)),
-        Err(LineRefused::Kind(kind)) if !stands => Err(LineRefused::Kind(out_of_place(kind))),
-        Err(refused) => Err(refused),
-    }
-}
-
-/// What an event line means.
-fn meaning_at(
-    alloc: Global,
-    head: &Head,
-    read: &Reading,
-    words: &[&[u8]],
-) -> Result<Meaning, CaptureFault>
-    ensures value { Reads result (at_line read.now.line
-        (placed (may_stand read.now.group (texts words.now)) (meaning_of head.now (texts words.now)))) }
-    ensures within { IfOk result (IsWithin head.now.links) }
-{
-    match placed_meaning(alloc, head, may_stand(&read.group, words), words) {
-        Ok(meaning) => Ok(meaning),
-        Err(refused) => Err(fault_at(read.line, refused)),
-    }
-}
-
-/// What is wrong with a barrier, which is one word and may stand outside groups.
-fn barrier_form(stands: bool, words: &[&[u8]]) -> Result<(), LineKind>
-    ensures { result ≡ placed stands (barrier_form (texts words.now)) }
-{
-    if words.len() != 1 {
-        Err(LineKind::Words)
-    } else if !stands {
-        Err(LineKind::Group)
-    } else {
-        Ok(())
+    match form {
+        Ok(said) => Ok(said),
+        Err(kind) => Err(CaptureFault::Line(LineFault { line, kind })),
     }
 }
 
@@ -149,9 +80,10 @@ fn fitted(alloc: Global, phase: Phase) -> Phase
 
 /// Ends the phase that stands, and begins the next one.
 fn end_phase(alloc: Global, head: &Head, read: &mut Reading) -> Result<(), CaptureFault>
-    requires { (read.old.phase + 1 < 2 ^ 32) × (read.old.line + 1 < 2 ^ 32) }
+    requires few { (read.old.phase + 1 < 2 ^ 32) × (read.old.line + 1 < 2 ^ 32) }
+    requires links { length read.old.current ≡ head.now.links + 1 }
     ensures value { Takes read.new result (Ok (phase_ended head.now read.old)) }
-    ensures kept { OnOk result (IsNext head.now read.old read.new) }
+    ensures kept { OnOk result (IsNext read.old read.new) }
 {
     let next = empty_phase(alloc, head.links)?;
     let ended = mem::replace(&mut read.current, next);
@@ -161,24 +93,25 @@ fn end_phase(alloc: Global, head: &Head, read: &mut Reading) -> Result<(), Captu
     Ok(())
 }
 
-/// Reads a barrier.
+/// Takes a barrier.
 fn take_barrier(
     alloc: Global,
     head: &Head,
     read: &mut Reading,
-    words: &[&[u8]],
+    standing: Standing,
+    form: Result<(), LineKind>,
 ) -> Result<(), CaptureFault>
-    requires { read.old.line + 1 < 2 ^ 32 }
-    ensures value { Takes read.new result (barrier_taken head.now read.old (texts words.now)) }
-    ensures kept { OnOk result (IsNext head.now read.old read.new) }
+    requires line { read.old.line + 1 < 2 ^ 32 }
+    requires links { length read.old.current ≡ head.now.links + 1 }
+    ensures value { let stands = may_stand_as read.old.group standing in
+        Takes read.new result (barrier_taken head.now read.old stands form) }
+    ensures kept { OnOk result (IsNext read.old read.new) }
 {
     if read.phase > MOST_BARRIERS {
         return Err(CaptureFault::TooLong(Limit::Barriers));
     }
-    let stands = may_stand(&read.group, words);
-    if let Err(kind) = barrier_form(stands, words) {
-        return Err(fault_at(read.line, LineRefused::Kind(kind)));
-    }
+    let stands = may_stand(&read.group, standing);
+    at_line(read.line, placed(stands, form))?;
     end_phase(alloc, head, read)
 }
 
@@ -196,19 +129,15 @@ fn count_tick(read: &mut Reading) -> Result<(), CaptureFault>
 }
 
 /// Counts an event line, and whether it is a tick line.
-fn count_line(read: &mut Reading, words: &[&[u8]]) -> Result<(), CaptureFault>
-    ensures value { Takes read.new result (line_counted read.old (texts words.now)) }
+fn count_line(read: &mut Reading, is_tick: bool) -> Result<(), CaptureFault>
+    ensures value { Takes read.new result (line_counted read.old is_tick) }
     ensures kept { IsStill read.old read.new }
     ensures few { OnOk result (read.new.events < MOST_LINES) }
 {
     if read.events >= MOST_LINES {
         return Err(CaptureFault::TooLong(Limit::Lines));
     }
-    if begins(b"t", words) {
-        count_tick(read)
-    } else {
-        Ok(())
-    }
+    if is_tick { count_tick(read) } else { Ok(()) }
 }
 
 /// Puts the event of a line on the list of its link.
@@ -276,64 +205,81 @@ fn take_meaning(alloc: Global, read: &mut Reading, meaning: Meaning) -> Result<(
     }
 }
 
-/// Reads what an event line means.
+/// Takes an event line that was counted, if it may stand where it does.
 fn put_meaning(
     alloc: Global,
-    head: &Head,
-    words: &[&[u8]],
     read: &mut Reading,
+    stands: bool,
+    form: Result<Meaning, LineKind>,
 ) -> Result<(), CaptureFault>
     requires line { read.old.line + 1 < 2 ^ 32 }
-    requires links { length read.old.current ≡ head.now.links + 1 }
+    requires some { 0 < length read.old.current }
+    requires within { IfOk form (IsWithin (length read.old.current - 1)) }
     requires few { read.old.events < MOST_LINES }
-    ensures value { Takes read.new result (event_put head.now (texts words.now) read.old) }
-    ensures kept { OnOk result (IsNext head.now read.old read.new) }
+    ensures value { Takes read.new result (event_put stands form read.old) }
+    ensures kept { OnOk result (IsNext read.old read.new) }
 {
-    let meaning = meaning_at(alloc, head, read, words)?;
+    let meaning = at_line(read.line, placed(stands, form))?;
     take_meaning(alloc, read, meaning)?;
     read.events += 1;
     read.line += 1;
     Ok(())
 }
 
-/// Reads an event line.
-fn take_event(
-    alloc: Global,
-    head: &Head,
-    read: &mut Reading,
-    words: &[&[u8]],
-) -> Result<(), CaptureFault>
+/// Takes an event line.
+fn take_event(alloc: Global, read: &mut Reading, event: EventRead) -> Result<(), CaptureFault>
     requires line { read.old.line + 1 < 2 ^ 32 }
-    requires links { length read.old.current ≡ head.now.links + 1 }
-    ensures value { Takes read.new result (event_taken head.now read.old (texts words.now)) }
-    ensures kept { OnOk result (IsNext head.now read.old read.new) }
+    requires some { 0 < length read.old.current }
+    requires within { IfOk event.meaning (IsWithin (length read.old.current - 1)) }
+    ensures value { let stands = may_stand_as read.old.group event.standing in
+        Takes read.new result (event_taken read.old event.is_tick stands event.meaning) }
+    ensures kept { OnOk result (IsNext read.old read.new) }
 {
-    count_line(read, words)?;
-    put_meaning(alloc, head, words, read)
+    count_line(read, event.is_tick)?;
+    let stands = may_stand(&read.group, event.standing);
+    put_meaning(alloc, read, stands, event.meaning)
 }
 
-/// Reads a line.
-#[tactic(auto, unfolding(crate::specs::Inner::Reader::line_taken))]
-pub fn take_line<'a>(
+/// Takes a line.
+pub fn take_line(
     alloc: Global,
     head: &Head,
     read: &mut Reading,
-    line: &'a [u8],
-    words: &mut Vec<&'a [u8]>,
+    line: LineRead,
 ) -> Result<(), CaptureFault>
     requires line { read.old.line + 1 < 2 ^ 32 }
     requires links { length read.old.current ≡ head.now.links + 1 }
-    ensures value { Takes read.new result (line_taken head.now read.old line.now) }
-    ensures kept { OnOk result (IsNext head.now read.old read.new) }
+    requires within { IsReadWithin head.now.links line }
+    ensures value { Takes read.new result (read_taken head.now read.old line) }
+    ensures kept { OnOk result (IsNext read.old read.new) }
 {
-    if is_skipped(line) {
-        read.line += 1;
-        return Ok(());
+    match line {
+        LineRead::Skipped => {
+            read.line += 1;
+            Ok(())
+        }
+        LineRead::Barrier(standing, form) => take_barrier(alloc, head, read, standing, form),
+        LineRead::Event(event) => take_event(alloc, read, event),
     }
-    split_words(words, line)?;
-    if begins(b"w", words.as_slice()) {
-        take_barrier(alloc, head, read, words.as_slice())
-    } else {
-        take_event(alloc, head, read, words.as_slice())
+}
+
+/// Takes lines one after the other.
+#[tactic(auto, unfolding(crate::specs::Inner::Reader::reads_taken))]
+pub fn take_reads(
+    alloc: Global,
+    head: &Head,
+    read: &mut Reading,
+    lines: Vec<LineRead>,
+) -> Result<(), CaptureFault>
+    requires few { read.old.line + length lines.items < 2 ^ 32 }
+    requires links { length read.old.current ≡ head.now.links + 1 }
+    requires within { AllByRecursion (IsReadWithin head.now.links) lines.items }
+    ensures value { Takes read.new result (reads_taken head.now read.old lines.items) }
+    ensures links { OnOk result (length read.new.current ≡ length read.old.current) }
+    ensures line { OnOk result (read.new.line ≡ read.old.line + length lines.items) }
+{
+    for line in lines {
+        take_line(alloc, head, read, line)?;
     }
+    Ok(())
 }

@@ -1,5 +1,5 @@
 //! What the words of a line state.
-ghost use Rattle.std.specs.Prelude.{◌≡◌, ◌≤◌, ◌<◌, is_ok, IfOk};
+ghost use Rattle.std.specs.Prelude.{◌≡◌, ◌≤◌, ◌<◌, is_ok};
 ghost use Rattle.capture_form.specs.Text.{is_dash};
 ghost use Rattle.capture_form.specs.Words.{below, link_of, class_of, user_of, other_point_of, prefix_of, lead_of, octets_of, called_of, calling_of, body_of, text_of, asks_return, is_return};
 ghost use Rattle.capture_form.specs.Inner.Words.{States};
@@ -38,8 +38,7 @@ pub fn octet(limit: u32, word: &[u8]) -> Result<u8, LineKind>
 
 /// A link, from 1.
 pub fn link(links: u8, word: &[u8]) -> Result<u8, LineKind>
-    ensures value { result ≡ link_of links word.now }
-    ensures within { IfOk result (λ n. n ≤ links) }
+    ensures { result ≡ link_of links word.now }
 {
     match number_of(word) {
         Some(n) if 1 <= n && n <= u64::from(links) => Ok(n as u8),

@@ -7,12 +7,13 @@ ghost use Rattle.capture_input.specs.Stops.{Reads, TakesNone};
 use crate::fault::InputFault;
 use crate::reading::{AuditInput, read_audit};
 use crate::stop::{Stop, refusal};
-use capture_form::{Capture, read_capture};
+use capture_form::{Capture, read_capture_in_threads};
 use chain_form::{ChainInput, read_chain};
 use m3ua_capture::read_stream;
 use relay_base::limits::MOST_BYTES;
 use relay_base::{ReadAllFault, Source, read_all};
 use std::alloc::Global;
+use std::thread::Threads;
 
 /// What an input is made of.
 #[derive(Clone, Copy)]
@@ -39,20 +40,30 @@ pub enum Input {
 }
 
 /// What an input states.
-fn input_in(alloc: Global, form: Form, bytes: &[u8]) -> Result<Input, InputFault>
+fn input_in<R: Threads + Sync>(
+    rt: &R,
+    alloc: Global,
+    form: Form,
+    bytes: &[u8],
+) -> Result<Input, InputFault>
     ensures value { Reads result (input_of form bytes.now) }
     ensures ready { IfOk result IsReady }
 {
     match form {
-        Form::Lines => Ok(Input::Capture(read_capture(alloc, bytes)?)),
+        Form::Lines => Ok(Input::Capture(read_capture_in_threads(rt, alloc, bytes)?)),
         Form::Stream => Ok(Input::Capture(read_stream(alloc, bytes)?)),
         Form::Steps => Ok(Input::Chain(read_chain(alloc, bytes)?)),
         Form::Audited => Ok(Input::Audited(read_audit(alloc, bytes)?)),
     }
 }
 
-/// What a source states, which is read to its end.
-pub fn take_input<S: Source>(alloc: Global, form: Form, source: &mut S) -> Result<Input, Stop>
+/// What a source states, which is read to its end. The lines of a capture are read in threads.
+pub fn take_input<R: Threads + Sync, S: Source>(
+    rt: &R,
+    alloc: Global,
+    form: Form,
+    source: &mut S,
+) -> Result<Input, Stop>
     ensures ok { let read = bytes (S.left source.old) (S.left source.new) in
         IfOk result (λ input. ReadAs form read (λ stated. stated ≡ Ok input)) }
     ensures ready { IfOk result IsReady }
@@ -67,7 +78,7 @@ pub fn take_input<S: Source>(alloc: Global, form: Form, source: &mut S) -> Resul
         Err(ReadAllFault::Fault) => return Err(Stop::ReadFault),
         Err(ReadAllFault::Memory) => return Err(Stop::Memory),
     };
-    match input_in(alloc, form, bytes.as_slice()) {
+    match input_in(rt, alloc, form, bytes.as_slice()) {
         Ok(input) => Ok(input),
         Err(fault) => Err(refusal(alloc, fault)),
     }

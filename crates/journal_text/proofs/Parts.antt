@@ -1,6 +1,8 @@
 -- What a sink holds of texts that are written one after the other.
-use Rattle.std.proofs.Common.{◌≡◌, ℕ, ◌+◌, ◌<◌, List, [], ◌∷◌, get_or, codes, append_assoc, append-nil, ◌++◌, Result, Ok, Err, OnOk, OnErr, sym, ◌∙◌, ap, subst, min, length, drop, arith, rules, refl}
-use Rattle.std.proofs.lemmas.List.{take_min, take-append-le, at_drop_more}
+use Rattle.std.proofs.Common.{◌≡◌, ℕ, ◌+◌, ◌*◌, ◌<◌, List, [], ◌∷◌, get_or, codes, append_assoc, append-nil, ◌++◌, Result, Ok, Err, OnOk, OnErr, sym, ◌∙◌, ap, subst, min, length, take, drop, arith, rules, refl}
+use Rattle.std.proofs.lemmas.List.{take_min, take-append-le, take-append-drop, drop-drop, at_drop_more}
+use Rattle.std.proofs.lemmas.List.Concat.{flat_map-append}
+use native.Mathlib.Nat.{add-mul, one-mul}
 use Rattle.std.proofs.Math.Seq.{take-append-add}
 use Rattle.std.proofs.KnownBytes.{Appends-nil, Appends-trans}
 use Rattle.std.specs.Prelude.{Option}
@@ -13,7 +15,7 @@ use Rattle.plant_core.specs.declared.entry.Entry.{Entry}
 use Rattle.journal_text.specs.Print.{entries_text, lanes_text}
 use Rattle.journal_text.specs.declared.writing.WriteFault.{WriteFault}
 use Rattle.journal_text.specs.declared.writing.WriteFault.TheVariants as write_fault
-use Rattle.journal_text.specs.Inner.Writing.{Carried, Carries}
+use Rattle.journal_text.specs.Inner.Writing.{Carried, Carries, Writes}
 
 -- a part of a text is a part of the text with more behind it
 pub AppendedPart-more : (a b : Option (List ℕ)) (xs ys : List ℕ) → AppendedPart a b xs → AppendedPart a b (xs ++ ys)
@@ -71,13 +73,29 @@ Carries-fails {U = U} a b c f g h text xs more now waits e r p q is = subst (Car
   kept = λ s. q.kept (λ x. s (search rules)) ∙ p.kept;
 })
 
--- the entries that are left, by the first of them
-pub entries-left : {X : Type 0} (print : X → List ℕ) (entries : List X) (n : ℕ) (entry : X) (text : List ℕ) → n < length entries → entry ≡ get_or entries n entry
-    → text ++ flat_map print (drop n entries) ≡ (text ++ print entry) ++ flat_map print (drop (n + 1) entries)
-entries-left {X} print entries n entry text within is =
-    let more = drop (n + 1) entries in
-    let first = at_drop_more (flat_map print) entries n entry within ∙ ap (λ (x : X). flat_map print (x ∷ more)) (sym is) in
-    ap (λ l. text ++ l) first ∙ sym (append_assoc text (print entry) (flat_map print more))
+-- a text was written, and nothing waits after it
+pub Carries-written : {T : Type 0} (a b : Option (List ℕ)) (f g : ℕ) (text : List ℕ) (r : Result T WriteFault) → Writes a b f g text r → Carries {T = T} a b f g text [] r
+Carries-written a b f g text (Ok x) p = record { ok = record { written = text; went = p.ok; kept = p.kept (search rules); same = append-nil text }; err = tt; fault = p.fault; kept = p.kept }
+Carries-written a b f g text (Err e) p = record { ok = tt; err = p.err; fault = p.fault; kept = p.kept }
+
+-- the entries that are left, by the print of a block of them
+pub blocks-left : {X : Type 0} (print : X → List ℕ) (entries : List X) (size n : ℕ) (block : List ℕ) → block ≡ flat_map print (take size (drop (n * size) entries))
+    → flat_map print (drop (n * size) entries) ≡ block ++ flat_map print (drop ((n + 1) * size) entries)
+blocks-left print entries size n block is =
+    let left = drop (n * size) entries in
+    ap (flat_map print) (sym (take-append-drop size left))
+    ∙ flat_map-append print (take size left) (drop size left)
+    ∙ ap (λ l. l ++ flat_map print (drop size left)) (sym is)
+    ∙ ap (λ l. block ++ flat_map print l) (drop-drop size (n * size) entries)
+    ∙ ap (λ k. block ++ flat_map print (drop k entries)) (sym (add-mul n 1 size ∙ ap (λ k. n * size + k) (one-mul size)))
+
+-- the entries that are left, by the first window of them
+pub window-left : {X : Type 0} (print : X → List ℕ) (entries window more : List X) (text : List ℕ) → entries ≡ window ++ more
+    → text ++ flat_map print entries ≡ (text ++ flat_map print window) ++ flat_map print more
+window-left print entries window more text is =
+    ap (λ l. text ++ flat_map print l) is
+    ∙ ap (λ l. text ++ l) (flat_map-append print window more)
+    ∙ sym (append_assoc text (flat_map print window) (flat_map print more))
 
 -- the lanes that are left, by the first of them, whose line joined the text
 pub lanes-left : (name : List ℕ) (lanes : List (List Entry)) (n : ℕ) (lane entries : List Entry) (text now : List ℕ) → n < length lanes → lane ≡ get_or lanes n lane → entries ≡ lane

@@ -1,13 +1,15 @@
 //! The print of the entries of a journal.
-ghost use Rattle.std.specs.Prelude.{◌≡◌, ◌++◌, codes};
+ghost use Rattle.std.specs.Prelude.{◌≡◌, ◌++◌, codes, IfOk};
+ghost use Rattle.std.specs.Fmt.{decimal};
+ghost use Rattle.std.specs.List.{flat_map};
 ghost use Rattle.journal_text.specs.Inner.Texts.{Puts};
-ghost use Rattle.journal_text.specs.Print.{cause_text, answer_text, asked_text, published_text, stamp_text, outs_text};
+ghost use Rattle.journal_text.specs.Print.{cause_text, answer_text, asked_text, published_text, stamp_text, outs_text, lanes_text};
 
 use crate::tell::{put_number, put_output, put_words};
 use crate::text::Text;
-use plant_core::{Answer, Asked, ControlEntry, Entry, RouteCause};
+use plant_core::{Answer, Asked, ControlEntry, Entry, EntryList, RouteCause};
 use relay_base::{Output, Stamp};
-use std::alloc::AllocError;
+use std::alloc::{AllocError, Global};
 
 /// An entry of a journal, which has a print.
 pub(crate) trait Printed {
@@ -111,4 +113,44 @@ impl Printed for ControlEntry {
         text.put("\n")?;
         put_outs(text, self.outs.as_slice())
     }
+}
+
+/// Appends the print of entries.
+pub(crate) fn put_entries<P: Printed>(text: &mut Text, entries: &[P]) -> Result<(), AllocError>
+    ensures { Puts result text.old text.new (flat_map P.print entries.now) }
+{
+    for entry in entries {
+        entry.put(text)?;
+    }
+    Ok(())
+}
+
+/// The print of entries, as a text of its own.
+pub(crate) fn print_entries<P: Printed>(alloc: Global, entries: &[P]) -> Result<Text, AllocError>
+    ensures { IfOk result (λ text. text ≡ flat_map P.print entries.now) }
+{
+    let mut text = Text::of(alloc, "")?;
+    put_entries(&mut text, entries)?;
+    Ok(text)
+}
+
+/// Appends the line above a lane.
+pub(crate) fn put_lane(text: &mut Text, name: &str, number: usize) -> Result<(), AllocError>
+    ensures { let line = codes "= " ++ name.now ++ codes " " ++ decimal number ++ codes "\n" in
+        Puts result text.old text.new line }
+{
+    text.put("=")?;
+    put_number(text, name, number)?;
+    text.put("\n")
+}
+
+/// Appends the print of lanes.
+pub(crate) fn put_lanes(text: &mut Text, name: &str, lanes: &[EntryList]) -> Result<(), AllocError>
+    ensures { Puts result text.old text.new (lanes_text name.now 0 lanes.now) }
+{
+    for (number, lane) in lanes.iter().enumerate() {
+        put_lane(text, name, number)?;
+        put_entries(text, lane.as_slice())?;
+    }
+    Ok(())
 }

@@ -5,7 +5,7 @@ ghost use Rattle.journal_text.specs.Inner.Texts.{Puts};
 ghost use Rattle.journal_text.specs.Print.{octets_text, optional_text};
 
 use itoa::{Buffer, Integer};
-use relay_base::BoxedOctets;
+use relay_base::{BoxedOctets, Octets};
 use std::alloc::{AllocError, Global};
 use std::marker::Model;
 
@@ -44,6 +44,14 @@ impl Text {
         ensures { result.now ≡ self.now }
     {
         self.waiting.as_slice()
+    }
+
+    /// The octets that wait, as a list.
+    pub(crate) fn into_octets(self) -> Octets
+        ensures { result ≡ self }
+    {
+        let Text { waiting } = self;
+        Octets::from(waiting)
     }
 
     /// Takes all octets away, and keeps their room.

@@ -1,24 +1,32 @@
 //! The print of a book, written to a sink, a long one in parts.
-ghost use Rattle.std.specs.Prelude.{◌≡◌, ◌≢◌, ◌++◌, Err, codes, OnOk, OnErr};
-ghost use Rattle.std.specs.Fmt.{decimal};
+ghost use Rattle.std.specs.Prelude.{◌≡◌, ◌≢◌, ◌++◌, [], Err, OnOk, OnErr};
 ghost use Rattle.std.specs.List.{flat_map};
 ghost use Rattle.std.specs.Io.KnownBytes.{Appends};
 ghost use Rattle.relay_base.specs.Causes.{Rose};
 ghost use Rattle.relay_base.specs.Streams.{AppendedPart};
 ghost use Rattle.journal_text.specs.Print.{lanes_text, book_text};
-ghost use Rattle.journal_text.specs.Inner.Texts.{Puts};
 ghost use Rattle.journal_text.specs.Inner.Writing.{Writes, Carries, with_lanes};
 
 use crate::book::Book;
-use crate::entries::Printed;
-use crate::tell::put_number;
+use crate::entries::{Printed, print_entries, put_entries, put_lane};
 use crate::text::Text;
 use plant_core::EntryList;
 use relay_base::{Failed, Memory, Sink, write_all};
 use std::alloc::{AllocError, Global};
+use std::thread;
+use std::thread::Threads;
 
 /// How many octets wait in memory before they are written.
 const LONG: usize = 65_536;
+
+/// How many entries of a lane are printed at a time.
+const WINDOW: usize = 8_192;
+
+/// Into how many blocks they are cut at most.
+const BLOCKS: usize = 8;
+
+/// How many entries are too few to be cut into blocks.
+const FEW: usize = 256;
 
 /// Why a print was not written to its end: the sink failed, or memory ran out.
 #[derive(Clone, Copy)]
@@ -78,21 +86,35 @@ pub fn write_if_long<K: Sink>(out: &mut K, text: &mut Text) -> Result<(), WriteF
     Ok(())
 }
 
-/// The print of an entry joins the text that waits.
-fn carry_entry<K: Sink, P: Printed>(
+/// Writes the print of entries, in blocks. Each is printed into a text of its own, in a thread where one can be made, and the texts are
+/// written in order.
+fn write_blocks<R: Threads + Sync, K: Sink, P: Printed + Sync>(
+    rt: &R,
+    alloc: Global,
     out: &mut K,
-    text: &mut Text,
-    entry: &P,
+    entries: &[P],
 ) -> Result<(), WriteFault>
     ensures { Carries (K.held out.old) (K.held out.new) (K.faults out.old) (K.faults out.new)
-        (text.old ++ P.print entry.now) text.new result }
+        (flat_map P.print entries.now) [] result }
 {
-    entry.put(text)?;
-    write_if_long(out, text)
+    let size = entries.len().div_ceil(BLOCKS).max(FEW);
+    let prints = thread::map_chunks(
+        rt,
+        alloc,
+        entries,
+        size,
+        &|_, block| print_entries(alloc, block),
+    )?;
+    for print in prints {
+        write_text(out, &print?)?;
+    }
+    Ok(())
 }
 
-/// The print of entries joins the text that waits.
-fn carry_entries<K: Sink, P: Printed>(
+/// The print of few entries joins the text that waits; that of many is written behind it.
+fn carry_window<R: Threads + Sync, K: Sink, P: Printed + Sync>(
+    rt: &R,
+    alloc: Global,
     out: &mut K,
     text: &mut Text,
     entries: &[P],
@@ -100,24 +122,36 @@ fn carry_entries<K: Sink, P: Printed>(
     ensures { Carries (K.held out.old) (K.held out.new) (K.faults out.old) (K.faults out.new)
         (text.old ++ flat_map P.print entries.now) text.new result }
 {
-    for entry in entries {
-        carry_entry(out, text, entry)?;
+    if entries.len() <= FEW {
+        put_entries(text, entries)?;
+        return write_if_long(out, text);
+    }
+    write_text(out, text)?;
+    text.clear();
+    write_blocks(rt, alloc, out, entries)
+}
+
+/// The print of entries joins the text that waits, a window of them after the other.
+fn carry_entries<R: Threads + Sync, K: Sink, P: Printed + Sync>(
+    rt: &R,
+    alloc: Global,
+    out: &mut K,
+    text: &mut Text,
+    entries: &[P],
+) -> Result<(), WriteFault>
+    ensures { Carries (K.held out.old) (K.held out.new) (K.faults out.old) (K.faults out.new)
+        (text.old ++ flat_map P.print entries.now) text.new result }
+{
+    for window in entries.chunks(WINDOW) {
+        carry_window(rt, alloc, out, text, window)?;
     }
     Ok(())
 }
 
-/// Appends the line above a lane.
-fn put_lane(text: &mut Text, name: &str, number: usize) -> Result<(), AllocError>
-    ensures { let line = codes "= " ++ name.now ++ codes " " ++ decimal number ++ codes "\n" in
-        Puts result text.old text.new line }
-{
-    text.put("=")?;
-    put_number(text, name, number)?;
-    text.put("\n")
-}
-
 /// The print of lanes joins the text that waits.
-fn carry_lanes<K: Sink>(
+fn carry_lanes<R: Threads + Sync, K: Sink>(
+    rt: &R,
+    alloc: Global,
     out: &mut K,
     text: &mut Text,
     name: &str,
@@ -128,24 +162,36 @@ fn carry_lanes<K: Sink>(
 {
     for (number, lane) in lanes.iter().enumerate() {
         put_lane(text, name, number)?;
-        carry_entries(out, text, lane.as_slice())?;
+        carry_entries(rt, alloc, out, text, lane.as_slice())?;
     }
     Ok(())
 }
 
 /// The print of all lanes joins the text that waits.
-fn carry_book<K: Sink>(out: &mut K, text: &mut Text, book: &Book) -> Result<(), WriteFault>
+fn carry_book<R: Threads + Sync, K: Sink>(
+    rt: &R,
+    alloc: Global,
+    out: &mut K,
+    text: &mut Text,
+    book: &Book,
+) -> Result<(), WriteFault>
     ensures { Carries (K.held out.old) (K.held out.new) (K.faults out.old) (K.faults out.new)
         (with_lanes text.old book.now) text.new result }
 {
-    carry_entries(out, text, book.control.as_slice())?;
-    carry_lanes(out, text, "conn", book.conns.as_slice())?;
-    carry_lanes(out, text, "data", book.units.as_slice())
+    carry_entries(rt, alloc, out, text, book.control.as_slice())?;
+    carry_lanes(rt, alloc, out, text, "conn", book.conns.as_slice())?;
+    carry_lanes(rt, alloc, out, text, "data", book.units.as_slice())
 }
 
-/// Writes the print of a book to a sink. A long one is written in parts, each as soon as 65,536 octets wait, so that it does not stand
-/// in memory whole. After an error a front of it was written.
-pub fn write_book<K: Sink>(alloc: Global, book: &Book, out: &mut K) -> Result<(), WriteFault>
+/// Writes the print of a book to a sink, in parts, so that a long one does not stand in memory whole. Many entries of a lane are printed
+/// in blocks, in threads where they can be made, and few join a text that is written as soon as 65,536 octets wait. After an error a
+/// front of the print was written.
+pub fn write_book<R: Threads + Sync, K: Sink>(
+    rt: &R,
+    alloc: Global,
+    book: &Book,
+    out: &mut K,
+) -> Result<(), WriteFault>
     ensures ok { OnOk result (Appends (K.held out.old) (K.held out.new) (book_text book.now)) }
     ensures err { let text = book_text book.now in
         OnErr result (AppendedPart (K.held out.old) (K.held out.new) text) }
@@ -153,6 +199,6 @@ pub fn write_book<K: Sink>(alloc: Global, book: &Book, out: &mut K) -> Result<()
     ensures kept { result ≢ Err WriteFault.Sink → K.faults out.new ≡ K.faults out.old }
 {
     let mut text = Text::of(alloc, "= control\n")?;
-    carry_book(out, &mut text, book)?;
+    carry_book(rt, alloc, out, &mut text, book)?;
     write_text(out, &text)
 }

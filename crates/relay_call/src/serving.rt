@@ -46,7 +46,12 @@ fn made(alloc: Global, number: u32, lines: u32) -> Result<Input, Stop>
 }
 
 /// The input of a command: `gen` makes it, and the others read it.
-fn input_of<S: Source>(alloc: Global, command: Command, source: &mut S) -> Result<Input, Stop>
+fn input_of<R: Threads + Sync, S: Source>(
+    rt: &R,
+    alloc: Global,
+    command: Command,
+    source: &mut S,
+) -> Result<Input, Stop>
     requires { (number lines : ℕ) → command ≡ Generate number lines → lines ≤ MOST_GENERATED_LINES }
     ensures ok { let read = bytes (S.left source.old) (S.left source.new) in
         IfOk result (λ given. GivesAs command read (λ parts. parts ≡ Ok given)) }
@@ -59,12 +64,12 @@ fn input_of<S: Source>(alloc: Global, command: Command, source: &mut S) -> Resul
     ensures kept { result ≢ Err Stop.ReadFault → S.faults source.new ≡ S.faults source.old }
 {
     match command {
-        Command::Run => take_input(alloc, Form::Lines, source),
+        Command::Run => take_input(rt, alloc, Form::Lines, source),
         Command::Generate { number, lines } => made(alloc, number, lines),
-        Command::Stream => take_input(alloc, Form::Stream, source),
-        Command::Frames => take_input(alloc, Form::Stream, source),
-        Command::Chain => take_input(alloc, Form::Steps, source),
-        Command::Audit => take_input(alloc, Form::Audited, source),
+        Command::Stream => take_input(rt, alloc, Form::Stream, source),
+        Command::Frames => take_input(rt, alloc, Form::Stream, source),
+        Command::Chain => take_input(rt, alloc, Form::Steps, source),
+        Command::Audit => take_input(rt, alloc, Form::Audited, source),
     }
 }
 
@@ -99,7 +104,13 @@ fn report_of(command: Command, head: &Head) -> Report
 }
 
 /// Writes a report of the book.
-fn write<K: Sink>(alloc: Global, report: Report, book: &Book, out: &mut K) -> Result<(), Stop>
+fn write<R: Threads + Sync, K: Sink>(
+    rt: &R,
+    alloc: Global,
+    report: Report,
+    book: &Book,
+    out: &mut K,
+) -> Result<(), Stop>
     ensures ok { let written = bytes (K.held out.old) (K.held out.new) in
         OnOk result (Wrote written (report_text report book.now)) }
     ensures err { let written = bytes (K.held out.old) (K.held out.new) in
@@ -108,7 +119,7 @@ fn write<K: Sink>(alloc: Global, report: Report, book: &Book, out: &mut K) -> Re
     ensures fault { result ≡ Err Stop.WriteFault → Rose (K.faults out.old) (K.faults out.new) }
     ensures kept { result ≢ Err Stop.WriteFault → K.faults out.new ≡ K.faults out.old }
 {
-    write_report(alloc, report, book, out)?;
+    write_report(rt, alloc, report, book, out)?;
     Ok(())
 }
 
@@ -133,7 +144,7 @@ fn serve_capture<R: Threads + Wait + Sync, K: Sink, P: Pace>(
 {
     let report = report_of(command, &capture.head);
     fill(rt, alloc, &capture, pace, book)?;
-    write(alloc, report, book, out)
+    write(rt, alloc, report, book, out)
 }
 
 /// Takes the steps of nodes in a row, and writes what their users are told.
@@ -260,7 +271,7 @@ fn perform<R: Threads + Wait + Sync, S: Source, K: Sink, P: Pace>(
         → S.faults source.new ≡ S.faults source.old }
     ensures out_kept { result ≢ Err Stop.WriteFault → K.faults out.new ≡ K.faults out.old }
 {
-    let given = input_of(alloc, command, source)?;
+    let given = input_of(rt, alloc, command, source)?;
     serve_input(rt, alloc, command, given, out, pace, book)
 }
 

@@ -1,5 +1,5 @@
 -- A reader of lines, which keeps what it read so far.
-use Rattle.std.specs.Prelude.{◌≡◌, ℕ, ◌+◌, ◌≤◌, ◌==◌, nat_lt, nat_le, codes, List, [], ◌∷◌, ◌++◌, length, Option, Some, None, slice_index_or, slice_set, replicate, if◌then◌else◌, Ok, Err}
+use Rattle.std.specs.Prelude.{◌≡◌, ℕ, ◌+◌, ◌≤◌, ◌==◌, nat_lt, nat_le, codes, Bool, List, [], ◌∷◌, ◌++◌, length, Option, Some, None, slice_index_or, slice_set, replicate, if◌then◌else◌, Ok, Err, IfOk}
 use Rattle.std.specs.declared.result.Result.{Result}
 use Rattle.relay_base.specs.Giving.{◌>>=◌, GivesOrMemory}
 use Rattle.relay_base.specs.declared.words.Stamp.{Stamp}
@@ -13,6 +13,7 @@ use Rattle.capture_form.specs.declared.changes.OpenGroup.{OpenGroup}
 use Rattle.capture_form.specs.declared.meaning.Meaning.TheVariants.{Event}
 use Rattle.capture_form.specs.Events.{Stamped}
 use Rattle.capture_form.specs.Capture.{fault_in, is_skipped, begins, barrier_form}
+use Rattle.capture_form.specs.Inner.LineRead.{may_stand_as}
 use Rattle.capture_form.specs.declared.steps.TheConstants.{MOST_LINES, MOST_TICK_LINES, MOST_BARRIERS}
 use Rattle.capture_form.specs.declared.fault.LineKind.{LineKind}
 use Rattle.capture_form.specs.declared.fault.LineKind.TheVariants.{Group}
@@ -20,6 +21,8 @@ use Rattle.capture_form.specs.declared.fault.Limit.TheVariants.{Lines, Ticks, Ba
 use Rattle.capture_form.specs.declared.fault.CaptureFault.{CaptureFault}
 use Rattle.capture_form.specs.declared.fault.CaptureFault.TheVariants as refused
 use Rattle.capture_form.specs.declared.capture.Capture.{Capture}
+use Rattle.capture_form.specs.declared.line_read.LineRead.{LineRead}
+use Rattle.capture_form.specs.declared.line_read.LineRead.TheVariants as said
 use Rattle.capture_form.specs.declared.reading.Reading.{Reading}
 
 -- the call left what is read by then, unless memory ran out
@@ -30,18 +33,23 @@ Takes left result given = GivesOrMemory (λ _. left) fault_in result given
 abbrev pub HeadReads : List (List ℕ) → Result (Head × ℕ) CaptureFault → Result (Head × ℕ × List (List ℕ)) CaptureFault → Type 0
 HeadReads rest result given = GivesOrMemory (λ (h : Head × ℕ). (h.0, h.1, rest)) fault_in result given
 
--- the next line is to be read, into a list for each link
-abbrev pub IsNext : Head → Reading → Reading → Type 0
-IsNext head old new = (length new.current ≡ head.links + 1) × (new.line ≡ old.line + 1)
+-- the next line is to be read, into as many lists
+abbrev pub IsNext : Reading → Reading → Type 0
+IsNext old new = (length new.current ≡ length old.current) × (new.line ≡ old.line + 1)
 
--- the lists and the line are as before
+-- the lists, the line and the group are as before
 abbrev pub IsStill : Reading → Reading → Type 0
-IsStill old new = (new.current ≡ old.current) × (new.line ≡ old.line)
+IsStill old new = (new.current ≡ old.current) × (new.line ≡ old.line) × (new.group ≡ old.group)
 
 -- the link of an event is one of these
 abbrev pub IsWithin : ℕ → Meaning → Type 0
 IsWithin links (Event link event) = link ≤ links
 IsWithin links _ = Unit {0}
+
+-- what a line says is about these links
+abbrev pub IsReadWithin : ℕ → LineRead → Type 0
+IsReadWithin links (said.Event event) = IfOk event.meaning (IsWithin links)
+IsReadWithin links _ = Unit {0}
 
 -- the lists of a phase with an event at the end of one
 abbrev pub pushed : List Stamped → ℕ → Stamp × ControlEvent → List Stamped
@@ -73,32 +81,34 @@ abbrev pub line_added : Reading → Reading
 line_added r = record r { events = r.events + 1; line = r.line + 1 }
 
 -- a barrier, of which there are at most 1,000
-abbrev pub barrier_taken : Head → Reading → List (List ℕ) → Result Reading CaptureFault
-barrier_taken head r ws =
+abbrev pub barrier_taken : Head → Reading → Bool → Result (Unit {0}) LineKind → Result Reading CaptureFault
+barrier_taken head r stands form =
     if nat_lt MOST_BARRIERS r.phase then Err (refused.TooLong Barriers)
-    else at_line r.line (placed (may_stand r.group ws) (barrier_form ws)) >>= (λ _. Ok (phase_ended head r))
+    else at_line r.line (placed stands form) >>= (λ _. Ok (phase_ended head r))
 
 -- a tick line is counted; there are at most 20,000
 abbrev pub tick_counted : Reading → Result Reading CaptureFault
 tick_counted r = if nat_le MOST_TICK_LINES r.ticks then Err (refused.TooLong Ticks) else Ok (record r { ticks = r.ticks + 1 })
 
 -- an event line, of which there are at most 200,000, is counted
-abbrev pub line_counted : Reading → List (List ℕ) → Result Reading CaptureFault
-line_counted r ws =
+abbrev pub line_counted : Reading → Bool → Result Reading CaptureFault
+line_counted r is_tick =
     if nat_le MOST_LINES r.events then Err (refused.TooLong Lines)
-    else if begins (codes "t") ws then tick_counted r
+    else if is_tick then tick_counted r
     else Ok r
 
 -- an event line is taken, if it may stand where it does
-abbrev pub event_put : Head → List (List ℕ) → Reading → Result Reading CaptureFault
-event_put head ws r = at_line r.line (placed (may_stand r.group ws) (meaning_of head ws)) >>= (λ meaning. Ok (line_added (meaning_taken r meaning)))
+abbrev pub event_put : Bool → Result Meaning LineKind → Reading → Result Reading CaptureFault
+event_put stands form r = at_line r.line (placed stands form) >>= (λ meaning. Ok (line_added (meaning_taken r meaning)))
 
 -- an event line, which is counted before its form is tested
-abbrev pub event_taken : Head → Reading → List (List ℕ) → Result Reading CaptureFault
-event_taken head r ws = line_counted r ws >>= event_put head ws
+abbrev pub event_taken : Reading → Bool → Bool → Result Meaning LineKind → Result Reading CaptureFault
+event_taken r is_tick stands form = line_counted r is_tick >>= event_put stands form
 
 abbrev pub words_taken : Head → Reading → List (List ℕ) → Result Reading CaptureFault
-words_taken head r ws = if begins (codes "w") ws then barrier_taken head r ws else event_taken head r ws
+words_taken head r ws =
+    if begins (codes "w") ws then barrier_taken head r (may_stand r.group ws) (barrier_form ws)
+    else event_taken r (begins (codes "t") ws) (may_stand r.group ws) (meaning_of head ws)
 
 -- one line more was read
 unfoldable pub line_taken : Head → Reading → List ℕ → Result Reading CaptureFault
@@ -108,6 +118,17 @@ line_taken head r line = if is_skipped line then Ok (record r { line = r.line + 
 unfoldable pub lines_taken : Head → Reading → List (List ℕ) → Result Reading CaptureFault
 lines_taken head r [] = Ok r
 lines_taken head r (line ∷ more) = line_taken head r line >>= (λ s. lines_taken head s more)
+
+-- one line more was taken, of which it is known what it says
+abbrev pub read_taken : Head → Reading → LineRead → Result Reading CaptureFault
+read_taken head r said.Skipped = Ok (record r { line = r.line + 1 })
+read_taken head r (said.Barrier standing form) = barrier_taken head r (may_stand_as r.group standing) form
+read_taken head r (said.Event event) = event_taken r event.is_tick (may_stand_as r.group event.standing) event.meaning
+
+-- all such lines
+unfoldable pub reads_taken : Head → Reading → List LineRead → Result Reading CaptureFault
+reads_taken head r [] = Ok r
+reads_taken head r (line ∷ more) = read_taken head r line >>= (λ s. reads_taken head s more)
 
 -- before the first event line, which has this number
 abbrev pub reading_from : Head → ℕ → Reading

@@ -1,11 +1,9 @@
 -- A call that reads a line, beside what the definition gives.
-use Rattle.std.specs.Prelude.{◌≡◌, ℕ, List, map, Option, Some, None}
+use Rattle.std.specs.Prelude.{ℕ, List, map, Option, Some, None}
 use Rattle.std.specs.Borrow.{Bor}
 use Rattle.std.specs.declared.result.Result.{Result}
 use Rattle.relay_base.specs.Giving.{GivesOrMemory}
 use Rattle.capture_form.specs.declared.fault.LineKind.{LineKind}
-use Rattle.capture_form.specs.declared.fault.CaptureFault.{CaptureFault}
-use Rattle.capture_form.specs.declared.fault.CaptureFault.TheVariants as capture
 use Rattle.capture_form.specs.declared.refused.LineRefused.{LineRefused}
 use Rattle.capture_form.specs.declared.refused.LineRefused.TheVariants.{Kind, Memory}
 
@@ -21,8 +19,3 @@ States result given = GivesOrMemory (λ x. x) kind_in result given
 -- the texts of words
 abbrev pub texts : List (Bor (List ℕ)) → List (List ℕ)
 texts words = map (λ w. w.now) words
-
--- the fault of a capture at a line
-abbrev pub FaultAt : ℕ → LineRefused → CaptureFault → Type 0
-FaultAt line Memory fault = fault ≡ capture.Memory
-FaultAt line (Kind kind) fault = fault ≡ capture.Line record { line = line; kind = kind }

@@ -1,25 +1,31 @@
 use Rattle.std.proofs.Common.{◌++◌, subst, rules}
 use Rattle.std.specs.List.{flat_map}
+use Rattle.std.specs.Slice.Iter.{chunks_rest}
 use Rattle.journal_text.specs.Inner.Writing.{Carried}
-use Rattle.journal_text.proofs.Parts.{entries-left, Carried-then, Carries-fails}
+use Rattle.journal_text.proofs.Parts.{window-left, Carried-then, Carries-fails}
 use Rattle.journal_text.proofs.writing.carry_entries.Goals as goal
+use Rattle.journal_text.proofs.writing.carry_entries.Goals.{After-branch-carry_window}
 
-pub returns-in_err-carry_entry : goal.returns-in_err-carry_entry
-returns-in_err-carry_entry g c =
-    let print = g.P.Printed.print in
-    let entries = c.args.entries.now in
-    let entry = c.entry-item.result in
-    let text = c.loop-entry.text in
-    let left = entries-left print entries c.loop-entry.entry-index entry text c.loop-entry-test.true c.entry-item.is in
-    let so_far = subst (Carried (g.K.Sink.held c.args.out.now) (g.K.Sink.held c.loop-entry.out) (g.K.Sink.faults c.args.out.now) (g.K.Sink.faults c.loop-entry.out) (c.args.text.now ++ flat_map print entries)) left c.loop-entry.invariant in
-    Carries-fails _ _ _ _ _ _ _ (text ++ print entry) _ _ _ _ _ so_far c.in_err-carry_entry.ensures (search rules)
+-- the print of this window is to come, and that of the windows behind it
+so_far : (g : _) (c : After-branch-carry_window g) → let print = flat_map g.P.Printed.print in
+    Carried (g.K.Sink.held c.args.out.now) (g.K.Sink.held c.loop-window.out) (g.K.Sink.faults c.args.out.now) (g.K.Sink.faults c.loop-window.out)
+    (c.args.text.now ++ print c.args.entries.now)
+    ((c.loop-window.text ++ print c.in-Some.window.now) ++ print (chunks_rest c.next.new.self))
+so_far g c =
+    let print = flat_map g.P.Printed.print in
+    let left = window-left g.P.Printed.print _ c.in-Some.window.now (chunks_rest c.next.new.self) c.loop-window.text c.in-Some.ensures.steps.1.0 in
+    subst (Carried (g.K.Sink.held c.args.out.now) (g.K.Sink.held c.loop-window.out) (g.K.Sink.faults c.args.out.now) (g.K.Sink.faults c.loop-window.out) (c.args.text.now ++ print c.args.entries.now)) left c.loop-window.invariant.3
 
-pub loop-entry-preserved : goal.loop-entry-preserved
-loop-entry-preserved g c =
-    let print = g.P.Printed.print in
-    let entries = c.args.entries.now in
-    let entry = c.entry-item.result in
-    let text = c.loop-entry.text in
-    let left = entries-left print entries c.loop-entry.entry-index entry text c.loop-entry-test.true c.entry-item.is in
-    let so_far = subst (Carried (g.K.Sink.held c.args.out.now) (g.K.Sink.held c.loop-entry.out) (g.K.Sink.faults c.args.out.now) (g.K.Sink.faults c.loop-entry.out) (c.args.text.now ++ flat_map print entries)) left c.loop-entry.invariant in
-    Carried-then _ _ _ _ _ _ _ (text ++ print entry) _ _ so_far c.in_ok-carry_entry.ensures.ok
+pub returns-in_err-carry_window : goal.returns-in_err-carry_window
+returns-in_err-carry_window g c =
+    let before = so_far g (goal.at.returns-in_err-carry_window g c).After-branch-carry_window in
+    Carries-fails _ _ _ _ _ _ _ (c.loop-window.text ++ flat_map g.P.Printed.print c.in-Some.window.now) _ _ _ _ _ before c.in_err-carry_window.ensures (search rules)
+
+pub loop-window-preserved : goal.loop-window-preserved
+loop-window-preserved g c =
+    let before = so_far g (goal.at.loop-window-preserved g c).After-branch-carry_window in (
+      search rules,
+      tt,
+      search rules,
+      Carried-then _ _ _ _ _ _ _ (c.loop-window.text ++ flat_map g.P.Printed.print c.in-Some.window.now) _ _ before c.in_ok-carry_window.ensures.ok,
+    )

@@ -1,0 +1,39 @@
+-- What a line says, whatever stands above it.
+use Rattle.std.specs.Prelude.{ℕ, nat_lt, codes, Bool, true, false, List, length, if◌then◌else◌, Option, Some, None}
+use Rattle.node_head.specs.declared.head.Head.{Head}
+use Rattle.capture_form.specs.Text.{words}
+use Rattle.capture_form.specs.Line.{meaning_of}
+use Rattle.capture_form.specs.Groups.{is_edit, is_commit}
+use Rattle.capture_form.specs.Capture.{is_skipped, begins, barrier_form}
+use Rattle.capture_form.specs.declared.changes.OpenGroup.{OpenGroup}
+use Rattle.capture_form.specs.declared.groups.Standing.{Standing}
+use Rattle.capture_form.specs.declared.groups.Standing.TheVariants.{Edit, Commit, Other}
+use Rattle.capture_form.specs.declared.groups.TheConstants.{MOST_CHANGES}
+use Rattle.capture_form.specs.declared.line_read.EventRead.{EventRead}
+use Rattle.capture_form.specs.declared.line_read.LineRead.{LineRead}
+use Rattle.capture_form.specs.declared.line_read.LineRead.TheVariants.{Skipped, Barrier, Event}
+
+-- how a line may stand among groups, by its words
+abbrev pub standing_of : List (List ℕ) → Standing
+standing_of ws = if is_commit ws then Commit else if is_edit ws then Edit else Other
+
+-- whether a line that may stand so may stand where this group is open
+abbrev pub may_stand_as : Option OpenGroup → Standing → Bool
+may_stand_as None Commit = false
+may_stand_as None Edit = true
+may_stand_as None Other = true
+may_stand_as (Some group) Commit = true
+may_stand_as (Some group) Edit = nat_lt (length group.changes) MOST_CHANGES
+may_stand_as (Some group) Other = false
+
+-- an event line
+abbrev pub event_read : Head → List (List ℕ) → EventRead
+event_read head ws = record { standing = standing_of ws; is_tick = begins (codes "t") ws; meaning = meaning_of head ws }
+
+-- a line that is not skipped
+abbrev pub words_read : Head → List (List ℕ) → LineRead
+words_read head ws = if begins (codes "w") ws then Barrier (standing_of ws) (barrier_form ws) else Event (event_read head ws)
+
+-- each line
+unfoldable pub line_read : Head → List ℕ → LineRead
+line_read head line = if is_skipped line then Skipped else words_read head (words line)
