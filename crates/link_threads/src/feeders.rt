@@ -10,14 +10,16 @@ ghost use Rattle.link_threads.specs.Gates.{AreDealt, AreUsed, HasRun, IsFeederOf
 use crate::door::Door;
 use crate::feed::serve;
 use crate::links::Links;
-use crate::spare::take_spare;
 use lane_gate::{LaneState, MOST_CALLERS, Pass};
-use relay_base::{Memory, Pace};
+use relay_base::{Memory, Pace, take_spare};
 use std::alloc::Global;
 use std::marker::Model;
 use std::sync::Wait;
 use std::thread;
 use std::thread::Threads;
+
+/// How many octets of memory an event takes, with what comes of it.
+const EVENT_OCTETS: usize = 512;
 
 /// A feeder: the gates of the lanes, a pass of each, and the link whose events it delivers.
 #[derive(Drop)]
@@ -49,7 +51,8 @@ impl<'g, L: LaneState, S: Links<L::Event>> Feeder<'g, L, S> {
     fn prepare(&self)
         requires { IsReady L.plan self.now }
     {
-        take_spare(self.alloc, self.links.events(self.link));
+        let events = self.links.events(self.link);
+        take_spare(self.alloc, events.saturating_mul(EVENT_OCTETS));
     }
 
     /// Delivers the events of its link.

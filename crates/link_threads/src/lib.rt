@@ -11,7 +11,6 @@ mod lane_name;
 mod links;
 mod phase_links;
 mod run;
-mod spare;
 
 pub use given::Given;
 pub use lane_name::{LaneName, Named};

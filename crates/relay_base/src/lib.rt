@@ -10,6 +10,7 @@ mod lists;
 mod numbers;
 mod octets;
 mod outside;
+mod spare;
 mod stream;
 mod words;
 
@@ -20,5 +21,6 @@ pub use lists::{Outs, PcList, PlainList, SsnList, StampedList};
 pub use numbers::{Below, Digit, Pc, Ref24, Sls, Ssn};
 pub use octets::{BoxedOctets, Octets};
 pub use outside::{MemSink, MemSource, NoPace, Pace, Sink, Source, StdSink, StdSource};
+pub use spare::take_spare;
 pub use stream::{read_all, write_all};
 pub use words::{Event, Lost, Output, ReadFault, Reason, Request, Stamp, Tell};

@@ -4,6 +4,7 @@ ghost use Rattle.std.specs.Prelude.{◌≡◌, IfOk};
 use crate::errors::Memory;
 use crate::numbers::{Pc, Ref24, Sls, Ssn};
 use crate::octets::{BoxedOctets, Octets};
+use std::alloc::AllocError;
 
 /// Where an event stands in the input: its phase, its link and its line.
 #[derive(Clone, Copy, Debug, PartialEq, Eq)]
@@ -48,7 +49,6 @@ impl Event {
 }
 
 /// What a user asks for.
-#[derive(Clone)]
 pub enum Request {
     Unit {
         sls: Sls,
@@ -143,6 +143,93 @@ impl Drop for Request {
             } => {}
             Request::Coord => {}
             Request::Grant { point: _ } => {}
+        }
+    }
+}
+
+/// A copy of a unit that is asked for.
+fn copied_unit(
+    sls: Sls,
+    class: u8,
+    ret: bool,
+    called: &BoxedOctets,
+    calling: &Option<BoxedOctets>,
+    body: &BoxedOctets,
+) -> Result<Request, AllocError>
+    ensures { let unit = Request.Unit sls class ret called.now calling.now body.now
+        in IfOk result (λ copy. copy ≡ unit) }
+{
+    let called = called.clone()?;
+    let calling = calling.clone()?;
+    let body = body.clone()?;
+    Ok(Request::Unit {
+        sls,
+        class,
+        ret,
+        called,
+        calling,
+        body,
+    })
+}
+
+impl Clone for Request {
+    ghost is_clone = { λ o copy. copy ≡ o };
+
+    fn clone(&self) -> Result<Request, AllocError> {
+        match self {
+            Request::Unit {
+                sls,
+                class,
+                ret,
+                called,
+                calling,
+                body,
+            } => copied_unit(*sls, *class, *ret, called, calling, body),
+            Request::Conn {
+                tag,
+                class,
+                credit,
+                called,
+                body,
+            } => Ok(Request::Conn {
+                tag: *tag,
+                class: *class,
+                credit: *credit,
+                called: called.clone()?,
+                body: body.clone()?,
+            }),
+            Request::Accept {
+                mine,
+                class,
+                credit,
+                body,
+            } => Ok(Request::Accept {
+                mine: *mine,
+                class: *class,
+                credit: *credit,
+                body: body.clone()?,
+            }),
+            Request::Refuse { mine, cause, body } => Ok(Request::Refuse {
+                mine: *mine,
+                cause: *cause,
+                body: body.clone()?,
+            }),
+            Request::Send { mine, body } => Ok(Request::Send {
+                mine: *mine,
+                body: body.clone()?,
+            }),
+            Request::Expedite { mine, body } => Ok(Request::Expedite {
+                mine: *mine,
+                body: body.clone()?,
+            }),
+            Request::Reset { mine } => Ok(Request::Reset { mine: *mine }),
+            Request::Disc { mine, cause, body } => Ok(Request::Disc {
+                mine: *mine,
+                cause: *cause,
+                body: body.clone()?,
+            }),
+            Request::Coord => Ok(Request::Coord),
+            Request::Grant { point } => Ok(Request::Grant { point: *point }),
         }
     }
 }
