@@ -1,7 +1,8 @@
 //! Messages of SCCP management (Q.713, 5): written, and read.
-ghost use Rattle.std.specs.Prelude.{◌≡◌, ◌++◌, IfOk, OnOk, OnErr};
+ghost use Rattle.std.specs.Prelude.{◌≡◌, ◌++◌, Ok, IfOk, OnOk, OnErr};
 ghost use Rattle.std.specs.Option.{option_map};
-ghost use Rattle.scmg_messages.specs.Messages.{code_of, octets_of, sent, status_outputs, format_of, notice_in, is_for_management, data_in};
+ghost use Rattle.scmg_messages.specs.Messages.{code_of, octets_of, sent, status_outputs, format_of, notice_in, is_for_management, data_by, data_in};
+ghost use Rattle.q713_codec.specs.Reading.{seen};
 
 use q713_codec::{LONGEST, View, read};
 use relay_base::limits::POINT_CODES;
@@ -140,6 +141,16 @@ pub fn is_for_management(called: &[u8]) -> bool
     }
 }
 
+/// The data that management hears in a message: those of a UDT for subsystem 1.
+fn data_of<'a>(view: &View<'a>) -> Option<&'a [u8]>
+    ensures { option_map (λ body. body.now) result ≡ data_by (Ok (seen view.now)) }
+{
+    let View::Udt { called, body, .. } = *view else {
+        return None;
+    };
+    is_for_management(called).then_some(body)
+}
+
 /// The data that management hears in octets from the network: those of a UDT for subsystem 1.
 #[tactic(auto, unfolding(crate::specs::Messages::data_in))]
 pub fn data_in(bytes: &[u8]) -> Option<&[u8]>
@@ -149,7 +160,7 @@ pub fn data_in(bytes: &[u8]) -> Option<&[u8]>
         return None;
     }
     match read(bytes) {
-        Ok(View::Udt { called, body, .. }) if is_for_management(called) => Some(body),
-        _ => None,
+        Ok(view) => data_of(&view),
+        Err(_) => None,
     }
 }

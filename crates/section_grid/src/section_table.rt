@@ -1,7 +1,7 @@
 //! The table of a connection section.
-ghost use Rattle.std.specs.Prelude.{◌≡◌};
+ghost use Rattle.std.specs.Prelude.{◌≡◌, IsTrue};
 ghost use Rattle.section_model.specs.Table.{section_row, section_cell};
-ghost use Rattle.section_grid.specs.Inner.Rows.{section_cells};
+ghost use Rattle.section_grid.specs.Inner.Rows.{section_cells, is_message, is_timer, is_effect};
 ghost use Rattle.section_grid.specs.Grids.{IsSectionGrid};
 
 use crate::grid::Grid;
@@ -38,20 +38,25 @@ const OCCASIONS: [Occasion; 27] = [
     Occasion::DoneComes,
 ];
 
-/// What a section does with an event, by the number of its state; in state Gone it does nothing.
+/// The row of an event, by the number of the state; in state Gone nothing is done.
+macro_rules! row {
+    ($occasion:ident; $($event:ident => $($cell:ident)*;)*) => {
+        match $occasion {
+            $(Occasion::$event => [$(Cell::$cell,)* Cell::Nothing],)*
+            _ => unreachable!(),
+        }
+    };
+}
+
+/// What a section does with a message.
 #[tactic(auto, unfolding(section_model::specs::Table::section_row))]
-fn section_row(occasion: Occasion) -> [Cell; 7]
+fn message_row(occasion: Occasion) -> [Cell; 7]
+    requires { IsTrue (is_message occasion) }
     ensures { result ≡ section_cells (section_row occasion) }
 {
-    macro_rules! table {
-        ($($event:ident => $($cell:ident)*;)*) => {
-            match occasion {
-                $(Occasion::$event => [$(Cell::$cell,)* Cell::Nothing],)*
-            }
-        };
-    }
-    table! {
-        // event          Asked      Asking      Waning      Up                           Resetting     Ending
+    row! {
+        occasion;
+        // message        Asked      Asking      Waning      Up                           Resetting     Ending
         Cc             => Discard    Confirm     ConfirmLate Discard                      Discard       Discard;
         Cref           => Discard    Refused     Free        Discard                      Discard       Discard;
         Rlsd           => Discard    Discard     Discard     Released                     Released      ReleaseCollision;
@@ -65,6 +70,18 @@ fn section_row(occasion: Occasion) -> [Cell; 7]
         Rsc            => Discard    Discard     Discard     Discard                      ResetComplete Discard;
         Err            => Discard    Discard     Discard     ErrorReceived                ErrorReceived Free;
         It             => Discard    Discard     Discard     TestReceived                 TestReceived  Discard;
+    }
+}
+
+/// What a section does when a timer fires.
+#[tactic(auto, unfolding(section_model::specs::Table::section_row))]
+fn timer_row(occasion: Occasion) -> [Cell; 7]
+    requires { IsTrue (is_timer occasion) }
+    ensures { result ≡ section_cells (section_row occasion) }
+{
+    row! {
+        occasion;
+        // timer          Asked      Asking      Waning      Up                           Resetting     Ending
         ConnectFires   => Nothing    NotAnswered Free        Nothing                      Nothing       Nothing;
         ResetFires     => Nothing    Nothing     Nothing     Nothing                      ResetExpired  Nothing;
         IarFires       => Nothing    Nothing     Nothing     PeerSilent                   PeerSilent    Nothing;
@@ -72,6 +89,18 @@ fn section_row(occasion: Occasion) -> [Cell; 7]
         RelFires       => Nothing    Nothing     Nothing     Nothing                      Nothing       ReleaseUnanswered;
         IntFires       => Nothing    Nothing     Nothing     Nothing                      Nothing       Free;
         RepeatFires    => Nothing    Nothing     Nothing     Nothing                      Nothing       RepeatRelease;
+    }
+}
+
+/// What a section does with what the other end hands over.
+#[tactic(auto, unfolding(section_model::specs::Table::section_row))]
+fn effect_row(occasion: Occasion) -> [Cell; 7]
+    requires { IsTrue (is_effect occasion) }
+    ensures { result ≡ section_cells (section_row occasion) }
+{
+    row! {
+        occasion;
+        // effect         Asked      Asking      Waning      Up                           Resetting     Ending
         AcceptComes    => PassAccept Nothing     Nothing     Nothing                      Nothing       Nothing;
         RefuseComes    => PassRefuse Nothing     Nothing     Nothing                      Nothing       Nothing;
         EndComes       => Nothing    KeepEnd     Nothing     PassEnd                      PassEnd       Nothing;
@@ -79,6 +108,21 @@ fn section_row(occasion: Occasion) -> [Cell; 7]
         ExpeditedComes => Nothing    Nothing     Nothing     PassExpedited                PassExpedited Nothing;
         ResetComes     => Nothing    Nothing     Nothing     PassReset                    ClearCounts   Nothing;
         DoneComes      => Nothing    Nothing     Nothing     Nothing                      Nothing       Nothing;
+    }
+}
+
+/// What a section does with an event.
+fn section_row(occasion: Occasion) -> [Cell; 7]
+    ensures { result ≡ section_cells (section_row occasion) }
+{
+    match occasion {
+        Occasion::ConnectFires | Occasion::ResetFires => timer_row(occasion),
+        Occasion::IarFires | Occasion::IasFires => timer_row(occasion),
+        Occasion::RelFires | Occasion::IntFires | Occasion::RepeatFires => timer_row(occasion),
+        Occasion::AcceptComes | Occasion::RefuseComes | Occasion::EndComes => effect_row(occasion),
+        Occasion::UnitComes | Occasion::ExpeditedComes => effect_row(occasion),
+        Occasion::ResetComes | Occasion::DoneComes => effect_row(occasion),
+        _ => message_row(occasion),
     }
 }
 

@@ -15,3 +15,4 @@ pub mod Lane
 pub mod Lengths
 pub mod Laws
 pub mod Journals
+pub mod Inner

@@ -1,9 +1,10 @@
 //! What a connection looks at in a message.
-ghost use Rattle.std.specs.Prelude.{◌≡◌, Some};
+ghost use Rattle.std.specs.Prelude.{◌≡◌, Some, IsTrue};
 ghost use Rattle.std.specs.Option.{option_map};
 ghost use Rattle.q713_codec.specs.Reading.{seen};
 ghost use Rattle.section_model.specs.Parameters.{only_dlr, arrival_of, arrival_in};
 ghost use Rattle.section_model.specs.Views.{seen_parameters, seen_arrival};
+ghost use Rattle.section_model.specs.Inner.Groups.{is_of_setup, is_of_data, is_of_upkeep};
 
 use crate::cell::Occasion;
 use q713_codec::{View, protocol_class, read};
@@ -56,22 +57,25 @@ impl<'a> ParametersView<'a> {
     }
 }
 
-/// The message for a connection that a message is: None for CR, and for a message of the connectionless service.
+/// A message for a connection, with the parameters that its type has.
+macro_rules! arrives {
+    ($occasion:ident, $dlr:ident $(, $field:ident: $value:expr)*) => {
+        ArrivalView {
+            occasion: Occasion::$occasion,
+            parameters: ParametersView {
+                $($field: $value,)*
+                ..ParametersView::only_dlr($dlr)
+            },
+        }
+    };
+}
+
+/// What CC, CREF, RLSD or RLC is to a connection.
 #[tactic(auto, unfolding(crate::specs::Parameters::arrival_of))]
-pub fn arrival_of<'a>(view: &View<'a>) -> Option<ArrivalView<'a>>
-    ensures { option_map seen_arrival result ≡ arrival_of (seen view.now) }
+fn arrival_of_setup<'a>(view: &View<'a>) -> ArrivalView<'a>
+    requires { IsTrue (is_of_setup view.now) }
+    ensures { Some (seen_arrival result) ≡ arrival_of (seen view.now) }
 {
-    macro_rules! arrives {
-        ($occasion:ident, $dlr:ident $(, $field:ident: $value:expr)*) => {
-            Some(ArrivalView {
-                occasion: Occasion::$occasion,
-                parameters: ParametersView {
-                    $($field: $value,)*
-                    ..ParametersView::only_dlr($dlr)
-                },
-            })
-        };
-    }
     match *view {
         View::Cc {
             dlr,
@@ -101,6 +105,17 @@ pub fn arrival_of<'a>(view: &View<'a>) -> Option<ArrivalView<'a>>
             importance,
         } => { arrives!(Rlsd, dlr, slr: slr, cause: cause, body: body, importance: importance) }
         View::Rlc { dlr, slr } => arrives!(Rlc, dlr, slr: slr),
+        _ => unreachable!(),
+    }
+}
+
+/// What DT1, DT2, AK, ED or EA is to a connection.
+#[tactic(auto, unfolding(crate::specs::Parameters::arrival_of))]
+fn arrival_of_data<'a>(view: &View<'a>) -> ArrivalView<'a>
+    requires { IsTrue (is_of_data view.now) }
+    ensures { Some (seen_arrival result) ≡ arrival_of (seen view.now) }
+{
+    match *view {
         View::Dt1 {
             dlr,
             segmenting,
@@ -120,6 +135,17 @@ pub fn arrival_of<'a>(view: &View<'a>) -> Option<ArrivalView<'a>>
         } => arrives!(Ak, dlr, pr: receive / 2, credit: Some(credit)),
         View::Ed { dlr, body } => arrives!(Ed, dlr, data_octets: body),
         View::Ea { dlr } => arrives!(Ea, dlr),
+        _ => unreachable!(),
+    }
+}
+
+/// What RSR, RSC, ERR or IT is to a connection.
+#[tactic(auto, unfolding(crate::specs::Parameters::arrival_of))]
+fn arrival_of_upkeep<'a>(view: &View<'a>) -> ArrivalView<'a>
+    requires { IsTrue (is_of_upkeep view.now) }
+    ensures { Some (seen_arrival result) ≡ arrival_of (seen view.now) }
+{
+    match *view {
         View::Rsr { dlr, slr, cause } => arrives!(Rsr, dlr, slr: slr, cause: cause),
         View::Rsc { dlr, slr } => arrives!(Rsc, dlr, slr: slr),
         View::Err { dlr, cause } => arrives!(Err, dlr, cause: cause),
@@ -129,6 +155,22 @@ pub fn arrival_of<'a>(view: &View<'a>) -> Option<ArrivalView<'a>>
             class_octet,
             ..
         } => { arrives!(It, dlr, slr: slr, class: protocol_class(class_octet)) }
+        _ => unreachable!(),
+    }
+}
+
+/// The message for a connection that a message is: None for CR, and for a message of the connectionless service.
+#[tactic(auto, unfolding(crate::specs::Parameters::arrival_of))]
+pub fn arrival_of<'a>(view: &View<'a>) -> Option<ArrivalView<'a>>
+    ensures { option_map seen_arrival result ≡ arrival_of (seen view.now) }
+{
+    match view {
+        View::Cc { .. } | View::Cref { .. } | View::Rlsd { .. } => Some(arrival_of_setup(view)),
+        View::Rlc { .. } => Some(arrival_of_setup(view)),
+        View::Dt1 { .. } | View::Dt2 { .. } | View::Ak { .. } => Some(arrival_of_data(view)),
+        View::Ed { .. } | View::Ea { .. } => Some(arrival_of_data(view)),
+        View::Rsr { .. } | View::Rsc { .. } => Some(arrival_of_upkeep(view)),
+        View::Err { .. } | View::It { .. } => Some(arrival_of_upkeep(view)),
         View::Cr { .. } | View::Udt { .. } | View::Udts { .. } => None,
         View::Xudt { .. } | View::Xudts { .. } | View::Ludt { .. } | View::Ludts { .. } => None,
     }
