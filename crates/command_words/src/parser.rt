@@ -1,6 +1,6 @@
 //! The parser of the words: one level of subcommands.
 ghost use Rattle.std.specs.Prelude.{◌≡◌, false, IfOk};
-ghost use Rattle.clap.specs.Words.{app_of, rule_of};
+ghost use Rattle.clap.specs.Words.{app_of, new_app, rule_of, with_subcommand};
 ghost use Rattle.clap.specs.declared.builder.Command.TheViews.{out-Command};
 ghost use Rattle.command_words.specs.Inner.Parser.{required_rule, generate_app, stream_app, top_app, plain_app, relay_app};
 
@@ -42,21 +42,46 @@ fn top_parser<'a>(alloc: Global) -> Command<'a>
         .subcommand_required(true)
 }
 
+/// A parser with a subcommand without arguments.
+fn with_plain<'a>(
+    alloc: Global,
+    parser: Command<'a>,
+    name: &'a str,
+) -> Result<Command<'a>, AllocError>
+    ensures { let plain = new_app name.entry.now
+        in IfOk result (λ r. app_of r ≡ with_subcommand (app_of parser.entry) plain.top) }
+{
+    parser.subcommand(Command::new(alloc, name))
+}
+
 /// The parser of the subcommands without arguments, `run`, `chain` and `audit`.
 fn plain_parser<'a>(alloc: Global) -> Result<Command<'a>, AllocError>
     ensures { IfOk result (λ r. app_of r ≡ plain_app) }
 {
-    top_parser(alloc)
-        .subcommand(Command::new(alloc, "run"))?
-        .subcommand(Command::new(alloc, "chain"))?
-        .subcommand(Command::new(alloc, "audit"))
+    let run = with_plain(alloc, top_parser(alloc), "run")?;
+    let chain = with_plain(alloc, run, "chain")?;
+    with_plain(alloc, chain, "audit")
+}
+
+/// A parser with `gen`.
+fn with_generate<'a>(alloc: Global, parser: Command<'a>) -> Result<Command<'a>, AllocError>
+    ensures { IfOk result (λ r. app_of r ≡ with_subcommand (app_of parser.entry) generate_app.top) }
+{
+    parser.subcommand(generate_parser(alloc)?)
+}
+
+/// A parser with `m3ua`.
+fn with_stream<'a>(alloc: Global, parser: Command<'a>) -> Result<Command<'a>, AllocError>
+    ensures { IfOk result (λ r. app_of r ≡ with_subcommand (app_of parser.entry) stream_app.top) }
+{
+    parser.subcommand(stream_parser(alloc)?)
 }
 
 /// The parser of `run`, `chain`, `audit`, `gen` and `m3ua`.
 pub fn parser<'a>(alloc: Global) -> Result<Command<'a>, AllocError>
     ensures { IfOk result (λ r. app_of r ≡ relay_app) }
 {
-    plain_parser(alloc)?
-        .subcommand(generate_parser(alloc)?)?
-        .subcommand(stream_parser(alloc)?)
+    let plain = plain_parser(alloc)?;
+    let generate = with_generate(alloc, plain)?;
+    with_stream(alloc, generate)
 }

@@ -3,7 +3,7 @@ ghost use Rattle.std.specs.Prelude.{◌≡◌, ◌≢◌, None, IfOk, map, strin
 ghost use Rattle.std.specs.List.{list_any};
 ghost use Rattle.clap.specs.Words.{kind_of, subcommand_rows_of};
 ghost use Rattle.command_words.specs.Commands.{generate_in, stream_in, command_of_word, command_in};
-ghost use Rattle.command_words.specs.Inner.Parser.{given, texts, is_given, command_found, command_of_rows, is_dashed, asks_help, is_refused};
+ghost use Rattle.command_words.specs.Inner.Parser.{given, texts, is_given, word_found, stream_found, generate_found, command_found, command_of_rows, is_dashed, asks_help, is_refused};
 
 use crate::command::Command;
 use crate::number::number_in;
@@ -91,6 +91,47 @@ fn stream_in(output: &str) -> Option<Command>
     }
 }
 
+/// The command of a subcommand's name, where this is the word.
+fn word_found(name: &str, word: &str) -> Option<Command>
+    ensures { result ≡ word_found name.now word.now }
+{
+    if word == name {
+        command_of_word(name)
+    } else {
+        None
+    }
+}
+
+/// The command of a subcommand's name and its value, where these are the words.
+fn stream_found(name: &str, output: Option<&str>, word: &str, second: &str) -> Option<Command>
+    ensures { result ≡ stream_found name.now (given output.entry) word.now second.now }
+{
+    if name == "m3ua" && word == name && is_given(output, second) {
+        stream_in(second)
+    } else {
+        None
+    }
+}
+
+/// The command of a subcommand's name and its two values, where these are the words.
+fn generate_found(
+    name: &str,
+    number: Option<&str>,
+    lines: Option<&str>,
+    word: &str,
+    first: &str,
+    second: &str,
+) -> Option<Command>
+    ensures { let asked = given number.entry in let most = given lines.entry
+        in result ≡ generate_found name.now asked most word.now first.now second.now }
+{
+    if name == "gen" && word == name && is_given(number, first) && is_given(lines, second) {
+        generate_in(first, second)
+    } else {
+        None
+    }
+}
+
 /// The command of a subcommand's name and its values, where these are the words.
 #[tactic(auto, using(crate::proofs::ParseLemmas::long_none))]
 fn command_found(
@@ -105,17 +146,17 @@ fn command_found(
         result ≡ command_found name.now asked most written (texts words.now) }
 {
     match words {
-        [word] if word.as_str() == name => command_of_word(name),
-        [word, second]
-            if name == "m3ua" && word.as_str() == name && is_given(output, second.as_str()) => {
-            stream_in(second.as_str())
-        }
-        [word, first, second]
-            if name == "gen"
-                && word.as_str() == name
-                && is_given(number, first.as_str())
-                && is_given(lines, second.as_str()) => {
-            generate_in(first.as_str(), second.as_str())
+        [word] => word_found(name, word.as_str()),
+        [word, second] => stream_found(name, output, word.as_str(), second.as_str()),
+        [word, first, second] => {
+            generate_found(
+                name,
+                number,
+                lines,
+                word.as_str(),
+                first.as_str(),
+                second.as_str(),
+            )
         }
         _ => None,
     }

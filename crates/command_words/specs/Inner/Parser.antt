@@ -45,14 +45,26 @@ abbrev pub is_given : Option Text → Text → Bool
 is_given None word = false
 is_given (Some text) word = same word text
 
+-- the command of a name, where this is the word
+abbrev pub word_found : Text → Text → Option Command
+word_found name word = if same word name then command_of_word name else None
+
+-- the command of a name and of what was given, where these are the two words
+abbrev pub stream_found : Text → Option Text → Text → Text → Option Command
+stream_found name output word second =
+    if same name (codes "m3ua") && (same word name && is_given output second) then stream_in second else None
+
+-- the command of a name and of what was given, where these are the three words
+abbrev pub generate_found : Text → Option Text → Option Text → Text → Text → Text → Option Command
+generate_found name number lines word first second =
+    if same name (codes "gen") && (same word name && (is_given number first && is_given lines second)) then generate_in first second else None
+
 -- the command of a name and of what was given, where these are the words
 abbrev pub command_found : Text → Option Text → Option Text → Option Text → List Text → Option Command
 command_found name number lines output [] = None
-command_found name number lines output (word ∷ []) = if same word name then command_of_word name else None
-command_found name number lines output (word ∷ second ∷ []) =
-    if same name (codes "m3ua") && (same word name && is_given output second) then stream_in second else None
-command_found name number lines output (word ∷ first ∷ second ∷ []) =
-    if same name (codes "gen") && (same word name && (is_given number first && is_given lines second)) then generate_in first second else None
+command_found name number lines output (word ∷ []) = word_found name word
+command_found name number lines output (word ∷ second ∷ []) = stream_found name output word second
+command_found name number lines output (word ∷ first ∷ second ∷ []) = generate_found name number lines word first second
 command_found name number lines output _ = None
 
 -- the command of the subcommand that was found, and its values
