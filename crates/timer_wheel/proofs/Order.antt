@@ -31,6 +31,15 @@ all_stay alarms tick soonest h early =
     filter_all (not_fires tick) alarms
     (All-weaker (λ (a : Alarm). soonest ≤ a.tick) (λ a. not_fires tick a ≡ true) (λ a bound. ap not (late tick soonest a.tick early bound)) alarms h)
 
+-- those that stay of a whole are those of its parts
+pub stay_parted : (tick : ℕ) (all left : List Alarm) (x : Alarm) (right before after : List Alarm) → all ≡ left ++ x ∷ right
+    → before ≡ filter (not_fires tick) left → after ≡ filter (not_fires tick) right → before ++ filter (not_fires tick) (x ∷ []) ++ after ≡ filter (not_fires tick) all
+stay_parted tick all left x right before after is first later =
+    rw (is, first, later)
+    (append_assoc (filter (not_fires tick) left) (filter (not_fires tick) (x ∷ [])) (filter (not_fires tick) right)
+    ∙ ap (λ l. filter (not_fires tick) left ++ l) (sym (filter-append (not_fires tick) (x ∷ []) right))
+    ∙ sym (filter-append (not_fires tick) left (x ∷ right)))
+
 -- before the soonest tick none is started again
 pub none_again : (alarms : List Alarm) (tick most soonest : ℕ) → All (λ a. soonest ≤ a.tick) alarms → tick < soonest → map (started_again tick most) alarms ≡ alarms
 none_again [] tick most soonest h early = refl

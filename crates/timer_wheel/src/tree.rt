@@ -268,8 +268,8 @@ fn fork_unless_due(
     ensures alarms { let own = filter (not_fires tick) (node.value.alarm ∷ [])
         in alarms result ≡ alarms left ++ own ++ alarms right }
     ensures sound { IsSound result }
-    ensures nodes { let own = filter (not_fires tick) (node.value.alarm ∷ [])
-        in vec_len spare.new + length own ≡ vec_len spare.old + 1 }
+    ensures nodes { let sides = length (alarms left) + length (alarms right)
+        in vec_len spare.new + length (alarms result) ≡ vec_len spare.old + 1 + sides }
     ensures capacity { vec_capacity spare.new ≡ vec_capacity spare.old }
 {
     if node.alarm.tick <= tick {
@@ -281,7 +281,6 @@ fn fork_unless_due(
 }
 
 /// Drops the timers that fire up to this tick. Their nodes become spare.
-#[tactic(auto, using(crate::proofs::Order::all_stay))]
 pub(crate) fn without_due(tree: Tree, tick: u64, spare: &mut Vec<Box<Node>>) -> Tree
     requires sound { IsSound tree }
     requires room { vec_len spare.old + length (alarms tree) ≤ vec_capacity spare.old }
