@@ -4,7 +4,7 @@ ghost use Rattle.std.specs.Io.KnownBytes.{Appends};
 ghost use Rattle.relay_base.specs.Causes.{Rose};
 ghost use Rattle.relay_base.specs.Streams.{AppendedPart};
 ghost use Rattle.journal_text.specs.Inner.Texts.{Puts};
-ghost use Rattle.journal_text.specs.Inner.Writing.{Writes, Carries};
+ghost use Rattle.journal_text.specs.Inner.Writing.{Writes, Joins};
 ghost use Rattle.chain_step.specs.Chains.{run_in};
 ghost use Rattle.chain_step.specs.Steps.{is_step};
 ghost use Rattle.chain_form.specs.Chain.{AreSteps, IsInput};
@@ -50,8 +50,8 @@ fn carry_step<K: Sink>(
     requires step { IsTrue (is_step chain.old.nodes line.now.step) }
     requires few { length chain.old.steps < 4_294_967_295 }
     ensures chain { OnOk result (chain.new ≡ after_line chain.old line.now) }
-    ensures text { Carries (K.held out.old) (K.held out.new) (K.faults out.old) (K.faults out.new)
-        (text.old ++ step_text (run_in chain.old) line.now) text.new result }
+    ensures text { let print = step_text (run_in chain.old) line.now in
+        Joins K.held K.faults out.old out.new text.old text.new print result }
 {
     put_step(alloc, chain, line, text)?;
     write_if_long(out, text)
@@ -67,8 +67,8 @@ fn carry_steps<K: Sink>(
 ) -> Result<(), WriteFault>
     requires steps { AreSteps chain.old.nodes lines.now }
     requires few { length chain.old.steps + length lines.now ≤ 4_294_967_295 }
-    ensures { Carries (K.held out.old) (K.held out.new) (K.faults out.old) (K.faults out.new)
-        (text.old ++ text_from (run_in chain.old) lines.now) (text.new ++ text_from (run_in chain.new) []) result }
+    ensures { let waits = text.new ++ text_from (run_in chain.new) [] in
+        Joins K.held K.faults out.old out.new text.old waits (text_from (run_in chain.old) lines.now) result }
 {
     for line in lines {
         carry_step(alloc, out, text, chain, line)?;

@@ -11,6 +11,9 @@ use plant_core::{Answer, Asked, ControlEntry, Entry, EntryList, RouteCause};
 use relay_base::{Output, Stamp};
 use std::alloc::{AllocError, Global};
 
+/// For how many octets of text an entry is given memory: a message of a hundred octets takes as many.
+const ENTRY_OCTETS: usize = 256;
+
 /// An entry of a journal, which has a print.
 pub(crate) trait Printed {
     ghost use Rattle.std.specs.Prelude.{◌≡◌, ℕ, List, ◌++◌, OnOk};
@@ -125,11 +128,12 @@ pub(crate) fn put_entries<P: Printed>(text: &mut Text, entries: &[P]) -> Result<
     Ok(())
 }
 
-/// The print of entries, as a text of its own.
+/// The print of entries, as a text of its own, whose memory is taken at once: while a text grows the other threads wait for the kernel.
 pub(crate) fn print_entries<P: Printed>(alloc: Global, entries: &[P]) -> Result<Text, AllocError>
     ensures { IfOk result (λ text. text ≡ flat_map P.print entries.now) }
 {
-    let mut text = Text::of(alloc, "")?;
+    let octets = entries.len().saturating_mul(ENTRY_OCTETS);
+    let mut text = Text::with_capacity(alloc, octets)?;
     put_entries(&mut text, entries)?;
     Ok(text)
 }

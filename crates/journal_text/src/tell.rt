@@ -1,6 +1,7 @@
 //! The text of what a user is told, of what is lost, and of outputs. Each word follows a space.
-ghost use Rattle.std.specs.Prelude.{◌≡◌, ◌++◌, [], ◌∷◌, codes};
-ghost use Rattle.journal_text.specs.Inner.Texts.{Puts};
+ghost use Rattle.std.specs.Prelude.{◌≡◌, ◌++◌, [], ◌∷◌, codes, IsTrue};
+ghost use Rattle.std.specs.Fmt.{decimal};
+ghost use Rattle.journal_text.specs.Inner.Texts.{Puts, is_connected};
 ghost use Rattle.journal_text.specs.Print.{spaced, up_text, reason_text, unit_text, data_text, tell_text, read_fault_text, lost_text, output_line};
 
 use crate::text::Text;
@@ -47,6 +48,21 @@ fn put_unit(
     text.octets(body.as_slice())
 }
 
+/// A word, the reference of a connection, its class and its credit.
+fn put_opening(
+    text: &mut Text,
+    word: &str,
+    mine: Ref24,
+    class: u8,
+    credit: u8,
+) -> Result<(), AllocError>
+    ensures { let part = spaced (word.now ∷ decimal mine ∷ decimal class ∷ decimal credit ∷ []) in
+        Puts result text.old text.new (codes " " ++ part) }
+{
+    put_pair(text, word, mine.number(), class)?;
+    text.number(credit)
+}
+
 fn put_conn(
     text: &mut Text,
     mine: Ref24,
@@ -59,10 +75,7 @@ fn put_conn(
     ensures { let told = Tell.Conn mine class credit called.now calling.now body.now in
         Puts result text.old text.new (codes " " ++ tell_text told) }
 {
-    text.word("conn")?;
-    text.number(mine.number())?;
-    text.number(class)?;
-    text.number(credit)?;
+    put_opening(text, "conn", mine, class, credit)?;
     text.octets(called.as_slice())?;
     text.optional(calling)?;
     text.optional(body)
@@ -79,10 +92,7 @@ fn put_confirm(
     ensures { let told = Tell.Confirm mine class credit called.now body.now in
         Puts result text.old text.new (codes " " ++ tell_text told) }
 {
-    text.word("confirm")?;
-    text.number(mine.number())?;
-    text.number(class)?;
-    text.number(credit)?;
+    put_opening(text, "confirm", mine, class, credit)?;
     text.optional(called)?;
     text.optional(body)
 }
@@ -155,23 +165,12 @@ pub fn put_words(text: &mut Text, first: &str, second: &str) -> Result<(), Alloc
     text.word(second)
 }
 
-/// Appends a space and the text of what a user is told.
-pub fn put_tell(text: &mut Text, tell: &Tell) -> Result<(), AllocError>
+/// What a user is told of a connection.
+fn put_connected(text: &mut Text, tell: &Tell) -> Result<(), AllocError>
+    requires { IsTrue (is_connected tell.now) }
     ensures { Puts result text.old text.new (codes " " ++ tell_text tell.now) }
 {
     match tell {
-        Tell::Unit {
-            class,
-            called,
-            calling,
-            body,
-        } => put_unit(text, "unit", *class, called, calling, body),
-        Tell::Notice {
-            cause,
-            called,
-            calling,
-            body,
-        } => put_unit(text, "notice", *cause, called, calling, body),
         Tell::Conn {
             mine,
             class,
@@ -194,12 +193,34 @@ pub fn put_tell(text: &mut Text, tell: &Tell) -> Result<(), AllocError>
         Tell::Renewed { mine, cause } => put_pair(text, "reset", mine.number(), *cause),
         Tell::ResetDone { mine } => put_number(text, "reset-done", mine.number()),
         Tell::Disc { mine, cause, body } => put_disc(text, *mine, *cause, body),
+        _ => unreachable!(),
+    }
+}
+
+/// Appends a space and the text of what a user is told.
+pub fn put_tell(text: &mut Text, tell: &Tell) -> Result<(), AllocError>
+    ensures { Puts result text.old text.new (codes " " ++ tell_text tell.now) }
+{
+    match tell {
+        Tell::Unit {
+            class,
+            called,
+            calling,
+            body,
+        } => put_unit(text, "unit", *class, called, calling, body),
+        Tell::Notice {
+            cause,
+            called,
+            calling,
+            body,
+        } => put_unit(text, "notice", *cause, called, calling, body),
         Tell::State { ssn, point, up } => put_state(text, *ssn, *point, *up),
         Tell::Point { point, up } => put_point(text, *point, *up),
         Tell::Coord { point } => put_number(text, "coord", point.number()),
         Tell::Granted { point } => put_number(text, "granted", point.number()),
         Tell::Denied { point } => put_number(text, "denied", point.number()),
         Tell::No(reason) => put_words(text, "no", reason_text(*reason)),
+        _ => put_connected(text, tell),
     }
 }
 

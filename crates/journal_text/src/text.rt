@@ -32,6 +32,14 @@ impl Text {
         Ok(Text { waiting })
     }
 
+    /// An empty text, which has memory for so many octets.
+    pub(crate) fn with_capacity(alloc: Global, octets: usize) -> Result<Text, AllocError>
+        ensures { IfOk result (λ t. t ≡ []) }
+    {
+        let waiting = Vec::with_capacity(alloc, octets)?;
+        Ok(Text { waiting })
+    }
+
     /// How many octets wait.
     pub fn len(&self) -> usize
         ensures { result ≡ length self.now }

@@ -1,11 +1,11 @@
 //! The print of a book, written to a sink, a long one in parts.
-ghost use Rattle.std.specs.Prelude.{◌≡◌, ◌≢◌, ◌++◌, [], Err, OnOk, OnErr};
+ghost use Rattle.std.specs.Prelude.{◌≡◌, ◌≢◌, ℕ, List, [], Err, IfOk, OnOk, OnErr};
 ghost use Rattle.std.specs.List.{flat_map};
 ghost use Rattle.std.specs.Io.KnownBytes.{Appends};
 ghost use Rattle.relay_base.specs.Causes.{Rose};
 ghost use Rattle.relay_base.specs.Streams.{AppendedPart};
 ghost use Rattle.journal_text.specs.Print.{lanes_text, book_text};
-ghost use Rattle.journal_text.specs.Inner.Writing.{Writes, Carries, with_lanes};
+ghost use Rattle.journal_text.specs.Inner.Writing.{Writes, CarriesTo, Joins, with_lanes};
 
 use crate::book::Book;
 use crate::entries::{Printed, print_entries, put_entries, put_lane};
@@ -76,14 +76,21 @@ pub fn write_text<K: Sink>(out: &mut K, text: &Text) -> Result<(), WriteFault>
 
 /// Writes a text that waits, where it is long, and then takes it away.
 pub fn write_if_long<K: Sink>(out: &mut K, text: &mut Text) -> Result<(), WriteFault>
-    ensures { Carries (K.held out.old) (K.held out.new) (K.faults out.old) (K.faults out.new)
-        text.old text.new result }
+    ensures { CarriesTo K.held K.faults out.old out.new text.old text.new result }
 {
     if text.len() >= LONG {
         write_text(out, text)?;
         text.clear();
     }
     Ok(())
+}
+
+/// Writes the print of a block, where there was memory for it.
+fn write_block<K: Sink>(out: &mut K, print: Result<Text, AllocError>) -> Result<(), WriteFault>
+    ensures { (block : List ℕ) → IfOk print (λ text. text ≡ block) →
+        CarriesTo K.held K.faults out.old out.new block [] result }
+{
+    write_text(out, &print?)
 }
 
 /// Writes the print of entries, in blocks. Each is printed into a text of its own, in a thread where one can be made, and the texts are
@@ -94,8 +101,7 @@ fn write_blocks<R: Threads + Sync, K: Sink, P: Printed + Sync>(
     out: &mut K,
     entries: &[P],
 ) -> Result<(), WriteFault>
-    ensures { Carries (K.held out.old) (K.held out.new) (K.faults out.old) (K.faults out.new)
-        (flat_map P.print entries.now) [] result }
+    ensures { CarriesTo K.held K.faults out.old out.new (flat_map P.print entries.now) [] result }
 {
     let size = entries.len().div_ceil(BLOCKS).max(FEW);
     let prints = thread::map_chunks(
@@ -106,7 +112,7 @@ fn write_blocks<R: Threads + Sync, K: Sink, P: Printed + Sync>(
         &|_, block| print_entries(alloc, block),
     )?;
     for print in prints {
-        write_text(out, &print?)?;
+        write_block(out, print)?;
     }
     Ok(())
 }
@@ -119,8 +125,7 @@ fn carry_window<R: Threads + Sync, K: Sink, P: Printed + Sync>(
     text: &mut Text,
     entries: &[P],
 ) -> Result<(), WriteFault>
-    ensures { Carries (K.held out.old) (K.held out.new) (K.faults out.old) (K.faults out.new)
-        (text.old ++ flat_map P.print entries.now) text.new result }
+    ensures { Joins K.held K.faults out.old out.new text.old text.new (flat_map P.print entries.now) result }
 {
     if entries.len() <= FEW {
         put_entries(text, entries)?;
@@ -139,8 +144,7 @@ fn carry_entries<R: Threads + Sync, K: Sink, P: Printed + Sync>(
     text: &mut Text,
     entries: &[P],
 ) -> Result<(), WriteFault>
-    ensures { Carries (K.held out.old) (K.held out.new) (K.faults out.old) (K.faults out.new)
-        (text.old ++ flat_map P.print entries.now) text.new result }
+    ensures { Joins K.held K.faults out.old out.new text.old text.new (flat_map P.print entries.now) result }
 {
     for window in entries.chunks(WINDOW) {
         carry_window(rt, alloc, out, text, window)?;
@@ -157,8 +161,8 @@ fn carry_lanes<R: Threads + Sync, K: Sink>(
     name: &str,
     lanes: &[EntryList],
 ) -> Result<(), WriteFault>
-    ensures { Carries (K.held out.old) (K.held out.new) (K.faults out.old) (K.faults out.new)
-        (text.old ++ lanes_text name.now 0 lanes.now) text.new result }
+    ensures { let print = lanes_text name.now 0 lanes.now in
+        Joins K.held K.faults out.old out.new text.old text.new print result }
 {
     for (number, lane) in lanes.iter().enumerate() {
         put_lane(text, name, number)?;
@@ -175,8 +179,7 @@ fn carry_book<R: Threads + Sync, K: Sink>(
     text: &mut Text,
     book: &Book,
 ) -> Result<(), WriteFault>
-    ensures { Carries (K.held out.old) (K.held out.new) (K.faults out.old) (K.faults out.new)
-        (with_lanes text.old book.now) text.new result }
+    ensures { CarriesTo K.held K.faults out.old out.new (with_lanes text.old book.now) text.new result }
 {
     carry_entries(rt, alloc, out, text, book.control.as_slice())?;
     carry_lanes(rt, alloc, out, text, "conn", book.conns.as_slice())?;

@@ -32,6 +32,14 @@ pub record Carries {T : Type 0} (old new : Option (List ℕ)) (before now : ℕ)
   pub fault : result ≡ Err write_fault.Sink → Rose before now
   pub kept : result ≢ Err write_fault.Sink → now ≡ before
 
+-- the same of a sink before and after, by what it holds and how often it failed
+abbrev pub CarriesTo : {S T : Type 0} → (S → Option (List ℕ)) → (S → ℕ) → S → S → List ℕ → List ℕ → Result T WriteFault → Type 0
+CarriesTo held faults old new text waits result = Carries (held old) (held new) (faults old) (faults new) text waits result
+
+-- a print joined the text that waited, and so much of both still waits
+abbrev pub Joins : {S T : Type 0} → (S → Option (List ℕ)) → (S → ℕ) → S → S → List ℕ → List ℕ → List ℕ → Result T WriteFault → Type 0
+Joins held faults old new text waits print result = CarriesTo held faults old new (text ++ print) waits result
+
 -- a text, and behind it the print of all lanes
 abbrev pub with_lanes : List ℕ → Book → List ℕ
 with_lanes text book = text ++ controls_text book.control ++ lanes_text (codes "conn") 0 book.conns ++ lanes_text (codes "data") 0 book.units

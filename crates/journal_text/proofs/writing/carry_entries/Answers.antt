@@ -1,4 +1,5 @@
-use Rattle.std.proofs.Common.{◌++◌, subst, rules}
+use Rattle.std.proofs.Common.{◌≡◌, ◌≤◌, ◌++◌, [], length, append-nil, sym, ap, ◌∙◌, subst, arith, rules}
+use Rattle.std.proofs.lemmas.List.{drop_all}
 use Rattle.std.specs.List.{flat_map}
 use Rattle.std.specs.Slice.Iter.{chunks_rest}
 use Rattle.journal_text.specs.Inner.Writing.{Carried}
@@ -29,3 +30,13 @@ loop-window-preserved g c =
       search rules,
       Carried-then _ _ _ _ _ _ _ (c.loop-window.text ++ flat_map g.P.Printed.print c.in-Some.window.now) _ _ before c.in_ok-carry_window.ensures.ok,
     )
+
+pub returns : goal.returns
+returns g c =
+    let print = flat_map g.P.Printed.print in
+    let rest = chunks_rest c.loop-window.window-iterator in
+    let ended : length rest ≡ 0 = c.in-None.ensures.steps.1.0 in
+    let none : rest ≡ [] = drop_all 0 rest (subst (λ n. n ≤ 0) (sym ended) (omega arith)) in
+    let left = ap (λ l. c.loop-window.text ++ print l) none ∙ append-nil c.loop-window.text in
+    let carried = subst (Carried (g.K.Sink.held c.args.out.now) (g.K.Sink.held c.loop-window.out) (g.K.Sink.faults c.args.out.now) (g.K.Sink.faults c.loop-window.out) (c.args.text.now ++ print c.args.entries.now)) left c.loop-window.invariant.3 in
+    record { ok = carried; err = tt; fault = λ s. search rules; kept = λ s. carried.kept }
