@@ -1,5 +1,5 @@
 -- What the reader has read after so many generated lines.
-use Rattle.std.proofs.Common.{◌≡◌, ℕ, zero, suc, ◌+◌, ◌*◌, ◌/◌, ◌%◌, ◌≤◌, ◌<◌, ◌==◌, nat_lt, nat_le, codes, false, cond, List, [], ◌∷◌, ◌++◌, None, Result, Ok, Err, refl, sym, ap, ◌∙◌, arith, append_assoc, inl, inr}
+use Rattle.std.proofs.Common.{◌≡◌, ℕ, zero, suc, ◌+◌, ◌*◌, ◌/◌, ◌%◌, ◌≤◌, ◌<◌, ◌==◌, nat_lt, nat_le, codes, not, Bool, true, false, cond, List, [], ◌∷◌, ◌++◌, None, Result, Ok, Err, refl, sym, ap, ◌∙◌, arith, append_assoc, inl, inr}
 use Rattle.std.specs.Prelude.{◌≢◌}
 use Rattle.std.proofs.lemmas.Bool.{cases_Bool, eqb-true, eqb-false}
 use Rattle.std.proofs.lemmas.Bool.Decides.{nat_tests}
@@ -19,7 +19,9 @@ use Rattle.capture_form.specs.Text.{words}
 use Rattle.capture_form.specs.declared.fault.CaptureFault.{CaptureFault}
 use Rattle.capture_form.specs.declared.meaning.Meaning.TheVariants.{Event as Brings}
 use Rattle.capture_form.specs.declared.reading.Reading.{Reading}
-use Rattle.capture_form.specs.Inner.Reader.{phase_ended, meaning_taken, line_added, line_taken, lines_taken, reading_from}
+use Rattle.capture_form.specs.Capture.{is_skipped}
+use Rattle.capture_form.specs.Inner.Stated.{numbered}
+use Rattle.capture_form.specs.Inner.Reader.{phase_ended, meaning_taken, line_added, at_number, words_taken, lines_taken, all_taken, nothing_read}
 use Rattle.capture_generator.specs.Generator.{generator_head, Phases, number_after, event_at, stamp_at, stamped_at, events_after, block_phase, tick_phase, whole_blocks}
 use Rattle.capture_generator.specs.Text.{Lines, line_at, words_of_kind, barriers_after, lines_after}
 use Rattle.capture_generator.proofs.StepLemmas.{number-add}
@@ -28,21 +30,54 @@ use Rattle.book_law.proofs.GeneratorEvents.{Writes, kind-writes}
 
 -- ---- lines one after another
 
-then_lines : (head : Head) (r s : Reading) (xs ys : Lines) → lines_taken head r xs ≡ Ok s → lines_taken head r (xs ++ ys) ≡ lines_taken head s ys
-unfolding lines_taken
+-- the next line has the next number
+abbrev next : Reading → Reading
+next r = record r { line = r.line + 1 }
+
+-- what is read by a line, of which the number is that of the reading
+abbrev step : Head → Reading → List ℕ → Result Reading CaptureFault
+step head r line = cond (is_skipped line) (Ok (next r)) (words_taken head r (words line) >>= (λ s. Ok (at_number s (r.line + 1))))
+
+unfoldable steps : Head → Reading → Lines → Result Reading CaptureFault
+steps head r [] = Ok r
+steps head r (line ∷ more) = step head r line >>= (λ s. steps head s more)
+
+-- that is what is taken of the lines that state something
+stated-line : (head : Head) (r : Reading) (number : ℕ) (line : List ℕ) (more : Lines) (s : Reading) (skipped : Bool) (m : Result Reading CaptureFault) → m ≡ words_taken head (at_number r number) (words line)
+    → ((t : Reading) → steps head (at_number t (number + 1)) more ≡ Ok s → (last : ℕ) × (lines_taken head t (numbered (number + 1) more) ≡ Ok (at_number s last)))
+    → (cond skipped (Ok (at_number r (number + 1))) (m >>= (λ t. Ok (at_number t (number + 1)))) >>= (λ t. steps head t more)) ≡ Ok s
+    → (last : ℕ) × (lines_taken head r (cond (not skipped) ((number, line) ∷ numbered (number + 1) more) (numbered (number + 1) more)) ≡ Ok (at_number s last))
+unfolding all_taken
+stated-line head r number line more s true m is later e = later r e
+stated-line head r number line more s false (Err fault) is later e = absurd cc
+stated-line head r number line more s false (Ok t) is later e =
+    let rest = later t e in
+    (rest.0, ap (λ (x : Result Reading CaptureFault). x >>= (λ t. lines_taken head t (numbered (number + 1) more))) (sym is) ∙ rest.1)
+
+steps-taken : (head : Head) (r : Reading) (number : ℕ) (ls : Lines) (s : Reading) → steps head (at_number r number) ls ≡ Ok s
+    → (last : ℕ) × (lines_taken head r (numbered number ls) ≡ Ok (at_number s last))
+unfolding steps all_taken
+steps-taken head r number [] s e =
+    let same : at_number r number ≡ s = cc in
+    (r.line, ap (λ t. Ok (at_number t r.line)) same)
+steps-taken head r number (line ∷ more) s e =
+    stated-line head r number line more s (is_skipped line) (words_taken head (at_number r number) (words line)) refl (λ t e. steps-taken head t (number + 1) more s e) e
+
+then_lines : (head : Head) (r s : Reading) (xs ys : Lines) → steps head r xs ≡ Ok s → steps head r (xs ++ ys) ≡ steps head s ys
+unfolding steps
 then_lines head r s [] ys h =
     let same : r ≡ s = cc in
-    ap (λ t. lines_taken head t ys) same
-then_lines head r s (line ∷ more) ys h = after (λ t e. then_lines head t s more ys e) (line_taken head r line) h
+    ap (λ t. steps head t ys) same
+then_lines head r s (line ∷ more) ys h = after (λ t e. then_lines head t s more ys e) (step head r line) h
   where
-    after : ((t : Reading) → lines_taken head t more ≡ Ok s → lines_taken head t (more ++ ys) ≡ lines_taken head s ys)
-        → (m : Result Reading CaptureFault) → (m >>= (λ t. lines_taken head t more)) ≡ Ok s → (m >>= (λ t. lines_taken head t (more ++ ys))) ≡ lines_taken head s ys
+    after : ((t : Reading) → steps head t more ≡ Ok s → steps head t (more ++ ys) ≡ steps head s ys)
+        → (m : Result Reading CaptureFault) → (m >>= (λ t. steps head t more)) ≡ Ok s → (m >>= (λ t. steps head t (more ++ ys))) ≡ steps head s ys
     after f (Ok t) e = f t e
     after f (Err fault) e = absurd cc
 
-next_line : (head : Head) (r s : Reading) (line : List ℕ) (more : Lines) → line_taken head r line ≡ Ok s → lines_taken head r (line ∷ more) ≡ lines_taken head s more
-unfolding lines_taken
-next_line head r s line more h = ap (λ (m : Result Reading CaptureFault). m >>= (λ t. lines_taken head t more)) h
+next_line : (head : Head) (r s : Reading) (line : List ℕ) (more : Lines) → step head r line ≡ Ok s → steps head r (line ∷ more) ≡ steps head s more
+unfolding steps
+next_line head r s line more h = ap (λ (m : Result Reading CaptureFault). m >>= (λ t. steps head t more)) h
 
 not_yet : (n most : ℕ) → n < most → nat_le most n ≡ false
 not_yet n most h = grind (arith, nat_tests)
@@ -52,19 +87,18 @@ not_above n most h = grind (arith, nat_tests)
 
 -- an event line
 event_line : (ws : Lines) (event : Event) (r : Reading) → Writes ws event → r.group ≡ None → r.events < MOST_LINES
-    → line_taken generator_head r (spaced ws) ≡ Ok (line_added (meaning_taken r (Brings 1 (Plain event))))
-unfolding line_taken
+    → step generator_head r (spaced ws) ≡ Ok (next (line_added (meaning_taken r (Brings 1 (Plain event)))))
 event_line ws event r h alone few =
     rw (h.stated, words-spaced ws h.each, h.no_barrier, not_yet r.events MOST_LINES few, h.no_tick, alone, h.no_commit, h.means) refl
 
 -- a barrier, and a tick
-barrier_line : (r : Reading) → r.group ≡ None → r.phase ≤ MOST_BARRIERS → line_taken generator_head r (codes "w") ≡ Ok (phase_ended generator_head r)
-unfolding line_taken words
+barrier_line : (r : Reading) → r.group ≡ None → r.phase ≤ MOST_BARRIERS → step generator_head r (codes "w") ≡ Ok (next (phase_ended generator_head r))
+unfolding words
 barrier_line r alone h = rw (not_above r.phase MOST_BARRIERS h, alone) refl
 
 tick_line : (r : Reading) → r.group ≡ None → r.events < MOST_LINES → r.ticks < MOST_TICK_LINES
-    → line_taken generator_head r (codes "t") ≡ Ok (line_added (meaning_taken (record r { ticks = r.ticks + 1 }) (Brings 0 (Plain Tick))))
-unfolding line_taken words
+    → step generator_head r (codes "t") ≡ Ok (next (line_added (meaning_taken (record r { ticks = r.ticks + 1 }) (Brings 0 (Plain Tick)))))
+unfolding words
 tick_line r alone few h = rw (not_yet r.events MOST_LINES few, not_yet r.ticks MOST_TICK_LINES h, alone) refl
 
 -- ---- what was read
@@ -111,7 +145,7 @@ one_more x q r n at h =
     ∙ more_events y (BLOCK * q) r
 
 event-read : (x q r n : ℕ) → n ≡ BLOCK * q + r → r < BLOCK → n < MOST_GENERATED_LINES
-    → line_taken generator_head (read_at x q r) (line_at (number_after x (n + 1)) n) ≡ Ok (read_at x q (r + 1))
+    → step generator_head (read_at x q r) (line_at (number_after x (n + 1)) n) ≡ Ok (read_at x q (r + 1))
 event-read x q r n at h few =
     let picked : ℕ = number_after x (n + 1) in
     event_line (words_of_kind (picked / 65536 % 4) n) (event_at picked n) (read_at x q r) (kind-writes (picked / 65536 % 4) n) refl (omega (arith, at, h, few))
@@ -151,51 +185,56 @@ ended_same x q =
     ∙ ap (λ k. reading (whole_blocks x (q + 1)) none_read k line events (q + 1)) (omega arith)
     ∙ reading_same (whole_blocks x (q + 1)) none_read none_read (1 + 2 * (q + 1)) line (6 + (BLOCK + 3) * (q + 1) + 0) events ((BLOCK + 1) * (q + 1) + 0) (q + 1) refl (omega arith) (omega arith)
 
-block-read : (x q : ℕ) → q < 498 → lines_taken generator_head (read_at x q BLOCK) (codes "w" ∷ codes "t" ∷ codes "w" ∷ []) ≡ Ok (read_at x (q + 1) 0)
-unfolding lines_taken
+block-read : (x q : ℕ) → q < 498 → steps generator_head (read_at x q BLOCK) (codes "w" ∷ codes "t" ∷ codes "w" ∷ []) ≡ Ok (read_at x (q + 1) 0)
+unfolding steps
 block-read x q h =
     let first : Reading = read_at x q BLOCK in
-    let second : Reading = phase_ended generator_head first in
-    let third : Reading = line_added (meaning_taken (record second { ticks = second.ticks + 1 }) (Brings 0 (Plain Tick))) in
+    let second : Reading = next (phase_ended generator_head first) in
+    let third : Reading = next (line_added (meaning_taken (record second { ticks = second.ticks + 1 }) (Brings 0 (Plain Tick)))) in
     next_line generator_head first second (codes "w") (codes "t" ∷ codes "w" ∷ []) (barrier_line first refl (omega (arith, h)))
     ∙ next_line generator_head second third (codes "t") (codes "w" ∷ []) (tick_line second refl (omega (arith, h)) (omega (arith, h)))
-    ∙ next_line generator_head third (phase_ended generator_head third) (codes "w") [] (barrier_line third refl (omega (arith, h)))
+    ∙ next_line generator_head third (next (phase_ended generator_head third)) (codes "w") [] (barrier_line third refl (omega (arith, h)))
     ∙ ap Ok (ended_same x q)
 
 -- ---- all lines
 
 barriers-read : (x q r n : ℕ) → n ≡ BLOCK * q + r → r < BLOCK → n < MOST_GENERATED_LINES
-    → lines_taken generator_head (read_at x q (r + 1)) (barriers_after (n + 1)) ≡ Ok (read_at x ((n + 1) / BLOCK) ((n + 1) % BLOCK))
-unfolding lines_taken
+    → steps generator_head (read_at x q (r + 1)) (barriers_after (n + 1)) ≡ Ok (read_at x ((n + 1) / BLOCK) ((n + 1) % BLOCK))
+unfolding steps
 barriers-read x q r n at h few = elim (cases_Bool ((n + 1) % BLOCK == 0)) [
   | inl whole ↦
       let none : (n + 1) % BLOCK ≡ 0 = eqb-true ((n + 1) % BLOCK) 0 whole in
       let full : r + 1 ≡ BLOCK = omega (arith, at, h, none) in
       let next : q + 1 ≡ (n + 1) / BLOCK = omega (arith, at, full) in
-      ap (λ t. lines_taken generator_head (read_at x q (r + 1)) (cond t (codes "w" ∷ codes "t" ∷ codes "w" ∷ []) [])) whole
-      ∙ ap (λ k. lines_taken generator_head (read_at x q k) (codes "w" ∷ codes "t" ∷ codes "w" ∷ [])) full
+      ap (λ t. steps generator_head (read_at x q (r + 1)) (cond t (codes "w" ∷ codes "t" ∷ codes "w" ∷ []) [])) whole
+      ∙ ap (λ k. steps generator_head (read_at x q k) (codes "w" ∷ codes "t" ∷ codes "w" ∷ [])) full
       ∙ block-read x q (omega (arith, at, few))
       ∙ ap (λ k. Ok (read_at x k 0)) next ∙ ap (λ k. Ok (read_at x ((n + 1) / BLOCK) k)) (sym none)
   | inr part ↦
       let some : (n + 1) % BLOCK ≢ 0 = eqb-false ((n + 1) % BLOCK) 0 part in
       let same : q ≡ (n + 1) / BLOCK = omega (arith, at, h, some) in
       let more : r + 1 ≡ (n + 1) % BLOCK = omega (arith, at, h, some) in
-      ap (λ t. lines_taken generator_head (read_at x q (r + 1)) (cond t (codes "w" ∷ codes "t" ∷ codes "w" ∷ []) [])) part
+      ap (λ t. steps generator_head (read_at x q (r + 1)) (cond t (codes "w" ∷ codes "t" ∷ codes "w" ∷ []) [])) part
       ∙ ap (λ k. Ok (read_at x k (r + 1))) same ∙ ap (λ k. Ok (read_at x ((n + 1) / BLOCK) k)) more
 ]
 
-before_all : (x : ℕ) → lines_taken generator_head (reading_from generator_head 6) [] ≡ Ok (read_at x 0 0)
-unfolding lines_taken whole_blocks events_after
+before_all : (x : ℕ) → steps generator_head (at_number (nothing_read generator_head) 6) [] ≡ Ok (read_at x 0 0)
+unfolding steps whole_blocks events_after
 before_all x = refl
 
-pub lines-read : (x n : ℕ) → n ≤ MOST_GENERATED_LINES → lines_taken generator_head (reading_from generator_head 6) (lines_after x n) ≡ Ok (read_at x (n / BLOCK) (n % BLOCK))
+stepped : (x n : ℕ) → n ≤ MOST_GENERATED_LINES → steps generator_head (at_number (nothing_read generator_head) 6) (lines_after x n) ≡ Ok (read_at x (n / BLOCK) (n % BLOCK))
 unfolding lines_after
-lines-read x zero h = before_all x
-lines-read x (suc n) h =
+stepped x zero h = before_all x
+stepped x (suc n) h =
     let at : n ≡ BLOCK * (n / BLOCK) + n % BLOCK = omega arith in
     let one : suc n ≡ n + 1 = omega arith in
-    then_lines generator_head (reading_from generator_head 6) (read_at x (n / BLOCK) (n % BLOCK)) (lines_after x n) (line_at (number_after x (suc n)) n ∷ barriers_after (n + 1)) (lines-read x n (omega (arith, h)))
+    then_lines generator_head (at_number (nothing_read generator_head) 6) (read_at x (n / BLOCK) (n % BLOCK)) (lines_after x n) (line_at (number_after x (suc n)) n ∷ barriers_after (n + 1)) (stepped x n (omega (arith, h)))
     ∙ next_line generator_head (read_at x (n / BLOCK) (n % BLOCK)) (read_at x (n / BLOCK) (n % BLOCK + 1)) (line_at (number_after x (suc n)) n) (barriers_after (n + 1))
-    (ap (λ k. line_taken generator_head (read_at x (n / BLOCK) (n % BLOCK)) (line_at (number_after x k) n)) one ∙ event-read x (n / BLOCK) (n % BLOCK) n at (omega arith) (omega (arith, h)))
+    (ap (λ k. step generator_head (read_at x (n / BLOCK) (n % BLOCK)) (line_at (number_after x k) n)) one ∙ event-read x (n / BLOCK) (n % BLOCK) n at (omega arith) (omega (arith, h)))
     ∙ barriers-read x (n / BLOCK) (n % BLOCK) n at (omega arith) (omega (arith, h))
     ∙ ap (λ k. Ok (read_at x (k / BLOCK) (k % BLOCK))) (sym one)
+
+-- what is taken of the lines, of which the last has some number
+pub lines-read : (x n : ℕ) → n ≤ MOST_GENERATED_LINES
+    → (last : ℕ) × (lines_taken generator_head (nothing_read generator_head) (numbered 6 (lines_after x n)) ≡ Ok (at_number (read_at x (n / BLOCK) (n % BLOCK)) last))
+lines-read x n h = steps-taken generator_head (nothing_read generator_head) 6 (lines_after x n) (read_at x (n / BLOCK) (n % BLOCK)) (stepped x n h)

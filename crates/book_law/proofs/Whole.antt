@@ -106,7 +106,7 @@ phases-read x n = ap (λ (t : Bool). cond {A = Phases} t [] (whole_blocks x (n /
 lines-capture : (x n : ℕ) → n ≤ MOST_GENERATED_LINES → capture_after generator_head 6 (lines_after x n) ≡ Ok (record { head = generator_head; phases = phases_after x n })
 lines-capture x n h =
     sym (reader-agrees generator_head 6 (lines_after x n))
-    ∙ ap (λ (m : Result Reading CaptureFault). m >>= (λ r. closed r.group >>= (λ _. Ok (record { head = generator_head; phases = phases_read r })))) (lines-read x n h)
+    ∙ ap (λ (m : Result Reading CaptureFault). m >>= (λ r. closed r.group >>= (λ _. Ok (record { head = generator_head; phases = phases_read r })))) (lines-read x n h).1
     ∙ ap (λ (phases : Phases). Ok (record { head = generator_head; phases = phases })) (phases-read x n)
 
 within-read : (x n : ℕ) → n ≤ MOST_GENERATED_LINES → capture_within (joined (head_lines ++ lines_after x n)) ≡ Ok (record { head = generator_head; phases = phases_after x n })

@@ -1,9 +1,9 @@
 -- Phases whose events come one after another.
 use Rattle.std.specs.Prelude.{◌≡◌, ◌≢◌, ℕ, Bool, true, false, List, [], slice_index_or}
 use Rattle.std.specs.List.{AllByRecursion, list_any}
-use Rattle.relay_base.specs.declared.words.Event.TheVariants.{Message as Arrived, Asked as Requested, Tick}
+use Rattle.relay_base.specs.declared.words.Event.TheVariants.{Message as Arrived}
 use Rattle.plant_core.specs.declared.entry.ControlEvent.{ControlEvent}
-use Rattle.plant_core.specs.declared.entry.ControlEvent.TheVariants.{Plain, Change as Changed}
+use Rattle.plant_core.specs.declared.entry.ControlEvent.TheVariants.{Plain}
 use Rattle.node_head.specs.declared.head.Head.{Head}
 use Rattle.capture_form.specs.Events.{Stamped, phase_events}
 use Rattle.capture_form.specs.Place.{place_of, place_of_octets}

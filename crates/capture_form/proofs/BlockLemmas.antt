@@ -1,20 +1,22 @@
--- What the blocks of lines say, one after the other, is what the lines say.
-use Rattle.std.proofs.Common.{◌≡◌, ℕ, zero, suc, ◌+◌, ◌*◌, ◌/◌, ◌%◌, ◌<◌, ◌≤◌, min, List, [], ◌∷◌, ◌++◌, length, get_or, take, drop, map, Vec, vec_len, Bor, Result, Ok, Err, IfOk, sym, ap, ◌∙◌, subst, arith, append_assoc, append-nil, take-append-drop, drop-drop, length-drop, div-add-mod', mod-lt, add-mul, one-mul, suc-mul, zero-mul}
+-- What is taken of the blocks of lines, one after the other, is what is taken of the lines.
+use Rattle.std.proofs.Common.{◌≡◌, ℕ, zero, suc, ◌+◌, ◌*◌, ◌/◌, ◌%◌, ◌<◌, ◌≤◌, min, List, [], ◌∷◌, length, get_or, take, drop, map, Vec, vec_len, Result, Ok, Err, IfOk, refl, sym, ap, ◌∙◌, subst, arith, take-append-drop, drop-drop, length-drop, div-add-mod', mod-lt, add-mul, one-mul, suc-mul, zero-mul}
 use Rattle.std.proofs.lemmas.List.{map-append}
 use Rattle.std.specs.declared.alloc.Global.{Global}
 use Rattle.std.specs.Fork.{slice_chunk}
-use Rattle.relay_base.specs.declared.errors.Memory.{Memory}
+use Rattle.std.specs.List.{AllByRecursion}
+use Rattle.relay_base.specs.Giving.{◌>>=◌}
 use Rattle.node_head.specs.declared.head.Head.{Head}
-use Rattle.capture_form.specs.Inner.Words.{texts}
+use Rattle.capture_form.specs.Capture.{Reads}
+use Rattle.capture_form.specs.Inner.Stated.{seen_line, seen_lines}
 use Rattle.capture_form.specs.Inner.LineRead.{line_read}
-use Rattle.capture_form.specs.Inner.Blocks.{joined}
+use Rattle.capture_form.specs.Inner.Reader.{Takes, IsReadWithin, lines_taken, reads_taken, all_taken}
+use Rattle.capture_form.specs.Inner.Blocks.{Block, IsBlockWithin, blocks_taken}
+use Rattle.capture_form.specs.declared.fault.CaptureFault.{CaptureFault}
+use Rattle.capture_form.specs.declared.fault.CaptureFault.TheVariants as refused
 use Rattle.capture_form.specs.declared.line_read.LineRead.{LineRead}
-
-abbrev Texts : Type 0
-Texts = List (Bor (List ℕ))
-
-abbrev Block : Type 0
-Block = Result (Vec LineRead Global) Memory
+use Rattle.capture_form.specs.declared.reading.Reading.{Reading}
+use Rattle.capture_form.specs.declared.stated.StatedLine.{StatedLine}
+use Rattle.capture_form.proofs.ReadLemmas.{reads-taken, reads-within, lines-append}
 
 covers-rest : (whole rest size n : ℕ) → whole * size + rest ≡ n → rest < size → n ≤ (whole + min 1 rest) * size
 covers-rest whole zero size n is below =
@@ -29,43 +31,88 @@ chunks-cover : (n size : ℕ) → 0 < size → n ≤ (n / size + min 1 (n % size
 chunks-cover n size some = covers-rest (n / size) (n % size) size n (div-add-mod' n size) (mod-lt n some)
 
 -- what lines say
-abbrev said : Head → Texts → List LineRead
-said head ls = map (line_read head) (texts ls)
-
-said-append : (head : Head) (xs ys : Texts) → said head (xs ++ ys) ≡ said head xs ++ said head ys
-said-append head xs ys = ap (map (line_read head)) (map-append (λ w. w.now) xs ys) ∙ map-append (line_read head) (texts xs) (texts ys)
+abbrev said : Head → List StatedLine → List LineRead
+said head ls = map (line_read head) (seen_lines ls)
 
 -- each block says what the lines of its chunk say
-abbrev SayChunks : Head → ℕ → Texts → List Block → Type 0
+abbrev pub SayChunks : Head → ℕ → List StatedLine → List Block → Type 0
 SayChunks head size ls blocks = (n : ℕ) (d : Block) → n < length blocks → IfOk (get_or blocks n d) (λ v. v.items ≡ said head (slice_chunk ls size n))
 
-later-chunk : (size n : ℕ) (ls : Texts) → slice_chunk ls size (suc n) ≡ slice_chunk (drop size ls) size n
+later-chunk : (size n : ℕ) (ls : List StatedLine) → slice_chunk ls size (suc n) ≡ slice_chunk (drop size ls) size n
 later-chunk size n ls =
     let start : suc n * size ≡ size + n * size = omega (arith, suc-mul n size) in
     ap (λ k. take size (drop k ls)) start ∙ ap (take size) (sym (drop-drop (n * size) size ls))
 
-later-chunks : (head : Head) (size : ℕ) (ls : Texts) (block : Block) (more : List Block) → SayChunks head size ls (block ∷ more) → SayChunks head size (drop size ls) more
+later-chunks : (head : Head) (size : ℕ) (ls : List StatedLine) (block : Block) (more : List Block) → SayChunks head size ls (block ∷ more) → SayChunks head size (drop size ls) more
 later-chunks head size ls block more each = λ n d below.
-    subst (λ (xs : Texts). IfOk (get_or more n d) (λ v. v.items ≡ said head xs)) (later-chunk size n ls) (each (suc n) d (omega (arith, below)))
+    subst (λ (xs : List StatedLine). IfOk (get_or more n d) (λ v. v.items ≡ said head xs)) (later-chunk size n ls) (each (suc n) d (omega (arith, below)))
 
-joined-chunks : (head : Head) (size : ℕ) (blocks : List Block) (ls : Texts) (before reads : List LineRead) → length ls ≤ length blocks * size → SayChunks head size ls blocks
-    → joined before blocks ≡ Ok reads → reads ≡ before ++ said head ls
-unfolding joined
-joined-chunks head size [] [] before reads few each e =
-    let same : before ≡ reads = cc in
-    sym same ∙ sym (append-nil before)
-joined-chunks head size [] (l ∷ ls) before reads few each e = absurd (omega (arith, few, zero-mul size))
-joined-chunks head size (Err memory ∷ more) ls before reads few each e = absurd cc
-joined-chunks head size (Ok block ∷ more) ls before reads few each e =
-    let later = joined-chunks head size more (drop size ls) (before ++ block.items) reads (omega (arith, few, length-drop size ls, suc-mul (length more) size)) (later-chunks head size ls (Ok block) more each) e in
+first-chunk : (head : Head) (size : ℕ) (ls : List StatedLine) (block : Vec LineRead Global) (more : List Block) → SayChunks head size ls (Ok block ∷ more) → block.items ≡ said head (take size ls)
+first-chunk head size ls block more each =
     let here : block.items ≡ said head (slice_chunk ls size 0) = each 0 (Ok block) (omega arith) in
-    later ∙ append_assoc before block.items (said head (drop size ls))
-    ∙ ap (λ xs. before ++ (xs ++ said head (drop size ls))) (here ∙ ap (λ k. said head (take size (drop k ls))) (zero-mul size))
-    ∙ ap (λ xs. before ++ xs) (sym (said-append head (take size ls) (drop size ls)) ∙ ap (said head) (take-append-drop size ls))
+    here ∙ ap (λ k. said head (take size (drop k ls))) (zero-mul size)
+
+-- ---- links
+
+chunks-within : (head : Head) (size : ℕ) (ls : List StatedLine) (blocks : List Block) → SayChunks head size ls blocks → AllByRecursion (IsBlockWithin head.links) blocks
+chunks-within head size ls [] each = tt
+chunks-within head size ls (Err memory ∷ more) each = (tt, chunks-within head size (drop size ls) more (later-chunks head size ls (Err memory) more each))
+chunks-within head size ls (Ok block ∷ more) each = (
+  subst (AllByRecursion (IsReadWithin head.links)) (sym (first-chunk head size ls block more each)) (reads-within head (seen_lines (take size ls))),
+  chunks-within head size (drop size ls) more (later-chunks head size ls (Ok block) more each),
+)
+
+-- ---- what is taken
+
+-- what is given is given by itself
+reads-self : (r : Result Reading CaptureFault) → Reads r r
+reads-self (Ok r) = refl
+reads-self (Err refused.Memory) = tt
+reads-self (Err (refused.Head fault)) = refl
+reads-self (Err (refused.Line fault)) = refl
+reads-self (Err (refused.TooLong limit)) = refl
+
+then-reads : (m : Result Reading CaptureFault) (f g : Reading → Result Reading CaptureFault) → ((s : Reading) → Reads (f s) (g s)) → Reads (m >>= f) (m >>= g)
+then-reads (Ok s) f g h = h s
+then-reads (Err fault) f g h = reads-self (Err fault)
+
+-- the lines of a chunk, and those behind it
+chunk-taken : (head : Head) (size : ℕ) (ls : List StatedLine) (r : Reading)
+    → lines_taken head r (seen_lines ls) ≡ (lines_taken head r (seen_lines (take size ls)) >>= (λ s. lines_taken head s (seen_lines (drop size ls))))
+chunk-taken head size ls r =
+    ap (λ xs. lines_taken head r (seen_lines xs)) (sym (take-append-drop size ls)) ∙ ap (lines_taken head r) (map-append seen_line (take size ls) (drop size ls))
+    ∙ lines-append head (seen_lines (take size ls)) (seen_lines (drop size ls)) r
+
+chunks-taken : (head : Head) (size : ℕ) (blocks : List Block) (ls : List StatedLine) (r : Reading) → length ls ≤ length blocks * size → SayChunks head size ls blocks
+    → Reads (blocks_taken head r blocks) (lines_taken head r (seen_lines ls))
+unfolding blocks_taken all_taken
+chunks-taken head size [] [] r few each = refl
+chunks-taken head size [] (l ∷ ls) r few each = absurd (omega (arith, few, zero-mul size))
+chunks-taken head size (Err memory ∷ more) ls r few each = tt
+chunks-taken head size (Ok block ∷ more) ls r few each =
+    let less : length (drop size ls) ≤ length more * size = omega (arith, few, length-drop size ls, suc-mul (length more) size) in
+    let here = ap (reads_taken head r) (first-chunk head size ls block more each) ∙ reads-taken head (seen_lines (take size ls)) r in
+    let rest = then-reads (lines_taken head r (seen_lines (take size ls))) (λ s. blocks_taken head s more) (λ s. lines_taken head s (seen_lines (drop size ls)))
+    (λ s. chunks-taken head size more (drop size ls) s less (later-chunks head size ls (Ok block) more each)) in
+    subst (λ (m : Result Reading CaptureFault). Reads (m >>= (λ s. blocks_taken head s more)) (lines_taken head r (seen_lines ls))) (sym here)
+    (subst (Reads (lines_taken head r (seen_lines (take size ls)) >>= (λ s. blocks_taken head s more))) (sym (chunk-taken head size ls r)) rest)
+
+-- what was taken of what is given otherwise
+takes-by : {U : Type 0} (left : Reading) (result : Result U CaptureFault) (r given : Result Reading CaptureFault) → Takes left result r → Reads r given → Takes left result given
+takes-by left (Ok u) r given e h = subst (λ r. Reads r given) e h
+takes-by left (Err refused.Memory) r given e h = tt
+takes-by left (Err (refused.Head fault)) r given e h = subst (λ r. Reads r given) e h
+takes-by left (Err (refused.Line fault)) r given e h = subst (λ r. Reads r given) e h
+takes-by left (Err (refused.TooLong limit)) r given e h = subst (λ r. Reads r given) e h
 
 -- the blocks are the chunks of the lines
-pub all-joined : (head : Head) (size : ℕ) (blocks : Vec Block Global) (ls : Texts) (reads : List LineRead) → 0 < size
-    → vec_len blocks ≡ length ls / size + min 1 (length ls % size) → SayChunks head size ls blocks.items → joined [] blocks.items ≡ Ok reads → reads ≡ said head ls
-all-joined head size blocks ls reads some count each e =
+pub all-within : (head : Head) (size : ℕ) (blocks : Vec Block Global) (ls : List StatedLine) → SayChunks head size ls blocks.items → AllByRecursion (IsBlockWithin head.links) blocks.items
+all-within head size blocks ls each = chunks-within head size ls blocks.items each
+
+pub blocks-taken : {U : Type 0} (head : Head) (size : ℕ) (blocks : Vec Block Global) (ls : List StatedLine) (r left : Reading) (result : Result U CaptureFault) → 0 < size
+    → vec_len blocks ≡ length ls / size + min 1 (length ls % size) → SayChunks head size ls blocks.items → Takes left result (blocks_taken head r blocks.items)
+    → Takes left result (lines_taken head r (seen_lines ls))
+blocks-taken head size blocks ls r left result some count each taken =
     let many : length blocks.items ≡ length ls / size + min 1 (length ls % size) = sym blocks.ok.0 ∙ count in
-    joined-chunks head size blocks.items ls [] reads (omega (arith, ap (λ n. n * size) many, chunks-cover (length ls) size some)) each e
+    takes-by left result (blocks_taken head r blocks.items) (lines_taken head r (seen_lines ls)) taken
+    (chunks-taken head size blocks.items ls r (omega (arith, ap (λ n. n * size) many, chunks-cover (length ls) size some)) each)

@@ -20,8 +20,9 @@ use Rattle.capture_form.specs.declared.fault.CaptureFault.TheVariants as refused
 use Rattle.capture_form.specs.declared.fault.Limit.TheVariants as limit
 use Rattle.capture_form.specs.declared.reading.Reading.{Reading}
 use Rattle.capture_form.specs.declared.capture.Capture.{Capture}
-use Rattle.capture_form.specs.Capture.{Reads, is_skipped, begins, lines_from, barriers, event_lines, barrier_form, with_above, open_group, fault_at, open_fault, event_at, phases_of, unless_faulty, at_head, capture_after, capture_from, capture_within}
-use Rattle.capture_form.specs.Inner.Reader.{at_line, phase_ended, with_event, meaning_taken, line_added, barrier_taken, tick_counted, line_counted, event_put, event_taken, words_taken, line_taken, lines_taken, reading_from, closed, phases_read, capture_read}
+use Rattle.capture_form.specs.Capture.{Reads, begins, lines_from, barriers, event_lines, barrier_form, with_above, open_group, fault_at, open_fault, event_at, phases_of, unless_faulty, at_head, capture_after, capture_from, capture_within}
+use Rattle.capture_form.specs.Inner.Stated.{Stated, numbered}
+use Rattle.capture_form.specs.Inner.Reader.{at_line, phase_ended, with_event, meaning_taken, line_added, barrier_taken, tick_counted, line_counted, event_put, event_taken, at_number, words_taken, line_taken, lines_taken, all_taken, nothing_read, closed, phases_read, capture_read}
 use Rattle.capture_form.specs.declared.steps.TheConstants.{MOST_LINES, MOST_TICK_LINES, MOST_BARRIERS}
 use Rattle.capture_form.specs.Events.{Stamped, phase_lists, phase_events, all_events, AreOfPhases, IsStamped}
 use Rattle.capture_form.proofs.PhaseLemmas.{phases-stamped}
@@ -117,25 +118,23 @@ words-taken head r ws h =
     either Fine (begins (codes "w") ws) (barrier_taken head r stands (barrier_form ws)) (event_taken r (begins (codes "t") ws) stands (meaning_of head ws))
     (barrier-taken head r stands (barrier_form ws) h) (event-taken r (begins (codes "t") ws) stands (meaning_of head ws) h)
 
-line-taken : (head : Head) (r : Reading) (line : List ℕ) → Fine r → IfOk (line_taken head r line) Fine
-unfolding line_taken
-line-taken head r line h =
-    either Fine (is_skipped line) (Ok (record r { line = r.line + 1 })) (words_taken head r (words line)) (fine-same r (record r { line = r.line + 1 }) refl refl h)
-    (words-taken head r (words line) h)
+fine-at : (r : Reading) (number : ℕ) → Fine r → Fine (at_number r number)
+fine-at r number h = fine-same r (at_number r number) refl refl h
 
-lines-taken : (head : Head) (ls : List (List ℕ)) (r : Reading) → Fine r → IfOk (lines_taken head r ls) Fine
-unfolding lines_taken
+lines-taken : (head : Head) (ls : List Stated) (r : Reading) → Fine r → IfOk (lines_taken head r ls) Fine
+unfolding all_taken
 lines-taken head [] r h = h
-lines-taken head (line ∷ more) r h = bound Fine Fine (line_taken head r line) (λ s. lines_taken head s more) (line-taken head r line h) (λ s. lines-taken head more s)
+lines-taken head (line ∷ more) r h =
+    bound Fine Fine (line_taken head r line) (λ s. lines_taken head s more) (words-taken head (at_number r line.0) (words line.1) (fine-at r line.0 h)) (λ s. lines-taken head more s)
 
 -- ---- a capture
 
-none-yet : (head : Head) (number : ℕ) → events_of (reading_from head number) ≡ []
-none-yet head number = lists-empty (head.links + 1)
+none-yet : (head : Head) → events_of (nothing_read head) ≡ []
+none-yet head = lists-empty (head.links + 1)
 
-fine-from : (head : Head) (number : ℕ) → Fine (reading_from head number)
-fine-from head number = record {
-  few = omega (arith, ap length (none-yet head number));
+fine-first : (head : Head) → Fine (nothing_read head)
+fine-first head = record {
+  few = omega (arith, ap length (none-yet head));
   most = omega arith;
 }
 
@@ -151,8 +150,8 @@ few-choice r false h = few-events (r.phases ++ r.current ∷ []) r (ended-events
 
 read-few : (head : Head) (number : ℕ) (ls : List (List ℕ)) → IfOk (capture_read head number ls) (λ c. AreFew c.phases)
 read-few head number ls =
-    bound Fine (λ (c : Capture). AreFew c.phases) (lines_taken head (reading_from head number) ls) _
-    (lines-taken head ls (reading_from head number) (fine-from head number))
+    bound Fine (λ (c : Capture). AreFew c.phases) (lines_taken head (nothing_read head) (numbered number ls)) _
+    (lines-taken head (numbered number ls) (nothing_read head) (fine-first head))
     (λ r h. after_any (λ (c : Capture). AreFew c.phases) (closed r.group) (λ _. Ok (record { head = head; phases = phases_read r })) (λ _. few-choice r (r.events == 0) h))
 
 -- ---- stamps

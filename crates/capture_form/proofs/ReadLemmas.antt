@@ -1,20 +1,22 @@
 -- What is taken of lines is the same where it is known beforehand what each of them says.
-use Rattle.std.proofs.Common.{◌≡◌, ℕ, Bool, true, false, cond, codes, List, [], ◌∷◌, ◌++◌, map, Option, Some, None, Result, Ok, Err, IfOk, refl, sym, ap, subst, ◌∙◌, ◌+◌}
+use Rattle.std.proofs.Common.{◌≡◌, ℕ, Bool, true, false, cond, codes, List, [], ◌∷◌, ◌++◌, map, Option, Some, None, Result, Ok, Err, IfOk, refl, sym, ap, subst, ◌∙◌}
 use Rattle.std.specs.List.{AllByRecursion}
 use Rattle.relay_base.specs.Giving.{◌>>=◌, RefusesOrMemory}
 use Rattle.node_head.specs.declared.head.Head.{Head}
 use Rattle.capture_form.specs.Text.{words}
 use Rattle.capture_form.specs.Line.{meaning_of}
 use Rattle.capture_form.specs.Groups.{is_edit, is_commit, may_stand, placed}
-use Rattle.capture_form.specs.Capture.{is_skipped, begins, barrier_form}
+use Rattle.capture_form.specs.Capture.{begins, barrier_form}
 use Rattle.capture_form.specs.declared.changes.OpenGroup.{OpenGroup}
 use Rattle.capture_form.specs.declared.groups.Standing.TheVariants.{Edit, Commit, Other}
 use Rattle.capture_form.specs.declared.fault.LineKind.{LineKind}
 use Rattle.capture_form.specs.declared.fault.CaptureFault.{CaptureFault}
-use Rattle.capture_form.specs.declared.line_read.LineRead.TheVariants as said
+use Rattle.capture_form.specs.declared.line_read.LineRead.{LineRead}
+use Rattle.capture_form.specs.declared.line_read.Saying.TheVariants as said
 use Rattle.capture_form.specs.declared.reading.Reading.{Reading}
-use Rattle.capture_form.specs.Inner.LineRead.{standing_of, may_stand_as, event_read, words_read, line_read}
-use Rattle.capture_form.specs.Inner.Reader.{IsReadWithin, at_line, barrier_taken, event_taken, words_taken, line_taken, lines_taken, read_taken, reads_taken}
+use Rattle.capture_form.specs.Inner.Stated.{Stated}
+use Rattle.capture_form.specs.Inner.LineRead.{standing_of, may_stand_as, event_read, line_read}
+use Rattle.capture_form.specs.Inner.Reader.{IsSaidWithin, IsReadWithin, at_line, at_number, barrier_taken, event_taken, line_taken, lines_taken, said_taken, read_taken, reads_taken, all_taken}
 use Rattle.capture_form.proofs.LinkLemmas.{meaning-within}
 
 -- ---- how a line may stand
@@ -34,38 +36,49 @@ stands-as g ws = stands-by g ws (is_commit ws) (is_edit ws) refl refl
 -- ---- one line
 
 words-same : (head : Head) (r : Reading) (ws : List (List ℕ)) (barrier : Bool)
-    → read_taken head r (cond barrier (said.Barrier (standing_of ws) (barrier_form ws)) (said.Event (event_read head ws)))
+    → said_taken head r (cond barrier (said.Barrier (standing_of ws) (barrier_form ws)) (said.Event (event_read head ws)))
     ≡ cond barrier (barrier_taken head r (may_stand r.group ws) (barrier_form ws)) (event_taken r (begins (codes "t") ws) (may_stand r.group ws) (meaning_of head ws))
 words-same head r ws true = ap (λ stands. barrier_taken head r stands (barrier_form ws)) (stands-as r.group ws)
 words-same head r ws false = ap (λ stands. event_taken r (begins (codes "t") ws) stands (meaning_of head ws)) (stands-as r.group ws)
 
-line-same : (head : Head) (r : Reading) (line : List ℕ) (skipped : Bool)
-    → read_taken head r (cond skipped said.Skipped (words_read head (words line))) ≡ cond skipped (Ok (record r { line = r.line + 1 })) (words_taken head r (words line))
-line-same head r line true = refl
-line-same head r line false = words-same head r (words line) (begins (codes "w") (words line))
-
-read-taken : (head : Head) (r : Reading) (line : List ℕ) → read_taken head r (line_read head line) ≡ line_taken head r line
-unfolding line_read line_taken
-read-taken head r line = line-same head r line (is_skipped line)
+pub read-taken : (head : Head) (r : Reading) (line : Stated) → read_taken head r (line_read head line) ≡ line_taken head r line
+read-taken head r line = words-same head (at_number r line.0) (words line.1) (begins (codes "w") (words line.1))
 
 -- ---- all lines
 
-next-same : (head : Head) (more : List (List ℕ)) → ((r : Reading) → reads_taken head r (map (line_read head) more) ≡ lines_taken head r more)
-    → (m : Result Reading CaptureFault) → (m >>= (λ s. reads_taken head s (map (line_read head) more))) ≡ (m >>= (λ s. lines_taken head s more))
-next-same head more h (Ok s) = h s
-next-same head more h (Err fault) = refl
+reads-taken-by : (head : Head) (ls : List Stated) (m : Result Reading CaptureFault) → ((r : Reading) → reads_taken head r (map (line_read head) ls) ≡ lines_taken head r ls)
+    → (m >>= (λ s. reads_taken head s (map (line_read head) ls))) ≡ (m >>= (λ s. lines_taken head s ls))
+reads-taken-by head ls (Ok s) h = h s
+reads-taken-by head ls (Err fault) h = refl
 
-pub reads-taken : (head : Head) (ls : List (List ℕ)) (r : Reading) → reads_taken head r (map (line_read head) ls) ≡ lines_taken head r ls
-unfolding reads_taken lines_taken
+pub reads-taken : (head : Head) (ls : List Stated) (r : Reading) → reads_taken head r (map (line_read head) ls) ≡ lines_taken head r ls
+unfolding all_taken
 reads-taken head [] r = refl
 reads-taken head (line ∷ more) r =
     ap (λ (m : Result Reading CaptureFault). m >>= (λ s. reads_taken head s (map (line_read head) more))) (read-taken head r line)
-    ∙ next-same head more (reads-taken head more) (line_taken head r line)
+    ∙ reads-taken-by head more (line_taken head r line) (reads-taken head more)
+
+-- a line was taken, and those behind it come to the same
+pub line-done : (head : Head) (r s : Reading) (line : Stated) (more : List Stated) (read : LineRead) (whole : Result Reading CaptureFault) → read ≡ line_read head line
+    → lines_taken head r (line ∷ more) ≡ whole → read_taken head r read ≡ Ok s → lines_taken head s more ≡ whole
+unfolding all_taken
+line-done head r s line more read whole same all done =
+    let here : line_taken head r line ≡ Ok s = sym (read-taken head r line) ∙ ap (read_taken head r) (sym same) ∙ done in
+    ap (λ (m : Result Reading CaptureFault). m >>= (λ t. lines_taken head t more)) (sym here) ∙ all
+
+-- a line was refused, and so are all
+pub line-refused : (head : Head) (r : Reading) (line : Stated) (more : List Stated) (read : LineRead) (whole : Result Reading CaptureFault) (fault : Option CaptureFault)
+    → read ≡ line_read head line → lines_taken head r (line ∷ more) ≡ whole → RefusesOrMemory fault (read_taken head r read) → RefusesOrMemory fault whole
+unfolding all_taken
+line-refused head r line more read whole None same all refused = tt
+line-refused head r line more read whole (Some fault) same all refused =
+    let here : line_taken head r line ≡ Err fault = sym (read-taken head r line) ∙ ap (read_taken head r) (sym same) ∙ refused in
+    sym all ∙ ap (λ (m : Result Reading CaptureFault). m >>= (λ t. lines_taken head t more)) here
 
 -- ---- lines in windows
 
-lines-append : (head : Head) (xs ys : List (List ℕ)) (r : Reading) → lines_taken head r (xs ++ ys) ≡ (lines_taken head r xs >>= (λ s. lines_taken head s ys))
-unfolding lines_taken
+pub lines-append : (head : Head) (xs ys : List Stated) (r : Reading) → lines_taken head r (xs ++ ys) ≡ (lines_taken head r xs >>= (λ s. lines_taken head s ys))
+unfolding all_taken
 lines-append head [] ys r = refl
 lines-append head (line ∷ more) ys r = after (λ s. lines-append head more ys s) (line_taken head r line)
   where
@@ -75,47 +88,46 @@ lines-append head (line ∷ more) ys r = after (λ s. lines-append head more ys 
     after f (Err fault) = refl
 
 -- what the lines of a window and those behind it come to
-abbrev pub Whole : Head → Reading → List (List ℕ) → List (List ℕ) → Result Reading CaptureFault → Type 0
-Whole head r window more whole = (all : List (List ℕ)) × (window ++ more ≡ all) × (lines_taken head r all ≡ whole)
+abbrev pub Whole : Head → Reading → List Stated → List Stated → Result Reading CaptureFault → Type 0
+Whole head r window more whole = (all : List Stated) × (window ++ more ≡ all) × (lines_taken head r all ≡ whole)
 
-window-first : (head : Head) (r : Reading) (window more : List (List ℕ)) (whole : Result Reading CaptureFault) → Whole head r window more whole
+window-first : (head : Head) (r : Reading) (window more : List Stated) (whole : Result Reading CaptureFault) → Whole head r window more whole
     → (lines_taken head r window >>= (λ s. lines_taken head s more)) ≡ whole
 window-first head r window more whole h = sym (lines-append head window more r) ∙ ap (lines_taken head r) h.1 ∙ h.2
 
 -- a window was taken
-pub window-taken : (head : Head) (r s : Reading) (window more : List (List ℕ)) (whole : Result Reading CaptureFault) → Whole head r window more whole
+pub window-taken : (head : Head) (r s : Reading) (window more : List Stated) (whole : Result Reading CaptureFault) → Whole head r window more whole
     → lines_taken head r window ≡ Ok s → lines_taken head s more ≡ whole
 window-taken head r s window more whole h taken =
     ap (λ (m : Result Reading CaptureFault). m >>= (λ t. lines_taken head t more)) (sym taken) ∙ window-first head r window more whole h
 
 -- a window was refused, and so are all lines
-pub window-refused : (head : Head) (r : Reading) (window more : List (List ℕ)) (whole : Result Reading CaptureFault) (fault : Option CaptureFault) → Whole head r window more whole
+pub window-refused : (head : Head) (r : Reading) (window more : List Stated) (whole : Result Reading CaptureFault) (fault : Option CaptureFault) → Whole head r window more whole
     → RefusesOrMemory fault (lines_taken head r window) → RefusesOrMemory fault whole
 window-refused head r window more whole None h refused = tt
 window-refused head r window more whole (Some fault) h refused =
     sym (window-first head r window more whole h) ∙ ap (λ (m : Result Reading CaptureFault). m >>= (λ t. lines_taken head t more)) refused
 
 -- no line was to come
-pub none-taken : (head : Head) (r : Reading) (ls : List (List ℕ)) (whole : Result Reading CaptureFault) → ls ≡ [] → lines_taken head r ls ≡ whole → whole ≡ Ok r
-unfolding lines_taken
+pub none-taken : (head : Head) (r : Reading) (ls : List Stated) (whole : Result Reading CaptureFault) → ls ≡ [] → lines_taken head r ls ≡ whole → whole ≡ Ok r
+unfolding all_taken
 none-taken head r ls whole none taken = sym taken ∙ ap (lines_taken head r) none
 
 -- ---- links
 
 words-within : (head : Head) (ws : List (List ℕ)) (barrier : Bool)
-    → IsReadWithin head.links (cond barrier (said.Barrier (standing_of ws) (barrier_form ws)) (said.Event (event_read head ws)))
+    → IsSaidWithin head.links (cond barrier (said.Barrier (standing_of ws) (barrier_form ws)) (said.Event (event_read head ws)))
 words-within head ws true = tt
 words-within head ws false = meaning-within head ws
 
-line-within : (head : Head) (line : List ℕ) (skipped : Bool) → IsReadWithin head.links (cond skipped said.Skipped (words_read head (words line)))
-line-within head line true = tt
-line-within head line false = words-within head (words line) (begins (codes "w") (words line))
+-- what a line says is about the links of the head
+pub read-within : (head : Head) (line : Stated) (read : LineRead) → read ≡ line_read head line → IsReadWithin head.links read
+read-within head line read same = subst (IsReadWithin head.links) (sym same) (words-within head (words line.1) (begins (codes "w") (words line.1)))
 
--- what lines say is about the links of the head
-pub reads-within : (head : Head) (ls : List (List ℕ)) → AllByRecursion (IsReadWithin head.links) (map (line_read head) ls)
-unfolding line_read
+-- and what lines say
+pub reads-within : (head : Head) (ls : List Stated) → AllByRecursion (IsReadWithin head.links) (map (line_read head) ls)
 reads-within head [] = tt
-reads-within head (line ∷ more) = (line-within head line (is_skipped line), reads-within head more)
+reads-within head (line ∷ more) = (read-within head line (line_read head line) refl, reads-within head more)
 
 -- what holds of a line that isn't at fault holds where it may stand
 pub placed-fact : {A : Type 0} (P : A → Type 0) (number : ℕ) (stands : Bool) (form : Result A LineKind) (x : A) → at_line number (placed stands form) ≡ Ok x → IfOk form P → P x

@@ -4,7 +4,7 @@ use lib.Pointwise.{pointwise}
 use Rattle.std.proofs.lemmas.Bool.Decides.{nat_tests}
 use Rattle.std.proofs.lemmas.List.Sums.{sum_by_push, fold_push}
 use Rattle.std.proofs.lemmas.List.FromFn.{map-range_with_len_more}
-use Rattle.std.specs.List.{filter, filter_map, cons_option, count_by, enumerate_from, range_with_len, scan, push}
+use Rattle.std.specs.List.{filter_map, cons_option, count_by, range_with_len, scan, push}
 use Rattle.relay_base.specs.Giving.{◌>>=◌}
 use Rattle.relay_base.specs.declared.words.Stamp.{Stamp}
 use Rattle.plant_core.specs.declared.entry.ControlEvent.{ControlEvent}
@@ -23,8 +23,9 @@ use Rattle.capture_form.specs.declared.fault.CaptureFault.TheVariants as refused
 use Rattle.capture_form.specs.declared.capture.Capture.{Capture}
 use Rattle.capture_form.specs.declared.steps.TheConstants.{MOST_LINES, MOST_TICK_LINES, MOST_BARRIERS}
 use Rattle.capture_form.specs.declared.reading.Reading.{Reading}
-use Rattle.capture_form.specs.Capture.{Line, is_skipped, lines_from, is_barrier, is_tick, barriers, ticks, event_lines, left_by, open_group, form_fault, barrier_form, barrier_fault, event_fault, fault_at, open_fault, brought, event_at, phases_of, unless_faulty, capture_after}
-use Rattle.capture_form.specs.Inner.Reader.{at_line, phase_ended, with_event, meaning_taken, line_added, barrier_taken, event_put, event_taken, words_taken, line_taken, lines_taken, closed, phases_read, capture_read}
+use Rattle.capture_form.specs.Capture.{Line, is_barrier, is_tick, barriers, ticks, event_lines, left_by, open_group, form_fault, barrier_form, barrier_fault, event_fault, fault_at, open_fault, brought, event_at, phases_of, unless_faulty, capture_after}
+use Rattle.capture_form.specs.Inner.Stated.{Stated, numbered}
+use Rattle.capture_form.specs.Inner.Reader.{at_line, phase_ended, with_event, meaning_taken, line_added, barrier_taken, event_put, event_taken, lines_taken, all_taken, closed, phases_read, capture_read}
 use Rattle.capture_form.proofs.PhaseLemmas.{AreUpTo, up-to-push, up-to-next, lists-push, lists-empty, phases-before, number-is, both-left, both-right}
 
 -- ---- what is kept
@@ -53,11 +54,11 @@ phases-more : (links b : ℕ) (events : Stamped) → map (phase_lists links even
 phases-more links b events = sym (map-range_with_len_more (phase_lists links events) 1 b (b + 1) (omega arith))
 
 kept-ended : (head : Head) (events : Stamped) (b n t number : ℕ) (g : Option OpenGroup) → AreUpTo (b + 1) events
-    → phase_ended head (kept head.links events b n t number g) ≡ kept head.links events (b + 1) n t (number + 1) g
+    → phase_ended head (kept head.links events b n t number g) ≡ kept head.links events (b + 1) n t number g
 kept-ended head events b n t number g h =
     let ended = phases-more head.links b events in
     let empty = lists-empty (b + 1) (b + 1 + 1) 0 (head.links + 1) events (omega arith) h in
-    λ i. record { phases = ended i; current = empty i; phase = b + 1 + 1; line = number + 1; events = n; ticks = t; group = g }
+    λ i. record { phases = ended i; current = empty i; phase = b + 1 + 1; line = number; events = n; ticks = t; group = g }
 
 -- an event with its stamp
 abbrev stamped : ℕ → ℕ → Linked → Stamp × ControlEvent
@@ -69,12 +70,12 @@ and_one events e = events ++ cons_option e []
 
 kept-with : (links : ℕ) (events : Stamped) (b n t number : ℕ) (g after : Option OpenGroup) (e : Option Linked)
     → record (line_added (kept links events b n t number g)) { current = with_event (kept links events b n t number g) e; group = after }
-    ≡ kept links (and_one events (option_map (stamped b number) e)) b (n + 1) t (number + 1) after
-kept-with links events b n t number g after None = ap (λ es. kept links es b (n + 1) t (number + 1) after) (sym (append-nil events))
+    ≡ kept links (and_one events (option_map (stamped b number) e)) b (n + 1) t number after
+kept-with links events b n t number g after None = ap (λ es. kept links es b (n + 1) t number after) (sym (append-nil events))
 kept-with links events b n t number g after (Some e) =
     let before = phases-before links 1 b events (stamped b number e) (omega arith) in
     let now = lists-push (b + 1) 0 (links + 1) e.0 events (stamped b number e) refl (omega arith) in
-    λ i. record { phases = before i; current = now i; phase = b + 1; line = number + 1; events = n + 1; ticks = t; group = after }
+    λ i. record { phases = before i; current = now i; phase = b + 1; line = number; events = n + 1; ticks = t; group = after }
 
 up-to-one : (b number : ℕ) (events : Stamped) (e : Option Linked) → AreUpTo (b + 1) events → AreUpTo (b + 1) (and_one events (option_map (stamped b number) e))
 up-to-one b number events None h = subst (AreUpTo (b + 1)) (sym (append-nil events)) h
@@ -150,12 +151,16 @@ given-event head above events line more e =
 abbrev read_all : Head → Reading → Result Capture CaptureFault
 read_all head r = closed r.group >>= (λ _. Ok (record { head = head; phases = phases_read r }))
 
-abbrev then_read : Head → List (List ℕ) → Result Reading CaptureFault → Result Capture CaptureFault
+-- the words of each line, beside its number
+abbrev in_words : List Stated → List Line
+in_words ls = map (λ l. (l.0, words l.1)) ls
+
+abbrev then_read : Head → List Stated → Result Reading CaptureFault → Result Capture CaptureFault
 then_read head more r = (r >>= (λ s. lines_taken head s more)) >>= read_all head
 
-abbrev Agrees : Head → List (List ℕ) → Type 0
+abbrev Agrees : Head → List Stated → Type 0
 Agrees head ls = (above : List Line) (events : Stamped) (b n t number : ℕ) (g : Option OpenGroup) → Counts head above events b n t g
-    → then_read head ls (Ok (kept head.links events b n t number g)) ≡ given head above events (lines_from number ls)
+    → then_read head ls (Ok (kept head.links events b n t number g)) ≡ given head above events (in_words ls)
 
 -- behind the last line
 ended-agrees : (head : Head) (above : List Line) (events : Stamped) (b n t number : ℕ) (g : Option OpenGroup) → Counts head above events b n t g
@@ -169,7 +174,7 @@ ended-agrees head above events b n t number None c =
 ended-agrees head above events b n t number (Some group) c = λ i. unless_faulty (open_fault (sym c.group i)) (capture_with head above events)
 
 agrees-none : (head : Head) → Agrees head []
-unfolding lines_taken
+unfolding all_taken
 agrees-none head above events b n t number g c =
     ended-agrees head above events b n t number g c
     ∙ (λ i. unless_faults head [] (sym (append-nil above) i) (sym (append-nil events) i))
@@ -177,41 +182,41 @@ agrees-none head above events b n t number g c =
 abbrev barrier_fault_of : ℕ → Bool → Result (Unit {0}) LineKind → Option CaptureFault
 barrier_fault_of number full f = cond full (Some (refused.TooLong Barriers)) (form_fault number f)
 
-barrier-agrees : (head : Head) (more : List (List ℕ)) → Agrees head more → (above : List Line) (events : Stamped) (b n t number : ℕ) (g : Option OpenGroup) (ws : List (List ℕ)) → Counts head above events b n t g
+barrier-agrees : (head : Head) (more : List Stated) → Agrees head more → (above : List Line) (events : Stamped) (b n t number : ℕ) (g : Option OpenGroup) (ws : List (List ℕ)) → Counts head above events b n t g
     → is_barrier (number, ws) ≡ true → (full : Bool) (f : Result (Unit {0}) LineKind)
     → then_read head more (cond full (Err (refused.TooLong Barriers)) (at_line number f >>= (λ _. Ok (phase_ended head (kept head.links events b n t number g)))))
-    ≡ given_with head above events (number, ws) (lines_from (number + 1) more) (barrier_fault_of number full f) None
+    ≡ given_with head above events (number, ws) (in_words more) (barrier_fault_of number full f) None
 barrier-agrees head more ih above events b n t number g ws c k true f = refl
 barrier-agrees head more ih above events b n t number g ws c k false (Err kind) = refl
 barrier-agrees head more ih above events b n t number g ws c k false (Ok one) =
     ap (λ r. then_read head more (Ok r)) (kept-ended head events b n t number g c.up_to)
-    ∙ ih (above ++ (number, ws) ∷ []) events (b + 1) n t (number + 1) g (record {
+    ∙ ih (above ++ (number, ws) ∷ []) events (b + 1) n t number g (record {
       barriers = count-more is_barrier above (number, ws) true b k c.barriers;
       lines = count-more (λ l. not (is_barrier l)) above (number, ws) false n (ap not k) c.lines ∙ omega arith;
       ticks = count-more is_tick above (number, ws) false t (not-tick number ws k) c.ticks ∙ omega arith;
       up_to = up-to-next (b + 1) events c.up_to;
       group = group-more head above number ws g (Err Words) (not-meant head number ws k) c.group;
     })
-    ∙ given-none head above events (number, ws) (lines_from (number + 1) more)
+    ∙ given-none head above events (number, ws) (in_words more)
 
-event-agrees : (head : Head) (more : List (List ℕ)) → Agrees head more → (above : List Line) (events : Stamped) (b n t t' number : ℕ) (g : Option OpenGroup) (ws : List (List ℕ)) → Counts head above events b n t g
+event-agrees : (head : Head) (more : List Stated) → Agrees head more → (above : List Line) (events : Stamped) (b n t t' number : ℕ) (g : Option OpenGroup) (ws : List (List ℕ)) → Counts head above events b n t g
     → is_barrier (number, ws) ≡ false → ticks (above ++ (number, ws) ∷ []) ≡ t' → (stands : Bool) (f : Result Meaning LineKind) → meaning_of head ws ≡ f
     → then_read head more (at_line number (placed stands f) >>= (λ meaning. Ok (line_added (meaning_taken (kept head.links events b n t' number g) meaning))))
-    ≡ given_with head above events (number, ws) (lines_from (number + 1) more) (form_fault number (placed stands f)) (option_map (stamped b number) (brought g f))
+    ≡ given_with head above events (number, ws) (in_words more) (form_fault number (placed stands f)) (option_map (stamped b number) (brought g f))
 event-agrees head more ih above events b n t t' number g ws c k ticked false f e = refl
 event-agrees head more ih above events b n t t' number g ws c k ticked true (Err kind) e = refl
 event-agrees head more ih above events b n t t' number g ws c k ticked true (Ok meaning) e =
     let after : Option OpenGroup = left_open number g meaning in
     let event : Option Linked = event_in g meaning in
     ap (λ r. then_read head more (Ok r)) (kept-with head.links events b n t' number g after event)
-    ∙ ih (above ++ (number, ws) ∷ []) (and_one events (option_map (stamped b number) event)) b (n + 1) t' (number + 1) after (record {
+    ∙ ih (above ++ (number, ws) ∷ []) (and_one events (option_map (stamped b number) event)) b (n + 1) t' number after (record {
       barriers = count-more is_barrier above (number, ws) false b k c.barriers ∙ omega arith;
       lines = count-more (λ l. not (is_barrier l)) above (number, ws) true n (ap not k) c.lines;
       ticks = ticked;
       up_to = up-to-one b number events event c.up_to;
       group = group-more head above number ws g (Ok meaning) e c.group;
     })
-    ∙ given-event head above events (number, ws) (lines_from (number + 1) more) (option_map (stamped b number) event)
+    ∙ given-event head above events (number, ws) (in_words more) (option_map (stamped b number) event)
 
 abbrev counted_by : Bool → Bool → Bool → Reading → Result Reading CaptureFault
 counted_by full tick late r = cond full (Err (refused.TooLong Lines)) (cond tick (cond late (Err (refused.TooLong Ticks)) (Ok (record r { ticks = r.ticks + 1 }))) (Ok r))
@@ -220,10 +225,10 @@ abbrev event_fault_of : Bool → Bool → Bool → ℕ → Result Meaning LineKi
 event_fault_of full tick late number f = cond full (Some (refused.TooLong Lines)) (cond (tick && late) (Some (refused.TooLong Ticks)) (form_fault number f))
 
 -- an event line is counted before its form is tested
-counted-agrees : (head : Head) (more : List (List ℕ)) → Agrees head more → (above : List Line) (events : Stamped) (b n t number : ℕ) (g : Option OpenGroup) (ws : List (List ℕ)) → Counts head above events b n t g
+counted-agrees : (head : Head) (more : List Stated) → Agrees head more → (above : List Line) (events : Stamped) (b n t number : ℕ) (g : Option OpenGroup) (ws : List (List ℕ)) → Counts head above events b n t g
     → is_barrier (number, ws) ≡ false → (full tick late : Bool) → is_tick (number, ws) ≡ tick
     → then_read head more (counted_by full tick late (kept head.links events b n t number g) >>= event_put (may_stand g ws) (meaning_of head ws))
-    ≡ given_with head above events (number, ws) (lines_from (number + 1) more) (event_fault_of full tick late number (placed (may_stand g ws) (meaning_of head ws))) (option_map (stamped b number) (brought g (meaning_of head ws)))
+    ≡ given_with head above events (number, ws) (in_words more) (event_fault_of full tick late number (placed (may_stand g ws) (meaning_of head ws))) (option_map (stamped b number) (brought g (meaning_of head ws)))
 counted-agrees head more ih above events b n t number g ws c k true tick late e = refl
 counted-agrees head more ih above events b n t number g ws c k false true true e = refl
 counted-agrees head more ih above events b n t number g ws c k false true false e =
@@ -244,10 +249,10 @@ abbrev words_taken_as : Head → Reading → List (List ℕ) → Bool → Result
 words_taken_as head r ws barrier =
     cond barrier (barrier_taken head r (may_stand r.group ws) (barrier_form ws)) (event_taken r (is_tick (r.line, ws)) (may_stand r.group ws) (meaning_of head ws))
 
-words-agree : (head : Head) (more : List (List ℕ)) → Agrees head more → (above : List Line) (events : Stamped) (b n t number : ℕ) (g : Option OpenGroup) (ws : List (List ℕ)) → Counts head above events b n t g
+words-agree : (head : Head) (more : List Stated) → Agrees head more → (above : List Line) (events : Stamped) (b n t number : ℕ) (g : Option OpenGroup) (ws : List (List ℕ)) → Counts head above events b n t g
     → (barrier : Bool) → is_barrier (number, ws) ≡ barrier
     → then_read head more (words_taken_as head (kept head.links events b n t number g) ws barrier)
-    ≡ given_with head above events (number, ws) (lines_from (number + 1) more)
+    ≡ given_with head above events (number, ws) (in_words more)
     (cond barrier (barrier_fault head above (number, ws)) (event_fault head above (number, ws)))
     (cond barrier None (option_map (stamped (barriers above) number) (brought (open_group head above) (meaning_of head ws))))
 words-agree head more ih above events b n t number g ws c true k =
@@ -255,29 +260,24 @@ words-agree head more ih above events b n t number g ws c true k =
     let form : Result (Unit {0}) LineKind = placed (may_stand g ws) (barrier_form ws) in
     (λ i. then_read head more (cond (full i) (Err (refused.TooLong Barriers)) (at_line number form >>= (λ _. Ok (phase_ended head (kept head.links events b n t number g))))))
     ∙ barrier-agrees head more ih above events b n t number g ws c k (nat_le MOST_BARRIERS b) form
-    ∙ (λ i. given_with head above events (number, ws) (lines_from (number + 1) more)
+    ∙ (λ i. given_with head above events (number, ws) (in_words more)
     (barrier_fault_of number (nat_le MOST_BARRIERS (sym c.barriers i)) (placed (may_stand (sym c.group i) ws) (barrier_form ws))) None)
 words-agree head more ih above events b n t number g ws c false k =
     counted-agrees head more ih above events b n t number g ws c k (nat_le MOST_LINES n) (is_tick (number, ws)) (nat_le MOST_TICK_LINES t) refl
-    ∙ (λ i. given_with head above events (number, ws) (lines_from (number + 1) more)
+    ∙ (λ i. given_with head above events (number, ws) (in_words more)
     (event_fault_of (nat_le MOST_LINES (sym c.lines i)) (is_tick (number, ws)) (nat_le MOST_TICK_LINES (sym c.ticks i)) number (placed (may_stand (sym c.group i) ws) (meaning_of head ws)))
     (option_map (stamped (sym c.barriers i) number) (brought (sym c.group i) (meaning_of head ws))))
 
-line-agrees : (head : Head) (line : List ℕ) (more : List (List ℕ)) → Agrees head more → (above : List Line) (events : Stamped) (b n t number : ℕ) (g : Option OpenGroup) → Counts head above events b n t g → (skipped : Bool)
-    → then_read head more (cond skipped (Ok (kept head.links events b n t (number + 1) g)) (words_taken head (kept head.links events b n t number g) (words line)))
-    ≡ given head above events (map (λ l. (l.0, words l.1)) (cond (not skipped) ((number, line) ∷ filter (λ l. not (is_skipped l.1)) (enumerate_from (number + 1) more)) (filter (λ l. not (is_skipped l.1)) (enumerate_from (number + 1) more))))
-line-agrees head line more ih above events b n t number g c true = ih above events b n t (number + 1) g c
-line-agrees head line more ih above events b n t number g c false = words-agree head more ih above events b n t number g (words line) c (is_barrier (number, words line)) refl
-
-agrees : (head : Head) (ls : List (List ℕ)) → Agrees head ls
-unfolding lines_taken line_taken
+agrees : (head : Head) (ls : List Stated) → Agrees head ls
+unfolding all_taken
 agrees head [] = agrees-none head
-agrees head (line ∷ more) = λ above events b n t number g c. line-agrees head line more (agrees head more) above events b n t number g c (is_skipped line)
+agrees head (line ∷ more) = λ above events b n t number g c.
+    words-agree head more (agrees head more) above events b n t line.0 g (words line.1) c (is_barrier (line.0, words line.1)) refl
 
 -- from the first line on
 pub reader-agrees : (head : Head) (number : ℕ) (ls : List (List ℕ)) → capture_read head number ls ≡ capture_after head number ls
 unfolding capture_after
 reader-agrees head number ls =
     let empty = lists-empty 0 1 0 (head.links + 1) [] (omega arith) tt in
-    (λ i. lines_taken head (record { phases = []; current = empty i; phase = 1; line = number; events = 0; ticks = 0; group = None }) ls >>= read_all head)
-    ∙ agrees head ls [] [] 0 0 0 number None (record { barriers = refl; lines = refl; ticks = refl; up_to = tt; group = refl })
+    (λ i. lines_taken head (record { phases = []; current = empty i; phase = 1; line = 0; events = 0; ticks = 0; group = None }) (numbered number ls) >>= read_all head)
+    ∙ agrees head (numbered number ls) [] [] 0 0 0 0 None (record { barriers = refl; lines = refl; ticks = refl; up_to = tt; group = refl })

@@ -1,5 +1,5 @@
 //! A capture: its head, and its events by phase and link.
-ghost use Rattle.std.specs.Prelude.{◌≡◌, ◌<◌, ◌≤◌, ◌+◌, ◌^◌, ◌++◌, [], length, IsTrue, IfOk, OnOk};
+ghost use Rattle.std.specs.Prelude.{◌≡◌, ◌<◌, ◌≤◌, ◌+◌, ◌^◌, [], length, IsTrue, IfOk};
 ghost use Rattle.node_head.specs.Lines.{lines, halves};
 ghost use Rattle.node_head.specs.Addable.{are_addable};
 ghost use Rattle.node_head.specs.Head.{begun};
@@ -8,23 +8,21 @@ ghost use Rattle.capture_form.specs.Capture.{Reads, at_head, capture_within, cap
 ghost use Rattle.capture_form.specs.Events.{all_events, IsStamped};
 ghost use Rattle.capture_form.specs.Links.{AreLinked};
 ghost use Rattle.capture_form.specs.declared.steps.TheConstants.{MOST_LINES};
-ghost use Rattle.capture_form.specs.Inner.Words.{texts};
-ghost use Rattle.capture_form.specs.Inner.Reader.{Takes, HeadReads, reading_from, lines_taken, closed, phases_read, phases_closed, capture_read};
+ghost use Rattle.capture_form.specs.Inner.Stated.{numbered};
+ghost use Rattle.capture_form.specs.Inner.Reader.{Takes, HeadReads, nothing_read, lines_taken, closed, phases_read, phases_closed, capture_read};
 
 use crate::changes::OpenGroup;
 use crate::fault::{CaptureFault, Limit, LineFault, LineKind};
 use crate::reading::{PhaseList, Reading};
 use crate::reading_lines::{InThreads, InTurn, LineReader};
-use crate::steps::{empty_phase, take_reads};
+use crate::stated::fill;
+use crate::steps::empty_phase;
 use bstr::{ByteSlice, Lines};
 use node_head::{Head, HeadRefused, take_head};
 use relay_base::Memory;
 use relay_base::limits::MOST_BYTES;
-use std::alloc::{AllocError, Global};
+use std::alloc::Global;
 use std::thread::Threads;
-
-/// The most lines that are read before what they say is taken.
-const MOST_IN_WINDOW: u32 = 65_536;
 
 /// What a capture holds.
 #[derive(Drop)]
@@ -47,75 +45,43 @@ fn head_part(alloc: Global, lines: &mut Lines<'_>) -> Result<(Head, usize), Capt
     }
 }
 
-/// Nothing is read but the head, and the next line has this number.
-fn reading_from(alloc: Global, head: &Head, line: u32) -> Result<Reading, Memory>
-    ensures { IfOk result (λ read. read ≡ reading_from head.now line) }
+/// Nothing is read but the head.
+fn nothing_read(alloc: Global, head: &Head) -> Result<Reading, Memory>
+    ensures { IfOk result (λ read. read ≡ nothing_read head.now) }
 {
     Ok(Reading {
         phases: PhaseList::new(alloc),
         current: empty_phase(alloc, head.links)?,
         phase: 1,
-        line,
+        line: 0,
         events: 0,
         ticks: 0,
         group: None,
     })
 }
 
-/// Fills a window with the lines to come, up to the most. It stays empty where none is to come.
-fn fill<'a>(window: &mut Vec<&'a [u8]>, lines: &mut Lines<'a>) -> Result<(), AllocError>
-    ensures lines { OnOk result (texts window.new.items ++ lines.new ≡ lines.old) }
-    ensures some { OnOk result (length window.new.items ≡ 0 → lines.old ≡ []) }
-{
-    window.clear();
-    for _line in 0..MOST_IN_WINDOW {
-        match lines.next() {
-            None => return Ok(()),
-            Some(line) => window.push(line)?,
-        }
-    }
-    Ok(())
-}
-
-/// Reads the lines of a window.
-fn take_window<L: LineReader>(
-    alloc: Global,
-    reader: &L,
-    head: &Head,
-    read: &mut Reading,
-    window: &[&[u8]],
-) -> Result<(), CaptureFault>
-    requires reader { L.can_read reader.now }
-    requires few { read.old.line + length window.now < 2 ^ 32 }
-    requires links { length read.old.current ≡ head.now.links + 1 }
-    ensures value { Takes read.new result (lines_taken head.now read.old (texts window.now)) }
-    ensures links { OnOk result (length read.new.current ≡ length read.old.current) }
-    ensures line { OnOk result (read.new.line ≡ read.old.line + length window.now) }
-{
-    let reads = reader.read(alloc, head, window)?;
-    take_reads(alloc, head, read, reads)
-}
-
-/// Reads all lines.
+/// Reads all lines, of which the first has the number `first`.
 fn take_lines<L: LineReader>(
     alloc: Global,
     reader: &L,
     head: &Head,
     read: &mut Reading,
+    first: u32,
     lines: &mut Lines<'_>,
 ) -> Result<(), CaptureFault>
     requires reader { L.can_read reader.now }
-    requires few { read.old.line + length lines.old < 2 ^ 32 }
+    requires few { first + length lines.old < 2 ^ 32 }
     requires links { length read.old.current ≡ head.now.links + 1 }
-    ensures { Takes read.new result (lines_taken head.now read.old lines.old) }
+    ensures { Takes read.new result (lines_taken head.now read.old (numbered first lines.old)) }
 {
+    let mut number = first;
     let mut window = Vec::new(alloc);
     loop {
-        fill(&mut window, lines)?;
+        fill(&mut window, &mut number, lines)?;
         if window.is_empty() {
             return Ok(());
         }
-        take_window(alloc, reader, head, read, window.as_slice())?;
+        reader.take(alloc, head, read, window.as_slice())?;
     }
 }
 
@@ -158,10 +124,10 @@ fn read_lines<L: LineReader>(
 ) -> Result<Reading, CaptureFault>
     requires reader { L.can_read reader.now }
     requires few { line + length lines.old < 2 ^ 32 }
-    ensures { Reads result (lines_taken head.now (reading_from head.now line) lines.old) }
+    ensures { Reads result (lines_taken head.now (nothing_read head.now) (numbered line lines.old)) }
 {
-    let mut read = reading_from(alloc, head, line)?;
-    take_lines(alloc, reader, head, &mut read, lines)?;
+    let mut read = nothing_read(alloc, head)?;
+    take_lines(alloc, reader, head, &mut read, line, lines)?;
     Ok(read)
 }
 

@@ -1,8 +1,9 @@
 //! What a line says, whatever stands above it.
-ghost use Rattle.std.specs.Prelude.{◌≡◌, map, IfOk};
+ghost use Rattle.std.specs.Prelude.{◌≡◌, IfOk};
 ghost use Rattle.capture_form.specs.Inner.Words.{texts};
 ghost use Rattle.capture_form.specs.Inner.LineRead.{words_read, line_read};
-ghost use Rattle.capture_form.specs.Capture.{begins, is_skipped, barrier_form};
+ghost use Rattle.capture_form.specs.Inner.Stated.{seen_line};
+ghost use Rattle.capture_form.specs.Capture.{begins, barrier_form};
 ghost use Rattle.capture_form.specs.Line.{meaning_of};
 
 use crate::fault::LineKind;
@@ -10,6 +11,7 @@ use crate::groups::{Standing, standing_of};
 use crate::line::meaning_of;
 use crate::meaning::Meaning;
 use crate::refused::LineRefused;
+use crate::stated::StatedLine;
 use crate::text::split_words;
 use node_head::Head;
 use relay_base::Memory;
@@ -23,15 +25,20 @@ pub struct EventRead {
     pub meaning: Result<Meaning, LineKind>,
 }
 
-/// What a line says.
+/// What the words of a line say.
 #[derive(Drop)]
-pub enum LineRead {
-    /// Nothing, as an empty line and a comment.
-    Skipped,
+pub enum Saying {
     /// A phase ends. How the barrier may stand, and whether its form is right.
     Barrier(Standing, Result<(), LineKind>),
     /// What an event line says.
     Event(EventRead),
+}
+
+/// What a line says, and its number.
+#[derive(Drop)]
+pub struct LineRead {
+    pub number: u32,
+    pub saying: Saying,
 }
 
 /// Whether the first of the words is this one.
@@ -42,13 +49,6 @@ fn begins(word: &[u8], words: &[&[u8]]) -> bool
         [] => false,
         [first, ..] => *first == word,
     }
-}
-
-/// An empty line, or a comment.
-pub fn is_skipped(line: &[u8]) -> bool
-    ensures { result ≡ is_skipped line.now }
-{
-    line.is_empty() || line[0] == b'#'
 }
 
 /// What is wrong with a barrier, which is one word.
@@ -78,16 +78,16 @@ fn meaning_read(
 }
 
 /// What the words of a line say.
-fn read_words(alloc: Global, head: &Head, words: &[&[u8]]) -> Result<LineRead, Memory>
-    ensures { IfOk result (λ read. read ≡ words_read head.now (texts words.now)) }
+fn read_words(alloc: Global, head: &Head, words: &[&[u8]]) -> Result<Saying, Memory>
+    ensures { IfOk result (λ saying. saying ≡ words_read head.now (texts words.now)) }
 {
     let standing = standing_of(words);
     if begins(b"w", words) {
-        return Ok(LineRead::Barrier(standing, barrier_form(words)));
+        return Ok(Saying::Barrier(standing, barrier_form(words)));
     }
     let is_tick = begins(b"t", words);
     let meaning = meaning_read(alloc, head, words)?;
-    Ok(LineRead::Event(EventRead {
+    Ok(Saying::Event(EventRead {
         standing,
         is_tick,
         meaning,
@@ -95,31 +95,18 @@ fn read_words(alloc: Global, head: &Head, words: &[&[u8]]) -> Result<LineRead, M
 }
 
 /// What a line says, of which the words take the memory of those of the line before it.
-#[tactic(auto, unfolding(crate::specs::Inner::LineRead::line_read))]
-fn read_line<'a>(
+pub fn read_line<'a>(
     alloc: Global,
     head: &Head,
-    line: &'a [u8],
+    line: &StatedLine<'a>,
     words: &mut Vec<&'a [u8]>,
 ) -> Result<LineRead, Memory>
-    ensures { IfOk result (λ read. read ≡ line_read head.now line.now) }
+    ensures { IfOk result (λ read. read ≡ line_read head.now (seen_line line.now)) }
 {
-    if is_skipped(line) {
-        return Ok(LineRead::Skipped);
-    }
-    split_words(words, line)?;
-    read_words(alloc, head, words.as_slice())
-}
-
-/// What each line of a block says.
-pub fn read_block(alloc: Global, head: &Head, lines: &[&[u8]]) -> Result<Vec<LineRead>, Memory>
-    ensures { IfOk result (λ reads. reads.items ≡ map (line_read head.now) (texts lines.now)) }
-{
-    let mut reads = Vec::with_capacity(alloc, lines.len())?;
-    let mut words = Vec::new(alloc);
-    for line in lines {
-        let read = read_line(alloc, head, line, &mut words)?;
-        reads.push_reserved(read);
-    }
-    Ok(reads)
+    split_words(words, line.octets)?;
+    let saying = read_words(alloc, head, words.as_slice())?;
+    Ok(LineRead {
+        number: line.number,
+        saying,
+    })
 }

@@ -13,7 +13,7 @@ pub type Phase = PlainList<StampedControlList>;
 /// Phases, the first of which is number 1.
 pub type PhaseList = PlainList<Phase>;
 
-/// What was read so far: the phases that ended, the one that stands, its number, that of the next line, how many event
+/// What was read so far: the phases that ended, the one that stands, its number, that of the line that is taken, how many event
 /// lines there are, and tick lines among them, and the group that stands open.
 #[derive(Drop)]
 pub struct Reading {

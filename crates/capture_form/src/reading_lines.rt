@@ -1,13 +1,19 @@
 //! How lines are read: one after the other, or in threads.
-ghost use Rattle.std.specs.Prelude.{◌≡◌, ◌<◌, ◌≤◌, ◌*◌, [], map, Ok, IfOk};
+ghost use Rattle.std.specs.Prelude.{◌≡◌, ◌<◌, ◌≤◌, ◌*◌, ◌+◌, length, Ok, IfOk, OnOk};
+ghost use Rattle.std.specs.List.{AllByRecursion};
 ghost use Rattle.std.specs.Thread.{IsSync};
-ghost use Rattle.capture_form.specs.Inner.Words.{texts};
-ghost use Rattle.capture_form.specs.Inner.LineRead.{line_read};
-ghost use Rattle.capture_form.specs.Inner.Blocks.{joined};
+ghost use Rattle.capture_form.specs.Inner.Stated.{seen_lines};
+ghost use Rattle.capture_form.specs.Inner.LineRead.{AreRead};
+ghost use Rattle.capture_form.specs.Inner.Reader.{Takes, AreAsMany, lines_taken};
+ghost use Rattle.capture_form.specs.Inner.Blocks.{IsBlockWithin, blocks_taken};
 
-use crate::line_read::{LineRead, read_block};
+use crate::fault::CaptureFault;
+use crate::line_read::{LineRead, read_line};
+use crate::reading::Reading;
+use crate::stated::StatedLine;
+use crate::steps::{take_line, take_reads};
 use node_head::Head;
-use relay_base::Memory;
+use relay_base::{Memory, take_spare};
 use std::alloc::Global;
 use std::thread;
 use std::thread::Threads;
@@ -18,19 +24,50 @@ const MOST_BLOCKS: usize = 8;
 /// The fewest lines of a block, but for the last one.
 const LEAST_BLOCK: usize = 1_024;
 
-/// What reads lines.
+/// How many octets of memory a line takes once it is read.
+const LINE_OCTETS: usize = 256;
+
+/// What reads lines, and takes what they say.
 pub trait LineReader {
-    ghost use Rattle.std.specs.Prelude.{◌≡◌, map, IfOk};
-    ghost use Rattle.capture_form.specs.Inner.Words.{texts};
-    ghost use Rattle.capture_form.specs.Inner.LineRead.{line_read};
+    ghost use Rattle.std.specs.Prelude.{◌≡◌, ◌+◌, length, OnOk};
+    ghost use Rattle.capture_form.specs.Inner.Stated.{seen_lines};
+    ghost use Rattle.capture_form.specs.Inner.Reader.{Takes, AreAsMany, lines_taken};
 
     /// What the reader needs to read lines.
     ghost can_read: { Self → Type 0 };
 
-    /// What each of the lines says.
-    fn read(&self, alloc: Global, head: &Head, lines: &[&[u8]]) -> Result<Vec<LineRead>, Memory>
-        requires { can_read self.now }
-        ensures { IfOk result (λ reads. reads.items ≡ map (line_read head.now) (texts lines.now)) };
+    /// Reads lines, and takes what each says, up to the first fault.
+    fn take(
+        &self,
+        alloc: Global,
+        head: &Head,
+        read: &mut Reading,
+        lines: &[StatedLine<'_>],
+    ) -> Result<(), CaptureFault>
+        requires reader { can_read self.now }
+        requires links { length read.old.current ≡ head.now.links + 1 }
+        ensures value { Takes read.new result (lines_taken head.now read.old (seen_lines lines.now)) }
+        ensures kept { OnOk result (AreAsMany read.old read.new) };
+}
+
+/// Reads lines one after the other, and takes what each says.
+#[tactic(auto, unfolding(crate::specs::Inner::Reader::all_taken))]
+fn take_in_turn(
+    alloc: Global,
+    head: &Head,
+    read: &mut Reading,
+    lines: &[StatedLine<'_>],
+) -> Result<(), CaptureFault>
+    requires links { length read.old.current ≡ head.now.links + 1 }
+    ensures value { Takes read.new result (lines_taken head.now read.old (seen_lines lines.now)) }
+    ensures kept { OnOk result (AreAsMany read.old read.new) }
+{
+    let mut words = Vec::new(alloc);
+    for line in lines {
+        let said = read_line(alloc, head, line, &mut words)?;
+        take_line(alloc, head, read, said)?;
+    }
+    Ok(())
 }
 
 /// Reads lines one after the other.
@@ -39,8 +76,14 @@ pub struct InTurn;
 impl LineReader for InTurn {
     ghost can_read = { λ _. Unit {0} };
 
-    fn read(&self, alloc: Global, head: &Head, lines: &[&[u8]]) -> Result<Vec<LineRead>, Memory> {
-        read_block(alloc, head, lines)
+    fn take(
+        &self,
+        alloc: Global,
+        head: &Head,
+        read: &mut Reading,
+        lines: &[StatedLine<'_>],
+    ) -> Result<(), CaptureFault> {
+        take_in_turn(alloc, head, read, lines)
     }
 }
 
@@ -52,46 +95,64 @@ fn block_size(lines: usize) -> usize
     lines.div_ceil(MOST_BLOCKS).max(LEAST_BLOCK)
 }
 
-/// What the lines of all blocks say, of which there are so many, or want of memory in one of them.
-#[tactic(auto, unfolding(crate::specs::Inner::Blocks::joined))]
-fn joined(
-    alloc: Global,
-    lines: usize,
-    blocks: Vec<Result<Vec<LineRead>, Memory>>,
-) -> Result<Vec<LineRead>, Memory>
-    ensures { IfOk result (λ reads. joined [] blocks.items ≡ Ok reads.items) }
+/// What each line of a block says.
+fn read_block(alloc: Global, head: &Head, lines: &[StatedLine<'_>]) -> Result<Vec<LineRead>, Memory>
+    ensures { IfOk result (λ reads. AreRead head.now lines.now reads.items) }
 {
-    let mut reads = Vec::with_capacity(alloc, lines)?;
-    for block in blocks {
-        let mut block = block?;
-        reads.append(&mut block)?;
+    take_spare(alloc, lines.len().saturating_mul(LINE_OCTETS));
+    let mut reads = Vec::with_capacity(alloc, lines.len())?;
+    let mut words = Vec::new(alloc);
+    for line in lines {
+        let read = read_line(alloc, head, line, &mut words)?;
+        reads.push_reserved(read);
     }
     Ok(reads)
 }
 
-/// What each of the lines says, read in blocks, each in a thread of its own where one can be made.
-fn read_in_threads<R: Threads + Sync>(
+/// Takes what the lines of blocks say, one block after the other.
+#[tactic(auto, unfolding(crate::specs::Inner::Blocks::blocks_taken))]
+fn take_blocks(
+    alloc: Global,
+    head: &Head,
+    read: &mut Reading,
+    blocks: Vec<Result<Vec<LineRead>, Memory>>,
+) -> Result<(), CaptureFault>
+    requires links { length read.old.current ≡ head.now.links + 1 }
+    requires within { AllByRecursion (IsBlockWithin head.now.links) blocks.items }
+    ensures value { Takes read.new result (blocks_taken head.now read.old blocks.items) }
+    ensures kept { OnOk result (AreAsMany read.old read.new) }
+{
+    for block in blocks {
+        take_reads(alloc, head, read, block?)?;
+    }
+    Ok(())
+}
+
+/// Reads lines in blocks, each in a thread of its own where one can be made, and takes what each says.
+fn take_in_threads<R: Threads + Sync>(
     rt: &R,
     alloc: Global,
     head: &Head,
-    lines: &[&[u8]],
-) -> Result<Vec<LineRead>, Memory>
-    ensures { IfOk result (λ reads. reads.items ≡ map (line_read head.now) (texts lines.now)) }
+    read: &mut Reading,
+    lines: &[StatedLine<'_>],
+) -> Result<(), CaptureFault>
+    requires links { length read.old.current ≡ head.now.links + 1 }
+    ensures value { Takes read.new result (lines_taken head.now read.old (seen_lines lines.now)) }
+    ensures kept { OnOk result (AreAsMany read.old read.new) }
 {
-    let size = block_size(lines.len());
     let blocks = thread::map_chunks(
         rt,
         alloc,
         lines,
-        size,
-        &|_: usize, block: &[&[u8]]| -> Result<Vec<LineRead>, Memory>
-            ensures { IfOk result (λ reads. reads.items ≡ map (line_read head.entry.now) (texts block.now)) }
+        block_size(lines.len()),
+        &|_: usize, block: &[StatedLine<'_>]| -> Result<Vec<LineRead>, Memory>
+            ensures { IfOk result (λ reads. AreRead head.entry.now block.now reads.items) }
         { read_block(alloc, head, block) },
     )?;
-    joined(alloc, lines.len(), blocks)
+    take_blocks(alloc, head, read, blocks)
 }
 
-/// Reads lines in threads.
+/// Reads lines in threads where they are more than a block.
 #[derive(Drop)]
 pub struct InThreads<'r, R: Threads + Sync> {
     rt: &'r R,
@@ -106,7 +167,17 @@ impl<'r, R: Threads + Sync> InThreads<'r, R> {
 impl<'r, R: Threads + Sync> LineReader for InThreads<'r, R> {
     ghost can_read = { λ _. IsSync R.row };
 
-    fn read(&self, alloc: Global, head: &Head, lines: &[&[u8]]) -> Result<Vec<LineRead>, Memory> {
-        read_in_threads(self.rt, alloc, head, lines)
+    fn take(
+        &self,
+        alloc: Global,
+        head: &Head,
+        read: &mut Reading,
+        lines: &[StatedLine<'_>],
+    ) -> Result<(), CaptureFault> {
+        if lines.len() <= LEAST_BLOCK {
+            take_in_turn(alloc, head, read, lines)
+        } else {
+            take_in_threads(self.rt, alloc, head, read, lines)
+        }
     }
 }

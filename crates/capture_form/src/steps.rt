@@ -3,12 +3,12 @@ ghost use Rattle.std.specs.Prelude.{◌≡◌, ◌<◌, ◌+◌, ◌-◌, ◌^�
 ghost use Rattle.std.specs.List.{AllByRecursion};
 ghost use Rattle.capture_form.specs.Capture.{Reads};
 ghost use Rattle.capture_form.specs.Inner.LineRead.{may_stand_as};
-ghost use Rattle.capture_form.specs.Inner.Reader.{Takes, IsNext, IsStill, IsWithin, IsReadWithin, pushed, with_event, empty_phase, phase_ended, barrier_taken, tick_counted, line_counted, meaning_taken, event_put, event_taken, read_taken, reads_taken, at_line};
+ghost use Rattle.capture_form.specs.Inner.Reader.{Takes, AreAsMany, IsStill, IsWithin, IsReadWithin, pushed, with_event, empty_phase, phase_ended, barrier_taken, tick_counted, line_counted, meaning_taken, event_put, event_taken, read_taken, reads_taken, at_line};
 
 use crate::changes::{OpenGroup, alone};
 use crate::fault::{CaptureFault, Limit, LineFault, LineKind};
 use crate::groups::{Standing, may_stand, placed};
-use crate::line_read::{EventRead, LineRead};
+use crate::line_read::{EventRead, LineRead, Saying};
 use crate::meaning::Meaning;
 use crate::reading::{Phase, Reading, StampedControlList};
 use node_head::Head;
@@ -80,16 +80,15 @@ fn fitted(alloc: Global, phase: Phase) -> Phase
 
 /// Ends the phase that stands, and begins the next one.
 fn end_phase(alloc: Global, head: &Head, read: &mut Reading) -> Result<(), CaptureFault>
-    requires few { (read.old.phase + 1 < 2 ^ 32) × (read.old.line + 1 < 2 ^ 32) }
+    requires few { read.old.phase + 1 < 2 ^ 32 }
     requires links { length read.old.current ≡ head.now.links + 1 }
     ensures value { Takes read.new result (Ok (phase_ended head.now read.old)) }
-    ensures kept { OnOk result (IsNext read.old read.new) }
+    ensures kept { OnOk result (AreAsMany read.old read.new) }
 {
     let next = empty_phase(alloc, head.links)?;
     let ended = mem::replace(&mut read.current, next);
     read.phases.push(fitted(alloc, ended))?;
     read.phase += 1;
-    read.line += 1;
     Ok(())
 }
 
@@ -101,11 +100,10 @@ fn take_barrier(
     standing: Standing,
     form: Result<(), LineKind>,
 ) -> Result<(), CaptureFault>
-    requires line { read.old.line + 1 < 2 ^ 32 }
     requires links { length read.old.current ≡ head.now.links + 1 }
     ensures value { let stands = may_stand_as read.old.group standing in
         Takes read.new result (barrier_taken head.now read.old stands form) }
-    ensures kept { OnOk result (IsNext read.old read.new) }
+    ensures kept { OnOk result (AreAsMany read.old read.new) }
 {
     if read.phase > MOST_BARRIERS {
         return Err(CaptureFault::TooLong(Limit::Barriers));
@@ -212,28 +210,25 @@ fn put_meaning(
     stands: bool,
     form: Result<Meaning, LineKind>,
 ) -> Result<(), CaptureFault>
-    requires line { read.old.line + 1 < 2 ^ 32 }
     requires some { 0 < length read.old.current }
     requires within { IfOk form (IsWithin (length read.old.current - 1)) }
     requires few { read.old.events < MOST_LINES }
     ensures value { Takes read.new result (event_put stands form read.old) }
-    ensures kept { OnOk result (IsNext read.old read.new) }
+    ensures kept { OnOk result (AreAsMany read.old read.new) }
 {
     let meaning = at_line(read.line, placed(stands, form))?;
     take_meaning(alloc, read, meaning)?;
     read.events += 1;
-    read.line += 1;
     Ok(())
 }
 
 /// Takes an event line.
 fn take_event(alloc: Global, read: &mut Reading, event: EventRead) -> Result<(), CaptureFault>
-    requires line { read.old.line + 1 < 2 ^ 32 }
     requires some { 0 < length read.old.current }
     requires within { IfOk event.meaning (IsWithin (length read.old.current - 1)) }
     ensures value { let stands = may_stand_as read.old.group event.standing in
         Takes read.new result (event_taken read.old event.is_tick stands event.meaning) }
-    ensures kept { OnOk result (IsNext read.old read.new) }
+    ensures kept { OnOk result (AreAsMany read.old read.new) }
 {
     count_line(read, event.is_tick)?;
     let stands = may_stand(&read.group, event.standing);
@@ -247,36 +242,31 @@ pub fn take_line(
     read: &mut Reading,
     line: LineRead,
 ) -> Result<(), CaptureFault>
-    requires line { read.old.line + 1 < 2 ^ 32 }
     requires links { length read.old.current ≡ head.now.links + 1 }
     requires within { IsReadWithin head.now.links line }
     ensures value { Takes read.new result (read_taken head.now read.old line) }
-    ensures kept { OnOk result (IsNext read.old read.new) }
+    ensures kept { OnOk result (AreAsMany read.old read.new) }
 {
-    match line {
-        LineRead::Skipped => {
-            read.line += 1;
-            Ok(())
-        }
-        LineRead::Barrier(standing, form) => take_barrier(alloc, head, read, standing, form),
-        LineRead::Event(event) => take_event(alloc, read, event),
+    let LineRead { number, saying } = line;
+    read.line = number;
+    match saying {
+        Saying::Barrier(standing, form) => take_barrier(alloc, head, read, standing, form),
+        Saying::Event(event) => take_event(alloc, read, event),
     }
 }
 
 /// Takes lines one after the other.
-#[tactic(auto, unfolding(crate::specs::Inner::Reader::reads_taken))]
+#[tactic(auto, unfolding(crate::specs::Inner::Reader::all_taken))]
 pub fn take_reads(
     alloc: Global,
     head: &Head,
     read: &mut Reading,
     lines: Vec<LineRead>,
 ) -> Result<(), CaptureFault>
-    requires few { read.old.line + length lines.items < 2 ^ 32 }
     requires links { length read.old.current ≡ head.now.links + 1 }
     requires within { AllByRecursion (IsReadWithin head.now.links) lines.items }
     ensures value { Takes read.new result (reads_taken head.now read.old lines.items) }
-    ensures links { OnOk result (length read.new.current ≡ length read.old.current) }
-    ensures line { OnOk result (read.new.line ≡ read.old.line + length lines.items) }
+    ensures kept { OnOk result (AreAsMany read.old read.new) }
 {
     for line in lines {
         take_line(alloc, head, read, line)?;

@@ -1,17 +1,20 @@
 -- What a line says, whatever stands above it.
-use Rattle.std.specs.Prelude.{ℕ, nat_lt, codes, Bool, true, false, List, length, if◌then◌else◌, Option, Some, None}
+use Rattle.std.specs.Prelude.{◌≡◌, ℕ, nat_lt, codes, Bool, true, false, List, length, map, Option, Some, None, if◌then◌else◌}
 use Rattle.node_head.specs.declared.head.Head.{Head}
 use Rattle.capture_form.specs.Text.{words}
 use Rattle.capture_form.specs.Line.{meaning_of}
 use Rattle.capture_form.specs.Groups.{is_edit, is_commit}
-use Rattle.capture_form.specs.Capture.{is_skipped, begins, barrier_form}
+use Rattle.capture_form.specs.Capture.{begins, barrier_form}
 use Rattle.capture_form.specs.declared.changes.OpenGroup.{OpenGroup}
 use Rattle.capture_form.specs.declared.groups.Standing.{Standing}
 use Rattle.capture_form.specs.declared.groups.Standing.TheVariants.{Edit, Commit, Other}
 use Rattle.capture_form.specs.declared.groups.TheConstants.{MOST_CHANGES}
 use Rattle.capture_form.specs.declared.line_read.EventRead.{EventRead}
 use Rattle.capture_form.specs.declared.line_read.LineRead.{LineRead}
-use Rattle.capture_form.specs.declared.line_read.LineRead.TheVariants.{Skipped, Barrier, Event}
+use Rattle.capture_form.specs.declared.line_read.Saying.{Saying}
+use Rattle.capture_form.specs.declared.line_read.Saying.TheVariants.{Barrier, Event}
+use Rattle.capture_form.specs.declared.stated.StatedLine.{StatedLine}
+use Rattle.capture_form.specs.Inner.Stated.{Stated, seen_lines}
 
 -- how a line may stand among groups, by its words
 abbrev pub standing_of : List (List ℕ) → Standing
@@ -30,10 +33,14 @@ may_stand_as (Some group) Other = false
 abbrev pub event_read : Head → List (List ℕ) → EventRead
 event_read head ws = record { standing = standing_of ws; is_tick = begins (codes "t") ws; meaning = meaning_of head ws }
 
--- a line that is not skipped
-abbrev pub words_read : Head → List (List ℕ) → LineRead
+-- the words of a line
+abbrev pub words_read : Head → List (List ℕ) → Saying
 words_read head ws = if begins (codes "w") ws then Barrier (standing_of ws) (barrier_form ws) else Event (event_read head ws)
 
--- each line
-unfoldable pub line_read : Head → List ℕ → LineRead
-line_read head line = if is_skipped line then Skipped else words_read head (words line)
+-- a line
+abbrev pub line_read : Head → Stated → LineRead
+line_read head line = record { number = line.0; saying = words_read head (words line.1) }
+
+-- this is what each of the lines says
+abbrev pub AreRead : Head → List StatedLine → List LineRead → Type 0
+AreRead head lines reads = reads ≡ map (line_read head) (seen_lines lines)

@@ -1,5 +1,5 @@
 -- A reader of lines, which keeps what it read so far.
-use Rattle.std.specs.Prelude.{◌≡◌, ℕ, ◌+◌, ◌≤◌, ◌==◌, nat_lt, nat_le, codes, Bool, List, [], ◌∷◌, ◌++◌, length, Option, Some, None, slice_index_or, slice_set, replicate, if◌then◌else◌, Ok, Err, IfOk}
+use Rattle.std.specs.Prelude.{◌≡◌, ℕ, ◌+◌, ◌≤◌, ◌==◌, nat_lt, nat_le, codes, Bool, List, [], ◌∷◌, ◌++◌, length, Option, Some, None, slice_index_or, slice_set, replicate, Ok, Err, IfOk, if◌then◌else◌}
 use Rattle.std.specs.declared.result.Result.{Result}
 use Rattle.relay_base.specs.Giving.{◌>>=◌, GivesOrMemory}
 use Rattle.relay_base.specs.declared.words.Stamp.{Stamp}
@@ -12,7 +12,7 @@ use Rattle.capture_form.specs.declared.meaning.Meaning.{Meaning}
 use Rattle.capture_form.specs.declared.changes.OpenGroup.{OpenGroup}
 use Rattle.capture_form.specs.declared.meaning.Meaning.TheVariants.{Event}
 use Rattle.capture_form.specs.Events.{Stamped}
-use Rattle.capture_form.specs.Capture.{fault_in, is_skipped, begins, barrier_form}
+use Rattle.capture_form.specs.Capture.{fault_in, begins, barrier_form}
 use Rattle.capture_form.specs.Inner.LineRead.{may_stand_as}
 use Rattle.capture_form.specs.declared.steps.TheConstants.{MOST_LINES, MOST_TICK_LINES, MOST_BARRIERS}
 use Rattle.capture_form.specs.declared.fault.LineKind.{LineKind}
@@ -22,7 +22,9 @@ use Rattle.capture_form.specs.declared.fault.CaptureFault.{CaptureFault}
 use Rattle.capture_form.specs.declared.fault.CaptureFault.TheVariants as refused
 use Rattle.capture_form.specs.declared.capture.Capture.{Capture}
 use Rattle.capture_form.specs.declared.line_read.LineRead.{LineRead}
-use Rattle.capture_form.specs.declared.line_read.LineRead.TheVariants as said
+use Rattle.capture_form.specs.declared.line_read.Saying.{Saying}
+use Rattle.capture_form.specs.declared.line_read.Saying.TheVariants as said
+use Rattle.capture_form.specs.Inner.Stated.{Stated, numbered}
 use Rattle.capture_form.specs.declared.reading.Reading.{Reading}
 
 -- the call left what is read by then, unless memory ran out
@@ -33,9 +35,9 @@ Takes left result given = GivesOrMemory (λ _. left) fault_in result given
 abbrev pub HeadReads : List (List ℕ) → Result (Head × ℕ) CaptureFault → Result (Head × ℕ × List (List ℕ)) CaptureFault → Type 0
 HeadReads rest result given = GivesOrMemory (λ (h : Head × ℕ). (h.0, h.1, rest)) fault_in result given
 
--- the next line is to be read, into as many lists
-abbrev pub IsNext : Reading → Reading → Type 0
-IsNext old new = (length new.current ≡ length old.current) × (new.line ≡ old.line + 1)
+-- there are as many lists
+abbrev pub AreAsMany : Reading → Reading → Type 0
+AreAsMany old new = length new.current ≡ length old.current
 
 -- the lists, the line and the group are as before
 abbrev pub IsStill : Reading → Reading → Type 0
@@ -47,9 +49,12 @@ IsWithin links (Event link event) = link ≤ links
 IsWithin links _ = Unit {0}
 
 -- what a line says is about these links
+abbrev pub IsSaidWithin : ℕ → Saying → Type 0
+IsSaidWithin links (said.Event event) = IfOk event.meaning (IsWithin links)
+IsSaidWithin links _ = Unit {0}
+
 abbrev pub IsReadWithin : ℕ → LineRead → Type 0
-IsReadWithin links (said.Event event) = IfOk event.meaning (IsWithin links)
-IsReadWithin links _ = Unit {0}
+IsReadWithin links line = IsSaidWithin links line.saying
 
 -- the lists of a phase with an event at the end of one
 abbrev pub pushed : List Stamped → ℕ → Stamp × ControlEvent → List Stamped
@@ -65,7 +70,7 @@ empty_phase links = replicate (links + 1) []
 
 -- the phase that stands ends, and the next one begins
 abbrev pub phase_ended : Head → Reading → Reading
-phase_ended head r = record r { phases = r.phases ++ r.current ∷ []; current = empty_phase head.links; phase = r.phase + 1; line = r.line + 1 }
+phase_ended head r = record r { phases = r.phases ++ r.current ∷ []; current = empty_phase head.links; phase = r.phase + 1 }
 
 -- the lists of the phase that stands, with the event of the line, if there is one, at the end of its link's list
 abbrev pub with_event : Reading → Option Linked → List Stamped
@@ -78,7 +83,7 @@ meaning_taken r meaning = record r { current = with_event r (event_in r.group me
 
 -- an event line more was read
 abbrev pub line_added : Reading → Reading
-line_added r = record r { events = r.events + 1; line = r.line + 1 }
+line_added r = record r { events = r.events + 1 }
 
 -- a barrier, of which there are at most 1,000
 abbrev pub barrier_taken : Head → Reading → Bool → Result (Unit {0}) LineKind → Result Reading CaptureFault
@@ -110,29 +115,37 @@ words_taken head r ws =
     if begins (codes "w") ws then barrier_taken head r (may_stand r.group ws) (barrier_form ws)
     else event_taken r (begins (codes "t") ws) (may_stand r.group ws) (meaning_of head ws)
 
--- one line more was read
-unfoldable pub line_taken : Head → Reading → List ℕ → Result Reading CaptureFault
-line_taken head r line = if is_skipped line then Ok (record r { line = r.line + 1 }) else words_taken head r (words line)
+-- the line of this number is taken
+abbrev pub at_number : Reading → ℕ → Reading
+at_number r number = record r { line = number }
 
--- all lines
-unfoldable pub lines_taken : Head → Reading → List (List ℕ) → Result Reading CaptureFault
-lines_taken head r [] = Ok r
-lines_taken head r (line ∷ more) = line_taken head r line >>= (λ s. lines_taken head s more)
+-- one line more was read
+abbrev pub line_taken : Head → Reading → Stated → Result Reading CaptureFault
+line_taken head r line = words_taken head (at_number r line.0) (words line.1)
+
+-- what a line says was taken
+abbrev pub said_taken : Head → Reading → Saying → Result Reading CaptureFault
+said_taken head r (said.Barrier standing form) = barrier_taken head r (may_stand_as r.group standing) form
+said_taken head r (said.Event event) = event_taken r event.is_tick (may_stand_as r.group event.standing) event.meaning
 
 -- one line more was taken, of which it is known what it says
 abbrev pub read_taken : Head → Reading → LineRead → Result Reading CaptureFault
-read_taken head r said.Skipped = Ok (record r { line = r.line + 1 })
-read_taken head r (said.Barrier standing form) = barrier_taken head r (may_stand_as r.group standing) form
-read_taken head r (said.Event event) = event_taken r event.is_tick (may_stand_as r.group event.standing) event.meaning
+read_taken head r line = said_taken head (at_number r line.number) line.saying
 
--- all such lines
-unfoldable pub reads_taken : Head → Reading → List LineRead → Result Reading CaptureFault
-reads_taken head r [] = Ok r
-reads_taken head r (line ∷ more) = read_taken head r line >>= (λ s. reads_taken head s more)
+-- one after the other, up to the first fault
+unfoldable pub all_taken : {A : Type 0} → (Reading → A → Result Reading CaptureFault) → Reading → List A → Result Reading CaptureFault
+all_taken take r [] = Ok r
+all_taken take r (x ∷ more) = take r x >>= (λ s. all_taken take s more)
 
--- before the first event line, which has this number
-abbrev pub reading_from : Head → ℕ → Reading
-reading_from head number = record { phases = []; current = empty_phase head.links; phase = 1; line = number; events = 0; ticks = 0; group = None }
+abbrev pub lines_taken : Head → Reading → List Stated → Result Reading CaptureFault
+lines_taken head r ls = all_taken (line_taken head) r ls
+
+abbrev pub reads_taken : Head → Reading → List LineRead → Result Reading CaptureFault
+reads_taken head r reads = all_taken (read_taken head) r reads
+
+-- before the first line
+abbrev pub nothing_read : Head → Reading
+nothing_read head = record { phases = []; current = empty_phase head.links; phase = 1; line = 0; events = 0; ticks = 0; group = None }
 
 -- no group stands open behind the last line
 abbrev pub closed : Option OpenGroup → Result (Unit {0}) CaptureFault
@@ -150,6 +163,6 @@ phases_closed r = closed r.group >>= (λ _. Ok (phases_read r))
 -- the capture of a head and the lines after it, of which the first has this number
 abbrev pub capture_read : Head → ℕ → List (List ℕ) → Result Capture CaptureFault
 capture_read head number ls = do
-  r ← lines_taken head (reading_from head number) ls
+  r ← lines_taken head (nothing_read head) (numbered number ls)
   _ ← closed r.group
   Ok (record { head = head; phases = phases_read r })

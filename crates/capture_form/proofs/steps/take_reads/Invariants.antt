@@ -1,6 +1,6 @@
-use Rattle.std.proofs.Common.{◌≡◌, ◌+◌, length}
+use Rattle.std.proofs.Common.{◌≡◌}
 use Rattle.std.specs.List.{AllByRecursion}
-use Rattle.capture_form.specs.Inner.Reader.{IsReadWithin, reads_taken}
+use Rattle.capture_form.specs.Inner.Reader.{AreAsMany, IsReadWithin, reads_taken}
 use Rattle.capture_form.proofs.steps.take_reads.Given as goal
 
 -- what was taken so far, and what the lines to come make of it
@@ -8,6 +8,5 @@ abbrev pub invariant-loop-line : goal.invariant-loop-line
 invariant-loop-line l = record {
   taken : reads_taken l.head l.read l.line-iterator.rest.items ≡ reads_taken l.head l.fn.read l.fn.lines.items;
   within : AllByRecursion (IsReadWithin l.head.links) l.line-iterator.rest.items;
-  links : length l.read.current ≡ length l.fn.read.current;
-  number : l.read.line + length l.line-iterator.rest.items ≡ l.fn.read.line + length l.fn.lines.items;
+  kept : AreAsMany l.fn.read l.read;
 }

@@ -1,0 +1,69 @@
+//! The lines that state something, each with its number.
+ghost use Rattle.std.specs.Prelude.{◌≡◌, ◌<◌, ◌+◌, ◌^◌, ◌++◌, [], None, length, OnOk};
+ghost use Rattle.std.specs.Option.{option_map};
+ghost use Rattle.std.specs.List.{cons_option};
+ghost use Rattle.capture_form.specs.Capture.{is_skipped};
+ghost use Rattle.capture_form.specs.Inner.Stated.{numbered, seen_line, seen_lines};
+
+use bstr::Lines;
+use std::alloc::AllocError;
+
+/// The most lines that are read before what they say is taken.
+const MOST_IN_WINDOW: u32 = 65_536;
+
+/// A line that is neither empty nor a comment, and its number.
+#[derive(Clone, Copy)]
+pub struct StatedLine<'a> {
+    pub number: u32,
+    pub octets: &'a [u8],
+}
+
+/// An empty line, or a comment.
+pub fn is_skipped(line: &[u8]) -> bool
+    ensures { result ≡ is_skipped line.now }
+{
+    line.is_empty() || line[0] == b'#'
+}
+
+/// The next line that states something, if there is one; the first of the lines has the number `number`.
+fn next_stated<'a>(number: &mut u32, lines: &mut Lines<'a>) -> Option<StatedLine<'a>>
+    requires few { number.old + length lines.old < 2 ^ 32 }
+    ensures lines { let line = option_map seen_line result in
+        cons_option line (numbered number.new lines.new) ≡ numbered number.old lines.old }
+    ensures end { result ≡ None → lines.new ≡ [] }
+    ensures few { number.new + length lines.new ≡ number.old + length lines.old }
+{
+    while let Some(octets) = lines.next() {
+        let line = StatedLine {
+            number: *number,
+            octets,
+        };
+        *number += 1;
+        if !is_skipped(octets) {
+            return Some(line);
+        }
+    }
+    None
+}
+
+/// Fills a window with the stated lines to come, up to the most. It stays empty where none is to come.
+pub fn fill<'a>(
+    window: &mut Vec<StatedLine<'a>>,
+    number: &mut u32,
+    lines: &mut Lines<'a>,
+) -> Result<(), AllocError>
+    requires few { number.old + length lines.old < 2 ^ 32 }
+    ensures lines { let rest = numbered number.new lines.new in
+        OnOk result (seen_lines window.new.items ++ rest ≡ numbered number.old lines.old) }
+    ensures end { OnOk result (length window.new.items ≡ 0 → lines.new ≡ []) }
+    ensures few { OnOk result (number.new + length lines.new ≡ number.old + length lines.old) }
+{
+    window.clear();
+    for _line in 0..MOST_IN_WINDOW {
+        match next_stated(number, lines) {
+            None => return Ok(()),
+            Some(line) => window.push(line)?,
+        }
+    }
+    Ok(())
+}
