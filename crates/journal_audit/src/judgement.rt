@@ -1,9 +1,9 @@
 //! The judgement of a text.
-ghost use Rattle.std.specs.Prelude.{◌≡◌, ◌<◌, ◌+◌, ◌^◌, ◌∷◌, length, map, IfOk};
+ghost use Rattle.std.specs.Prelude.{◌≡◌, ◌<◌, ◌+◌, ◌^◌, ◌∷◌, length, IfOk};
 ghost use Rattle.node_head.specs.Ranges.{IsHead};
 ghost use Rattle.journal_form.specs.Inner.Seen.{seen_lane, seen_lanes};
 ghost use Rattle.journal_finding.specs.Finding.{book_in};
-ghost use Rattle.lane_events.specs.Placing.{with_place};
+ghost use Rattle.lane_events.specs.Placing.{all_placed};
 ghost use Rattle.journal_audit.specs.Audit.{IsFinding};
 ghost use Rattle.journal_audit.specs.Inner.Judging.{fault_in, IsShort, AreShort, others_in};
 
@@ -27,8 +27,7 @@ fn judge_others(
     forms: &[LaneForm<'_>],
 ) -> Result<Option<Fault>, Memory>
     requires head { IsHead capture.now.head }
-    requires placed { let head = capture.now.head in
-        placed.now ≡ map (map (map (with_place head))) capture.now.phases }
+    requires placed { placed.now ≡ all_placed capture.now.head capture.now.phases }
     requires control { control.now.head ≡ capture.now.head }
     requires few { length control.now.journal < 2 ^ 32 }
     requires count { let head = capture.now.head in
@@ -61,8 +60,7 @@ fn judge_placed(
     others: &[LaneForm<'_>],
 ) -> Result<Option<Fault>, Memory>
     requires head { IsHead capture.now.head }
-    requires placed { let head = capture.now.head in
-        placed.now ≡ map (map (map (with_place head))) capture.now.phases }
+    requires placed { placed.now ≡ all_placed capture.now.head capture.now.phases }
     requires count { let head = capture.now.head in
         length others.now ≡ head.conn_lanes + head.data_lanes }
     requires control { IsShort (seen_lane control.now) }

@@ -4,7 +4,7 @@ ghost use Rattle.node_head.specs.Ranges.{IsHead};
 ghost use Rattle.journal_form.specs.Inner.Seen.{seen_lane};
 ghost use Rattle.journal_finding.specs.Finding.{journal_in};
 ghost use Rattle.journal_finding.specs.Lanes.{control_rules};
-ghost use Rattle.lane_events.specs.Placing.{with_place, kept};
+ghost use Rattle.lane_events.specs.Placing.{all_placed, kept};
 ghost use Rattle.lane_audit.specs.Follows.{Names, found_of};
 ghost use Rattle.control_replay.specs.Tables.{IsTable};
 ghost use Rattle.journal_audit.specs.Inner.Judging.{IsShort};
@@ -59,8 +59,7 @@ fn judge_unpublished(
     form: &LaneForm<'_>,
 ) -> Result<Option<Fault>, Memory>
     requires head { IsHead capture.now.head }
-    requires placed { let head = capture.now.head in
-        placed.now ≡ map (map (map (with_place head))) capture.now.phases }
+    requires placed { placed.now ≡ all_placed capture.now.head capture.now.phases }
     requires lane { let head = capture.now.head in
         let phases = capture.now.phases in
         lane.old ≡ record { head = head; phases = phases; journal = [] } }
@@ -85,8 +84,7 @@ pub fn judge_control(
     form: &LaneForm<'_>,
 ) -> Result<Option<Fault>, Memory>
     requires head { IsHead capture.now.head }
-    requires placed { let head = capture.now.head in
-        placed.now ≡ map (map (map (with_place head))) capture.now.phases }
+    requires placed { placed.now ≡ all_placed capture.now.head capture.now.phases }
     requires lane { let head = capture.now.head in
         let phases = capture.now.phases in
         lane.old ≡ record { head = head; phases = phases; journal = [] } }

@@ -21,6 +21,10 @@ is_in (Data number) place = in_data number place
 abbrev pub with_place : Head → Stamp × ControlEvent → LanePlace × (Stamp × ControlEvent)
 with_place head e = (place_of head e.1, e)
 
+-- all events of phases with their places
+abbrev pub all_placed : Head → List (List Stamped) → List (List (List (LanePlace × (Stamp × ControlEvent))))
+all_placed head phases = map (map (map (with_place head))) phases
+
 -- the events that a lane takes of these
 abbrev pub kept : Lane → List (LanePlace × (Stamp × ControlEvent)) → Stamped
 kept lane events = map (λ e. e.1) (filter (λ e. is_in lane e.0) events)

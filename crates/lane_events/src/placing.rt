@@ -1,7 +1,7 @@
 //! The lanes in which the events of a capture are placed.
 ghost use Rattle.std.specs.Prelude.{◌≡◌, map, IfOk};
 ghost use Rattle.node_head.specs.Ranges.{IsHead};
-ghost use Rattle.lane_events.specs.Placing.{with_place, is_in};
+ghost use Rattle.lane_events.specs.Placing.{with_place, all_placed, is_in};
 
 use capture_form::{LanePlace, Phase, PhaseList, place};
 use node_head::Head;
@@ -88,7 +88,7 @@ pub fn place_all<'a>(
     phases: &'a PhaseList,
 ) -> Result<PlacedPhases<'a>, Memory>
     requires { IsHead head.now }
-    ensures { IfOk result (λ p. p ≡ map (map (map (with_place head.now))) phases.now) }
+    ensures { IfOk result (λ p. p ≡ all_placed head.now phases.now) }
 {
     let mut placed = PlainList::new(alloc);
     for phase in phases.as_slice() {

@@ -1,6 +1,5 @@
 //! What each command does, up to the reason why it stops.
-ghost use Rattle.std.specs.Prelude.{◌≡◌, ◌≢◌, ◌≤◌, ◌⊎◌, ℕ, IfOk, IfErr, OnOk, OnErr, Ok, Err, Some, None, map, string_bytes};
-ghost use Rattle.relay_base.specs.Causes.{Rose};
+ghost use Rattle.std.specs.Prelude.{◌≡◌, ◌≤◌, ◌⊎◌, ℕ, IfOk, IfErr, OnOk, OnErr, Ok, Some, None, map, string_bytes};
 ghost use Rattle.relay_base.specs.declared.limits.TheConstants.{MOST_GENERATED_LINES};
 ghost use Rattle.journal_text.specs.Book.{IsEmpty};
 ghost use Rattle.right_book.specs.Right.{IsRight};
@@ -15,7 +14,7 @@ ghost use Rattle.book_output.specs.Report.{report_text};
 ghost use Rattle.journal_audit.specs.Audit.{IsFinding, finding_text};
 ghost use Rattle.relay_call.specs.Outcome.{GivesAs, Wrote, WrotePart, WroteAll, Filled, FilledBy, IsDone, finding_status};
 ghost use Rattle.relay_call.specs.Inner.Reports.{report_of};
-ghost use Rattle.relay_call.specs.Inner.Stops.{LacksInput, Judged, StoppedJudging, StoppedLate, Stopped};
+ghost use Rattle.relay_call.specs.Inner.Stops.{RoseFor, LacksInput, Judged, StoppedJudging, StoppedLate, Stopped};
 
 use book_output::{Report, write_report};
 use capture_form::{Book, Capture};
@@ -60,8 +59,7 @@ fn input_of<R: Threads + Sync, S: Source>(
         IfErr result (LacksInput (Some command) read) }
     ensures made { (number lines : ℕ) → command ≡ Generate number lines
         → S.left source.new ≡ S.left source.old }
-    ensures fault { result ≡ Err Stop.ReadFault → Rose (S.faults source.old) (S.faults source.new) }
-    ensures kept { result ≢ Err Stop.ReadFault → S.faults source.new ≡ S.faults source.old }
+    ensures faults { RoseFor Stop.ReadFault result (S.faults source.old) (S.faults source.new) }
 {
     match command {
         Command::Run => take_input(rt, alloc, Form::Lines, source),
@@ -116,8 +114,7 @@ fn write<R: Threads + Sync, K: Sink>(
     ensures err { let written = bytes (K.held out.old) (K.held out.new) in
         OnErr result (WrotePart written (report_text report book.now)) }
     ensures why { IfErr result (λ stop. (stop ≡ Stop.WriteFault) ⊎ (stop ≡ Stop.Memory)) }
-    ensures fault { result ≡ Err Stop.WriteFault → Rose (K.faults out.old) (K.faults out.new) }
-    ensures kept { result ≢ Err Stop.WriteFault → K.faults out.new ≡ K.faults out.old }
+    ensures faults { RoseFor Stop.WriteFault result (K.faults out.old) (K.faults out.new) }
 {
     write_report(rt, alloc, report, book, out)?;
     Ok(())
@@ -139,8 +136,7 @@ fn serve_capture<R: Threads + Wait + Sync, K: Sink, P: Pace>(
         OnOk result (Filled (WroteAll written 0) command (input.Capture capture) book.new) }
     ensures stopped { let written = bytes (K.held out.old) (K.held out.new) in
         IfErr result (StoppedLate command written (input.Capture capture) book.new) }
-    ensures fault { result ≡ Err Stop.WriteFault → Rose (K.faults out.old) (K.faults out.new) }
-    ensures kept { result ≢ Err Stop.WriteFault → K.faults out.new ≡ K.faults out.old }
+    ensures faults { RoseFor Stop.WriteFault result (K.faults out.old) (K.faults out.new) }
 {
     let report = report_of(command, &capture.head);
     fill(rt, alloc, &capture, pace, book)?;
@@ -155,8 +151,7 @@ fn serve_chain<K: Sink>(alloc: Global, steps: &ChainInput, out: &mut K) -> Resul
     ensures err { let written = bytes (K.held out.old) (K.held out.new) in
         OnErr result (WrotePart written (run_text steps.now)) }
     ensures why { IfErr result (λ stop. (stop ≡ Stop.WriteFault) ⊎ (stop ≡ Stop.Memory)) }
-    ensures fault { result ≡ Err Stop.WriteFault → Rose (K.faults out.old) (K.faults out.new) }
-    ensures kept { result ≢ Err Stop.WriteFault → K.faults out.new ≡ K.faults out.old }
+    ensures faults { RoseFor Stop.WriteFault result (K.faults out.old) (K.faults out.new) }
 {
     run_chain(alloc, steps, out)?;
     Ok(())
@@ -182,8 +177,7 @@ fn write_line<K: Sink>(alloc: Global, finding: Finding, out: &mut K) -> Result<(
     ensures err { let written = bytes (K.held out.old) (K.held out.new) in
         OnErr result (WrotePart written (finding_text finding)) }
     ensures why { IfErr result (λ stop. (stop ≡ Stop.WriteFault) ⊎ (stop ≡ Stop.Memory)) }
-    ensures fault { result ≡ Err Stop.WriteFault → Rose (K.faults out.old) (K.faults out.new) }
-    ensures kept { result ≢ Err Stop.WriteFault → K.faults out.new ≡ K.faults out.old }
+    ensures faults { RoseFor Stop.WriteFault result (K.faults out.old) (K.faults out.new) }
 {
     write_finding(alloc, finding, out)?;
     Ok(())
@@ -208,8 +202,7 @@ fn serve_audit<K: Sink>(alloc: Global, audited: &AuditInput, out: &mut K) -> Res
         OnOk result (Judged (WroteAll written 0) audited.now) }
     ensures stopped { let written = bytes (K.held out.old) (K.held out.new) in
         IfErr result (StoppedJudging written audited.now) }
-    ensures fault { result ≡ Err Stop.WriteFault → Rose (K.faults out.old) (K.faults out.new) }
-    ensures kept { result ≢ Err Stop.WriteFault → K.faults out.new ≡ K.faults out.old }
+    ensures faults { RoseFor Stop.WriteFault result (K.faults out.old) (K.faults out.new) }
 {
     let finding = finding_in(alloc, audited)?;
     write_line(alloc, finding, out)?;
@@ -232,8 +225,7 @@ fn serve_input<R: Threads + Wait + Sync, K: Sink, P: Pace>(
         OnOk result (Filled (WroteAll written 0) command given book.new) }
     ensures stopped { let written = bytes (K.held out.old) (K.held out.new) in
         IfErr result (StoppedLate command written given book.new) }
-    ensures fault { result ≡ Err Stop.WriteFault → Rose (K.faults out.old) (K.faults out.new) }
-    ensures kept { result ≢ Err Stop.WriteFault → K.faults out.new ≡ K.faults out.old }
+    ensures faults { RoseFor Stop.WriteFault result (K.faults out.old) (K.faults out.new) }
 {
     match given {
         Input::Capture(capture) => serve_capture(rt, alloc, command, capture, out, pace, book),
@@ -263,13 +255,8 @@ fn perform<R: Threads + Wait + Sync, S: Source, K: Sink, P: Pace>(
         IfErr result (Stopped (Some command) read written book.new) }
     ensures made { (number lines : ℕ) → command ≡ Generate number lines
         → S.left source.new ≡ S.left source.old }
-    ensures read_fault { result ≡ Err Stop.ReadFault
-        → Rose (S.faults source.old) (S.faults source.new) }
-    ensures write_fault { result ≡ Err Stop.WriteFault
-        → Rose (K.faults out.old) (K.faults out.new) }
-    ensures source_kept { result ≢ Err Stop.ReadFault
-        → S.faults source.new ≡ S.faults source.old }
-    ensures out_kept { result ≢ Err Stop.WriteFault → K.faults out.new ≡ K.faults out.old }
+    ensures source { RoseFor Stop.ReadFault result (S.faults source.old) (S.faults source.new) }
+    ensures sink { RoseFor Stop.WriteFault result (K.faults out.old) (K.faults out.new) }
 {
     let given = input_of(rt, alloc, command, source)?;
     serve_input(rt, alloc, command, given, out, pace, book)
@@ -299,13 +286,8 @@ pub fn serve<R: Threads + Wait + Sync, S: Source, K: Sink, P: Pace>(
     ensures made { (number lines : ℕ)
         → command_in (map string_bytes words.now) ≡ Some (Generate number lines)
         → S.left source.new ≡ S.left source.old }
-    ensures read_fault { result ≡ Err Stop.ReadFault
-        → Rose (S.faults source.old) (S.faults source.new) }
-    ensures write_fault { result ≡ Err Stop.WriteFault
-        → Rose (K.faults out.old) (K.faults out.new) }
-    ensures source_kept { result ≢ Err Stop.ReadFault
-        → S.faults source.new ≡ S.faults source.old }
-    ensures out_kept { result ≢ Err Stop.WriteFault → K.faults out.new ≡ K.faults out.old }
+    ensures source { RoseFor Stop.ReadFault result (S.faults source.old) (S.faults source.new) }
+    ensures sink { RoseFor Stop.WriteFault result (K.faults out.old) (K.faults out.new) }
 {
     match command_of(alloc, words) {
         Ok(Some(command)) => perform(rt, alloc, command, source, out, pace, book),

@@ -1,5 +1,5 @@
 -- What the judging of a text's lanes has come to.
-use Rattle.std.specs.Prelude.{◌≡◌, ℕ, ◌+◌, ◌^◌, ◌<◌, List, [], map, length, take, drop, Option, Some, None, Ok, Err}
+use Rattle.std.specs.Prelude.{◌≡◌, ℕ, ◌+◌, ◌^◌, ◌<◌, List, [], length, take, drop, Option, Some, None, Ok, Err}
 use Rattle.std.specs.declared.result.Result.{Result}
 use Rattle.std.specs.List.{AllByRecursion}
 use Rattle.relay_base.specs.declared.words.Event.{Event}
@@ -18,7 +18,7 @@ use Rattle.journal_finding.specs.Entries.{LaneRules, ◌>>=◌}
 use Rattle.journal_finding.specs.Finding.{journals_in}
 use Rattle.journal_finding.specs.Lanes.{conn_rules, data_rules}
 use Rattle.lane_events.specs.declared.placing.Lane.{Lane}
-use Rattle.lane_events.specs.Placing.{with_place}
+use Rattle.lane_events.specs.Placing.{all_placed}
 use Rattle.lane_replays.specs.Plain.{Questions, Outcomes, plain_rules}
 use Rattle.control_replay.specs.Tables.{IsTable}
 use Rattle.journal_audit.specs.declared.finding.Finding.{Finding}
@@ -57,7 +57,7 @@ kind_rules named question outs b number =
 -- the journal of the control lane and what was published in it are those of a capture, and these are its events with their places
 pub record IsBeside (b : Beside) : Type 0 where
   pub head : IsHead b.capture.now.head
-  pub placed : b.placed.now ≡ map (map (map (with_place b.capture.now.head))) b.capture.now.phases
+  pub placed : b.placed.now ≡ all_placed b.capture.now.head b.capture.now.phases
   pub groups : b.groups.now ≡ changes_of b.capture.now.head b.control.now
   pub legal : IsControlJournal (control_head_of b.capture.now.head) (routing_of b.capture.now.head) b.control.now
   pub few : length b.control.now < 2 ^ 32

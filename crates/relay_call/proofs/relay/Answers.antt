@@ -15,8 +15,8 @@ returns-in-Ok g c =
     let end : IsEnd (command_in (map string_bytes c.args.words.now)) read written c.serve.new.book = record {
       done = told.ok;
       made = told.made;
-      source_kept = told.source_kept (λ e. cc);
-      out_kept = told.out_kept (λ e. cc);
+      source_kept = told.source.1 (λ e. cc);
+      out_kept = told.sink.1 (λ e. cc);
     } in
     end-served (command_in (map string_bytes c.args.words.now)) read written noted c.serve.new.book end
     (says-nothing (g.N.Sink.held c.args.notes.now) (g.N.Sink.faults c.args.notes.now))
@@ -31,10 +31,10 @@ returns-in-Err g c =
       stopped = told.stopped;
       words = told.words;
       made = told.made;
-      read_fault = λ is. told.read_fault (ap Err is);
-      write_fault = λ is. told.write_fault (ap Err is);
-      source_kept = λ other. told.source_kept (λ e. other (same-stop _ _ e));
-      out_kept = λ other. told.out_kept (λ e. other (same-stop _ _ e));
+      read_fault = λ is. told.source.0 (ap Err is);
+      write_fault = λ is. told.sink.0 (ap Err is);
+      source_kept = λ other. told.source.1 (λ e. other (same-stop _ _ e));
+      out_kept = λ other. told.sink.1 (λ e. other (same-stop _ _ e));
     } in
     subst (IsServed (command_in (map string_bytes c.args.words.now)) read written noted c.serve.new.book) (sym c.status_of.ensures)
     (stop-served (command_in (map string_bytes c.args.words.now)) read written noted c.serve.new.book c.in-Err.stop stop (subst (Says noted.bytes noted.before noted.after) c.note_of.ensures c.say.ensures))

@@ -1,6 +1,8 @@
 -- What stands where a run stops.
-use Rattle.std.specs.Prelude.{◌≡◌, ◌⊎◌, ℕ, List, Option, Some, None}
+use Rattle.std.specs.Prelude.{◌≡◌, ◌≢◌, ◌⊎◌, ℕ, List, Option, Some, None, Err}
+use Rattle.std.specs.declared.result.Result.{Result}
 use Rattle.std.specs.Io.KnownBytes.{Keeps}
+use Rattle.relay_base.specs.Causes.{Rose}
 use Rattle.capture_input.specs.declared.reading.AuditInput.{AuditInput}
 use Rattle.journal_text.specs.declared.book.Book.{Book}
 use Rattle.command_words.specs.declared.command.Command.{Command}
@@ -11,6 +13,10 @@ use Rattle.capture_input.specs.declared.stop.Stop.TheVariants as stop
 use Rattle.capture_input.specs.Input.{Bytes, ReadTooMuch}
 use Rattle.capture_input.specs.Stops.{NotedAs}
 use Rattle.relay_call.specs.Outcome.{form_read, IsJudgement, WroteAll, WroteSome, Untouched, Filled, IsDone, IsDonePartly}
+
+-- how often a device had failed, before and after a call, rose where it stopped for this reason, and else it is the same
+abbrev pub RoseFor : {T : Type 0} → Stop → Result T Stop → ℕ → ℕ → Type 0
+RoseFor reason result before after = (result ≡ Err reason → Rose before after) × (result ≢ Err reason → after ≡ before)
 
 -- the text of a journal was judged, and this is said of the line of what was found and of the status with which that ends
 abbrev pub Judged : (ℕ → List ℕ → Type 0) → AuditInput → Type 0
