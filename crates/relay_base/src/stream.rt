@@ -11,7 +11,7 @@ use crate::outside::{Sink, Source};
 use std::alloc::Global;
 
 /// How many bytes one reading asks for.
-const PIECE: usize = 4_096;
+const PIECE: usize = 65_536;
 
 /// All the bytes up to the end.
 ///
