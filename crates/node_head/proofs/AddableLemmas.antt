@@ -12,7 +12,8 @@ use Rattle.node_head.specs.Addable.{are_addable}
 few : (n : ℕ) → n < MOST → leb MOST n ≡ false
 few n h = grind (arith, nat_tests)
 
-free : (found : List Row) (row : Row) → length found < MOST → has_row row.selector row.prefix found ≡ false → IsTrue (is_none (add_refusal found row))
+-- nothing refuses a row whose selector and prefix no other has
+pub free : (found : List Row) (row : Row) → length found < MOST → has_row row.selector row.prefix found ≡ false → IsTrue (is_none (add_refusal found row))
 unfolding add_refusal
 free found row h apart = rw (apart, few (length found) h) refl
 

@@ -1,6 +1,6 @@
 //! The rows of a head.
-ghost use Rattle.std.specs.Prelude.{◌≡◌, ◌∷◌, [], ◌++◌, ◌≤◌, false, if◌then◌else◌, IsTrue, length, map, option_map, IfOk, IfSome};
-ghost use Rattle.toml.specs.View.{table_view};
+ghost use Rattle.std.specs.Prelude.{◌≡◌, ◌∷◌, [], ◌++◌, ◌≤◌, false, if◌then◌else◌, IsTrue, is_none, length, IfOk, IfSome, OnOk};
+ghost use Rattle.gtt_table.specs.Adding.{add_refusal};
 ghost use Rattle.gtt_table.specs.Rows.{has_row};
 ghost use Rattle.node_head.specs.Inner.Sections.{members_of, tables_in, data_in};
 ghost use Rattle.node_head.specs.Addable.{are_addable};
@@ -13,26 +13,20 @@ use crate::fault::{HeadKind, HeadRefused};
 use crate::head::RowList;
 use crate::section::{Bounds, Place, Section, TableArray, refuse};
 use crate::tables::tables_of;
-use gtt_table::{Entity, Row, Table as RowTable};
+use gtt_table::{AddFault, Entity, Row, Table as RowTable};
 use relay_base::limits::GREATEST_OCTET;
-use relay_base::{Digits, Pc};
+use relay_base::{Digits, Memory, Pc};
 use sccp_address::{NATURES, NUMBERING_PLANS, Selector};
 use std::alloc::Global;
 use toml::{Table, Value};
 
-fn has_row(found: &[Row], selector: &Selector, prefix: &Digits) -> bool
-    ensures { result ≡ has_row selector.now prefix.now found.now }
-{
-    found.iter().any(|row| row.has_key(selector, prefix))
-}
-
 /// The digits that a text writes, where no row was found with them and this selector.
-fn new_prefix(found: &[Row], selector: &Selector, text: &[u8]) -> Option<Digits>
-    ensures value { result ≡ new_prefix found.now selector.now text.now }
-    ensures apart { IfSome result (λ digits. has_row selector.now digits found.now ≡ false) }
+fn new_prefix(found: &RowTable, selector: &Selector, text: &[u8]) -> Option<Digits>
+    ensures value { result ≡ new_prefix found.now.rows selector.now text.now }
+    ensures apart { IfSome result (λ digits. has_row selector.now digits found.now.rows ≡ false) }
 {
     let digits = digits_of(text)?;
-    if has_row(found, selector, &digits) {
+    if found.has_row(selector, &digits) {
         None
     } else {
         Some(digits)
@@ -76,12 +70,12 @@ impl Section<'_> {
     fn prefix(
         &self,
         alloc: Global,
-        found: &[Row],
+        found: &RowTable,
         selector: &Selector,
     ) -> Result<Digits, HeadRefused>
         ensures value { let members = members_of self.now in
-            Reads result (prefix_at found.now selector.now self.now.place members) }
-        ensures apart { IfOk result (λ d. has_row selector.now d found.now ≡ false) }
+            Reads result (prefix_at found.now.rows selector.now self.now.place members) }
+        ensures apart { IfOk result (λ d. has_row selector.now d found.now.rows ≡ false) }
     {
         let text = self.text(alloc, "digits")?;
         match new_prefix(found, selector, text.as_bytes()) {
@@ -113,9 +107,10 @@ impl Section<'_> {
     }
 
     #[tactic(auto, using(crate::proofs::HeadLemmas::failures), unfolding(crate::specs::Rows::row_of))]
-    fn row(&self, alloc: Global, own: Pc, found: &[Row]) -> Result<Row, HeadRefused>
-        ensures value { Reads result (row_of own found.now self.now.place (members_of self.now)) }
-        ensures apart { IfOk result (λ r. has_row r.selector r.prefix found.now ≡ false) }
+    fn row(&self, alloc: Global, own: Pc, found: &RowTable) -> Result<Row, HeadRefused>
+        ensures value { let members = members_of self.now in
+            Reads result (row_of own found.now.rows self.now.place members) }
+        ensures apart { IfOk result (λ r. has_row r.selector r.prefix found.now.rows ≡ false) }
     {
         let selector = self.selector(alloc)?;
         let prefix = self.prefix(alloc, found, &selector)?;
@@ -130,21 +125,35 @@ impl Section<'_> {
     }
 }
 
+/// Puts a row behind those found, where none has its selector and prefix.
+fn put(found: &mut RowTable, row: &Row) -> Result<(), Memory>
+    requires { IsTrue (is_none (add_refusal found.old.rows row.now)) }
+    ensures { OnOk result (found.new.rows ≡ found.old.rows ++ row.now ∷ []) }
+{
+    match found.add(*row) {
+        Ok(()) => Ok(()),
+        Err(AddFault::Memory) => Err(Memory),
+        Err(AddFault::Duplicate | AddFault::RowsFull) => unreachable!(),
+    }
+}
+
 fn rows(alloc: Global, own: Pc, tables: &[&Table]) -> Result<RowList, HeadRefused>
     requires { length tables.now ≤ RowTable.MOST }
     ensures value { Reads result (rows_after own [] (tables_in tables.now)) }
     ensures addable { IfOk result (λ l. IsTrue (are_addable [] l)) }
 {
-    let mut found = RowList::new(alloc);
+    let mut found = RowTable::new(alloc);
+    let mut rows = RowList::new(alloc);
     for table in tables {
         let section = Section {
-            place: Place::Nth(TableArray::Rows, found.len() + 1),
+            place: Place::Nth(TableArray::Rows, rows.len() + 1),
             table: Some(*table),
         };
-        let row = section.row(alloc, own, found.as_slice())?;
-        found.push(row)?;
+        let row = section.row(alloc, own, &found)?;
+        put(&mut found, &row)?;
+        rows.push(row)?;
     }
-    Ok(found)
+    Ok(rows)
 }
 
 /// The rows of an array of tables, none where the key is absent.
