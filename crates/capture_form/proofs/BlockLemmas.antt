@@ -4,13 +4,13 @@ use Rattle.std.proofs.lemmas.List.{map-append}
 use Rattle.std.specs.declared.alloc.Global.{Global}
 use Rattle.std.specs.Fork.{slice_chunk}
 use Rattle.std.specs.List.{AllByRecursion}
-use Rattle.relay_base.specs.Giving.{◌>>=◌}
+use Rattle.relay_base.specs.Giving.{◌>>=◌, RefusesOrMemory}
 use Rattle.node_head.specs.declared.head.Head.{Head}
-use Rattle.capture_form.specs.Capture.{Reads}
+use Rattle.capture_form.specs.Capture.{Reads, fault_in}
 use Rattle.capture_form.specs.Inner.Stated.{seen_line, seen_lines}
 use Rattle.capture_form.specs.Inner.LineRead.{line_read}
-use Rattle.capture_form.specs.Inner.Reader.{Takes, IsReadWithin, lines_taken, reads_taken, all_taken}
-use Rattle.capture_form.specs.Inner.Blocks.{Block, IsBlockWithin, blocks_taken}
+use Rattle.capture_form.specs.Inner.Reader.{IsReadWithin, lines_taken, reads_taken, all_taken}
+use Rattle.capture_form.specs.Inner.Blocks.{Block, IsBlockWithin, SayLines, blocks_taken}
 use Rattle.capture_form.specs.declared.fault.CaptureFault.{CaptureFault}
 use Rattle.capture_form.specs.declared.fault.CaptureFault.TheVariants as refused
 use Rattle.capture_form.specs.declared.line_read.LineRead.{LineRead}
@@ -97,22 +97,32 @@ chunks-taken head size (Ok block ∷ more) ls r few each =
     subst (λ (m : Result Reading CaptureFault). Reads (m >>= (λ s. blocks_taken head s more)) (lines_taken head r (seen_lines ls))) (sym here)
     (subst (Reads (lines_taken head r (seen_lines (take size ls)) >>= (λ s. blocks_taken head s more))) (sym (chunk-taken head size ls r)) rest)
 
--- what was taken of what is given otherwise
-takes-by : {U : Type 0} (left : Reading) (result : Result U CaptureFault) (r given : Result Reading CaptureFault) → Takes left result r → Reads r given → Takes left result given
-takes-by left (Ok u) r given e h = subst (λ r. Reads r given) e h
-takes-by left (Err refused.Memory) r given e h = tt
-takes-by left (Err (refused.Head fault)) r given e h = subst (λ r. Reads r given) e h
-takes-by left (Err (refused.Line fault)) r given e h = subst (λ r. Reads r given) e h
-takes-by left (Err (refused.TooLong limit)) r given e h = subst (λ r. Reads r given) e h
+-- what is refused is refused otherwise
+pub refused-by : (fault : CaptureFault) (r given : Result Reading CaptureFault) → RefusesOrMemory (fault_in fault) r → Reads r given → RefusesOrMemory (fault_in fault) given
+refused-by refused.Memory r given e h = tt
+refused-by (refused.Head fault) r given e h = subst (λ r. Reads r given) e h
+refused-by (refused.Line fault) r given e h = subst (λ r. Reads r given) e h
+refused-by (refused.TooLong limit) r given e h = subst (λ r. Reads r given) e h
 
 -- the blocks are the chunks of the lines
-pub all-within : (head : Head) (size : ℕ) (blocks : Vec Block Global) (ls : List StatedLine) → SayChunks head size ls blocks.items → AllByRecursion (IsBlockWithin head.links) blocks.items
-all-within head size blocks ls each = chunks-within head size ls blocks.items each
-
-pub blocks-taken : {U : Type 0} (head : Head) (size : ℕ) (blocks : Vec Block Global) (ls : List StatedLine) (r left : Reading) (result : Result U CaptureFault) → 0 < size
-    → vec_len blocks ≡ length ls / size + min 1 (length ls % size) → SayChunks head size ls blocks.items → Takes left result (blocks_taken head r blocks.items)
-    → Takes left result (lines_taken head r (seen_lines ls))
-blocks-taken head size blocks ls r left result some count each taken =
+pub say-lines : (head : Head) (size : ℕ) (blocks : Vec Block Global) (ls : List StatedLine) → 0 < size → vec_len blocks ≡ length ls / size + min 1 (length ls % size)
+    → SayChunks head size ls blocks.items → SayLines head ls blocks.items
+say-lines head size blocks ls some count each =
     let many : length blocks.items ≡ length ls / size + min 1 (length ls % size) = sym blocks.ok.0 ∙ count in
-    takes-by left result (blocks_taken head r blocks.items) (lines_taken head r (seen_lines ls)) taken
-    (chunks-taken head size blocks.items ls r (omega (arith, ap (λ n. n * size) many, chunks-cover (length ls) size some)) each)
+    record {
+      within = chunks-within head size ls blocks.items each;
+      taken = λ r. chunks-taken head size blocks.items ls r (omega (arith, ap (λ n. n * size) many, chunks-cover (length ls) size some)) each;
+    }
+
+no-lines : (head : Head) → SayLines head [] []
+unfolding blocks_taken all_taken
+no-lines head = record { within = tt; taken = λ r. refl }
+
+-- no blocks say what no lines say
+pub say-nothing : (head : Head) (window : List StatedLine) (blocks : List Block) → window ≡ [] → blocks ≡ [] → SayLines head window blocks
+say-nothing head window blocks none empty = subst (SayLines head window) (sym empty) (subst (λ (ls : List StatedLine). SayLines head ls []) (sym none) (no-lines head))
+
+-- the lines of a window were taken as the blocks were
+pub window-said : (head : Head) (r s : Reading) (window : List StatedLine) (blocks : List Block) → SayLines head window blocks → blocks_taken head r blocks ≡ Ok s
+    → lines_taken head r (seen_lines window) ≡ Ok s
+window-said head r s window blocks says done = subst (λ m. Reads m (lines_taken head r (seen_lines window))) done (says.taken r)

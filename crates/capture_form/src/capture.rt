@@ -8,15 +8,12 @@ ghost use Rattle.capture_form.specs.Capture.{Reads, at_head, capture_within, cap
 ghost use Rattle.capture_form.specs.Events.{all_events, IsStamped};
 ghost use Rattle.capture_form.specs.Links.{AreLinked};
 ghost use Rattle.capture_form.specs.declared.steps.TheConstants.{MOST_LINES};
-ghost use Rattle.capture_form.specs.Inner.Stated.{numbered};
-ghost use Rattle.capture_form.specs.Inner.Reader.{Takes, HeadReads, nothing_read, lines_taken, closed, phases_read, phases_closed, capture_read};
+ghost use Rattle.capture_form.specs.Inner.Reader.{HeadReads, closed, phases_read, phases_closed, capture_read};
 
 use crate::changes::OpenGroup;
 use crate::fault::{CaptureFault, Limit, LineFault, LineKind};
 use crate::reading::{PhaseList, Reading};
 use crate::reading_lines::{InThreads, InTurn, LineReader};
-use crate::stated::fill;
-use crate::steps::empty_phase;
 use bstr::{ByteSlice, Lines};
 use node_head::{Head, HeadRefused, take_head};
 use relay_base::Memory;
@@ -42,46 +39,6 @@ fn head_part(alloc: Global, lines: &mut Lines<'_>) -> Result<(Head, usize), Capt
         Ok(head) => Ok(head),
         Err(HeadRefused::Fault(fault)) => Err(CaptureFault::Head(fault)),
         Err(HeadRefused::Memory) => Err(CaptureFault::Memory),
-    }
-}
-
-/// Nothing is read but the head.
-fn nothing_read(alloc: Global, head: &Head) -> Result<Reading, Memory>
-    ensures { IfOk result (λ read. read ≡ nothing_read head.now) }
-{
-    Ok(Reading {
-        phases: PhaseList::new(alloc),
-        current: empty_phase(alloc, head.links)?,
-        phase: 1,
-        line: 0,
-        events: 0,
-        ticks: 0,
-        group: None,
-    })
-}
-
-/// Reads all lines, of which the first has the number `first`.
-fn take_lines<L: LineReader>(
-    alloc: Global,
-    reader: &L,
-    head: &Head,
-    read: &mut Reading,
-    first: u32,
-    lines: &mut Lines<'_>,
-) -> Result<(), CaptureFault>
-    requires reader { L.can_read reader.now }
-    requires few { first + length lines.old < 2 ^ 32 }
-    requires links { length read.old.current ≡ head.now.links + 1 }
-    ensures { Takes read.new result (lines_taken head.now read.old (numbered first lines.old)) }
-{
-    let mut number = first;
-    let mut window = Vec::new(alloc);
-    loop {
-        fill(&mut window, &mut number, lines)?;
-        if window.is_empty() {
-            return Ok(());
-        }
-        reader.take(alloc, head, read, window.as_slice())?;
     }
 }
 
@@ -114,23 +71,6 @@ fn phases_of(alloc: Global, read: Reading) -> Result<PhaseList, Memory>
     Ok(phases)
 }
 
-/// What is read of the lines after a head, of which the first has the number `line`.
-fn read_lines<L: LineReader>(
-    alloc: Global,
-    reader: &L,
-    head: &Head,
-    line: u32,
-    lines: &mut Lines<'_>,
-) -> Result<Reading, CaptureFault>
-    requires reader { L.can_read reader.now }
-    requires few { line + length lines.old < 2 ^ 32 }
-    ensures { Reads result (lines_taken head.now (nothing_read head.now) (numbered line lines.old)) }
-{
-    let mut read = nothing_read(alloc, head)?;
-    take_lines(alloc, reader, head, &mut read, line, lines)?;
-    Ok(read)
-}
-
 /// The phases that were read, where no group stands open behind the last line.
 fn phases_closed(alloc: Global, read: Reading) -> Result<PhaseList, CaptureFault>
     ensures { Reads result (phases_closed read) }
@@ -152,7 +92,7 @@ fn capture_after<L: LineReader>(
     ensures value { Reads result (capture_read head line lines.old) }
     ensures head { IfOk result (λ c. c.head ≡ head) }
 {
-    let read = read_lines(alloc, reader, &head, line, lines)?;
+    let read = reader.read(alloc, &head, line, lines)?;
     let phases = phases_closed(alloc, read)?;
     Ok(Capture { head, phases })
 }

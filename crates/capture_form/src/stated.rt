@@ -9,7 +9,7 @@ use bstr::Lines;
 use std::alloc::AllocError;
 
 /// The most lines that are read before what they say is taken.
-const MOST_IN_WINDOW: u32 = 65_536;
+const MOST_IN_WINDOW: u32 = 16_384;
 
 /// A line that is neither empty nor a comment, and its number.
 #[derive(Clone, Copy)]
@@ -26,7 +26,7 @@ pub fn is_skipped(line: &[u8]) -> bool
 }
 
 /// The next line that states something, if there is one; the first of the lines has the number `number`.
-fn next_stated<'a>(number: &mut u32, lines: &mut Lines<'a>) -> Option<StatedLine<'a>>
+pub fn next_stated<'a>(number: &mut u32, lines: &mut Lines<'a>) -> Option<StatedLine<'a>>
     requires few { number.old + length lines.old < 2 ^ 32 }
     ensures lines { let line = option_map seen_line result in
         cons_option line (numbered number.new lines.new) ≡ numbered number.old lines.old }

@@ -3,14 +3,14 @@ ghost use Rattle.std.specs.Prelude.{◌≡◌, ◌<◌, ◌+◌, ◌-◌, ◌^�
 ghost use Rattle.std.specs.List.{AllByRecursion};
 ghost use Rattle.capture_form.specs.Capture.{Reads};
 ghost use Rattle.capture_form.specs.Inner.LineRead.{may_stand_as};
-ghost use Rattle.capture_form.specs.Inner.Reader.{Takes, AreAsMany, IsStill, IsWithin, IsReadWithin, pushed, with_event, empty_phase, phase_ended, barrier_taken, tick_counted, line_counted, meaning_taken, event_put, event_taken, read_taken, reads_taken, at_line};
+ghost use Rattle.capture_form.specs.Inner.Reader.{Takes, AreAsMany, IsStill, IsWithin, IsReadWithin, pushed, with_event, empty_phase, nothing_read, phase_ended, barrier_taken, tick_counted, line_counted, meaning_taken, event_put, event_taken, read_taken, reads_taken, at_line};
 
 use crate::changes::{OpenGroup, alone};
 use crate::fault::{CaptureFault, Limit, LineFault, LineKind};
 use crate::groups::{Standing, may_stand, placed};
 use crate::line_read::{EventRead, LineRead, Saying};
 use crate::meaning::Meaning;
-use crate::reading::{Phase, Reading, StampedControlList};
+use crate::reading::{Phase, PhaseList, Reading, StampedControlList};
 use node_head::Head;
 use plant_core::{Change, ChangeList, ControlEvent, Group};
 use relay_base::{Memory, Stamp};
@@ -27,7 +27,7 @@ pub const MOST_TICK_LINES: u32 = 20_000;
 pub const MOST_BARRIERS: u32 = 1_000;
 
 /// The empty lists of a phase.
-pub fn empty_phase(alloc: Global, links: u8) -> Result<Phase, Memory>
+fn empty_phase(alloc: Global, links: u8) -> Result<Phase, Memory>
     ensures { IfOk result (λ phase. phase ≡ empty_phase links) }
 {
     let mut phase = Phase::new(alloc);
@@ -36,6 +36,21 @@ pub fn empty_phase(alloc: Global, links: u8) -> Result<Phase, Memory>
         phase.push(StampedControlList::new(alloc))?;
     }
     Ok(phase)
+}
+
+/// Nothing is read but the head.
+pub fn nothing_read(alloc: Global, head: &Head) -> Result<Reading, Memory>
+    ensures { IfOk result (λ read. read ≡ nothing_read head.now) }
+{
+    Ok(Reading {
+        phases: PhaseList::new(alloc),
+        current: empty_phase(alloc, head.links)?,
+        phase: 1,
+        line: 0,
+        events: 0,
+        ticks: 0,
+        group: None,
+    })
 }
 
 /// Puts an event at the end of its link's list.

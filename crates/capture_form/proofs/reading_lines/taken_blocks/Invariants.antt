@@ -2,7 +2,7 @@ use Rattle.std.proofs.Common.{◌≡◌}
 use Rattle.std.specs.List.{AllByRecursion}
 use Rattle.capture_form.specs.Inner.Reader.{AreAsMany}
 use Rattle.capture_form.specs.Inner.Blocks.{IsBlockWithin, blocks_taken}
-use Rattle.capture_form.proofs.reading_lines.take_blocks.Given as goal
+use Rattle.capture_form.proofs.reading_lines.taken_blocks.Given as goal
 
 -- what was taken so far, and what the blocks to come make of it
 abbrev pub invariant-loop-block : goal.invariant-loop-block
