@@ -1,8 +1,9 @@
 //! The control lane takes the events of a capture again.
-ghost use Rattle.std.specs.Prelude.{◌≡◌, ◌<◌, [], length, IfOk};
+ghost use Rattle.std.specs.Prelude.{◌≡◌, ◌<◌, length, IfOk};
 ghost use Rattle.scmg.specs.Control.{IsControlJournal};
 ghost use Rattle.node_head.specs.Ranges.{IsHead};
 ghost use Rattle.journal_form.specs.Inner.Seen.{seen_part};
+ghost use Rattle.control_replay.specs.Replaying.{before_first};
 ghost use Rattle.control_replay.specs.Inner.Lanes.{IsLastWritten};
 
 use crate::collector::Collector;
@@ -58,9 +59,8 @@ impl<'a> ControlReplay<'a> {
     /// Before the first event.
     pub fn new(alloc: Global, capture: &'a Capture) -> Result<ControlReplay<'a>, Memory>
         requires { IsHead capture.now.head }
-        ensures { let head = capture.now.head in
-            let phases = capture.now.phases in
-            IfOk result (λ r. r ≡ record { head = head; phases = phases; journal = [] }) }
+        ensures { let first = before_first capture.now.head capture.now.phases in
+            IfOk result (λ r. r ≡ first) }
     {
         let told = control_head_of(alloc, &capture.head)?;
         let plant = plant_of(alloc, &capture.head)?;

@@ -6,6 +6,7 @@ ghost use Rattle.journal_finding.specs.Finding.{journal_in};
 ghost use Rattle.journal_finding.specs.Lanes.{control_rules};
 ghost use Rattle.lane_events.specs.Placing.{all_placed, kept};
 ghost use Rattle.lane_audit.specs.Follows.{Names, found_of};
+ghost use Rattle.control_replay.specs.Replaying.{before_first};
 ghost use Rattle.control_replay.specs.Tables.{IsTable};
 ghost use Rattle.journal_audit.specs.Inner.Judging.{IsShort};
 
@@ -60,9 +61,7 @@ fn judge_unpublished(
 ) -> Result<Option<Fault>, Memory>
     requires head { IsHead capture.now.head }
     requires placed { placed.now ≡ all_placed capture.now.head capture.now.phases }
-    requires lane { let head = capture.now.head in
-        let phases = capture.now.phases in
-        lane.old ≡ record { head = head; phases = phases; journal = [] } }
+    requires lane { lane.old ≡ before_first capture.now.head capture.now.phases }
     requires before { IsTable (length capture.now.phases) [] before.now }
     requires short { IsShort (seen_lane form.now) }
     ensures found { let rules = control_rules capture.now.head capture.now.phases in
@@ -85,9 +84,7 @@ pub fn judge_control(
 ) -> Result<Option<Fault>, Memory>
     requires head { IsHead capture.now.head }
     requires placed { placed.now ≡ all_placed capture.now.head capture.now.phases }
-    requires lane { let head = capture.now.head in
-        let phases = capture.now.phases in
-        lane.old ≡ record { head = head; phases = phases; journal = [] } }
+    requires lane { lane.old ≡ before_first capture.now.head capture.now.phases }
     requires short { IsShort (seen_lane form.now) }
     ensures found { let rules = control_rules capture.now.head capture.now.phases in
         let found = journal_in rules (seen_lane form.now) in

@@ -3,7 +3,7 @@
 ghost use Rattle.std.specs.Prelude.{◌≡◌, ◌+◌, ◌<◌, ◌≤◌, ◌∷◌, ◌++◌, ◌^◌, [], All, filter, length, min, vec_len, map, OnOk};
 ghost use Rattle.std.specs.Vec.{vec_capacity};
 ghost use Rattle.timer_wheel.specs.Order.{is_before};
-ghost use Rattle.timer_wheel.specs.Inner.Tree.{alarms, before, behind, count_beside, with_alarm, due_by, not_fires, recounted, started_again, IsSound, Rises};
+ghost use Rattle.timer_wheel.specs.Inner.Tree.{alarms, before, behind, count_beside, nodes_in, with_alarm, due_by, not_fires, recounted, started_again, IsSound, Rises};
 
 use crate::due::{Alarm, Due};
 use relay_base::Memory;
@@ -148,12 +148,12 @@ fn join(left: Tree, right: Tree) -> Tree
 fn part(tree: Tree, due: Due, spare: &mut Vec<Box<Node>>) -> (Tree, Tree)
     requires sound { IsSound tree }
     requires rising { Rises (alarms tree) }
-    requires room { vec_len spare.old + length (alarms tree) ≤ vec_capacity spare.old }
+    requires room { nodes_in (vec_len spare.old) tree ≤ vec_capacity spare.old }
     ensures before { alarms result.0 ≡ before due (alarms tree) }
     ensures behind { alarms result.1 ≡ behind due (alarms tree) }
     ensures sound { IsSound result.0 × IsSound result.1 }
     ensures nodes { let parted = length (alarms result.0) + length (alarms result.1)
-        in vec_len spare.new + parted ≡ vec_len spare.old + length (alarms tree) }
+        in vec_len spare.new + parted ≡ nodes_in (vec_len spare.old) tree }
     ensures capacity { vec_capacity spare.new ≡ vec_capacity spare.old }
 {
     match tree {
@@ -178,11 +178,11 @@ fn part(tree: Tree, due: Due, spare: &mut Vec<Box<Node>>) -> (Tree, Tree)
 fn crown(tree: Tree, alarm: Alarm, rank: u32, spare: &mut Vec<Box<Node>>) -> Tree
     requires sound { IsSound tree }
     requires rising { Rises (alarms tree) }
-    requires nodes { vec_len spare.old + length (alarms tree) ≤ vec_capacity spare.old }
-    requires room { count_beside alarm.due (alarms tree) < vec_len spare.old + length (alarms tree) }
+    requires nodes { nodes_in (vec_len spare.old) tree ≤ vec_capacity spare.old }
+    requires room { count_beside alarm.due (alarms tree) < nodes_in (vec_len spare.old) tree }
     ensures alarms { alarms result ≡ with_alarm alarm (alarms tree) }
     ensures sound { IsSound result }
-    ensures nodes { vec_len spare.new + length (alarms result) ≡ vec_len spare.old + length (alarms tree) }
+    ensures nodes { nodes_in (vec_len spare.new) result ≡ nodes_in (vec_len spare.old) tree }
     ensures capacity { vec_capacity spare.new ≡ vec_capacity spare.old }
 {
     let (before, behind) = part(tree, alarm.due, spare);
@@ -197,11 +197,11 @@ fn crown(tree: Tree, alarm: Alarm, rank: u32, spare: &mut Vec<Box<Node>>) -> Tre
 pub(crate) fn with(tree: Tree, alarm: Alarm, rank: u32, spare: &mut Vec<Box<Node>>) -> (Tree, u64)
     requires sound { IsSound tree }
     requires rising { Rises (alarms tree) }
-    requires nodes { vec_len spare.old + length (alarms tree) ≤ vec_capacity spare.old }
-    requires room { count_beside alarm.due (alarms tree) < vec_len spare.old + length (alarms tree) }
+    requires nodes { nodes_in (vec_len spare.old) tree ≤ vec_capacity spare.old }
+    requires room { count_beside alarm.due (alarms tree) < nodes_in (vec_len spare.old) tree }
     ensures alarms { alarms result.0 ≡ with_alarm alarm (alarms tree) }
     ensures sound { IsSound result.0 }
-    ensures nodes { vec_len spare.new + length (alarms result.0) ≡ vec_len spare.old + length (alarms tree) }
+    ensures nodes { nodes_in (vec_len spare.new) result.0 ≡ nodes_in (vec_len spare.old) tree }
     ensures capacity { vec_capacity spare.new ≡ vec_capacity spare.old }
 {
     match tree {
@@ -229,10 +229,10 @@ pub(crate) fn with(tree: Tree, alarm: Alarm, rank: u32, spare: &mut Vec<Box<Node
 pub(crate) fn without(tree: Tree, due: Due, spare: &mut Vec<Box<Node>>) -> (Tree, u64)
     requires sound { IsSound tree }
     requires rising { Rises (alarms tree) }
-    requires room { vec_len spare.old + length (alarms tree) ≤ vec_capacity spare.old }
+    requires room { nodes_in (vec_len spare.old) tree ≤ vec_capacity spare.old }
     ensures alarms { alarms result.0 ≡ before due (alarms tree) ++ behind due (alarms tree) }
     ensures sound { IsSound result.0 }
-    ensures nodes { vec_len spare.new + length (alarms result.0) ≡ vec_len spare.old + length (alarms tree) }
+    ensures nodes { nodes_in (vec_len spare.new) result.0 ≡ nodes_in (vec_len spare.old) tree }
     ensures capacity { vec_capacity spare.new ≡ vec_capacity spare.old }
 {
     match tree {
@@ -269,7 +269,7 @@ fn fork_unless_due(
         in alarms result ≡ alarms left ++ own ++ alarms right }
     ensures sound { IsSound result }
     ensures nodes { let sides = length (alarms left) + length (alarms right)
-        in vec_len spare.new + length (alarms result) ≡ vec_len spare.old + 1 + sides }
+        in nodes_in (vec_len spare.new) result ≡ vec_len spare.old + 1 + sides }
     ensures capacity { vec_capacity spare.new ≡ vec_capacity spare.old }
 {
     if node.alarm.tick <= tick {
@@ -283,10 +283,10 @@ fn fork_unless_due(
 /// Drops the timers that fire up to this tick. Their nodes become spare.
 pub(crate) fn without_due(tree: Tree, tick: u64, spare: &mut Vec<Box<Node>>) -> Tree
     requires sound { IsSound tree }
-    requires room { vec_len spare.old + length (alarms tree) ≤ vec_capacity spare.old }
+    requires room { nodes_in (vec_len spare.old) tree ≤ vec_capacity spare.old }
     ensures alarms { alarms result ≡ filter (not_fires tick) (alarms tree) }
     ensures sound { IsSound result }
-    ensures nodes { vec_len spare.new + length (alarms result) ≡ vec_len spare.old + length (alarms tree) }
+    ensures nodes { nodes_in (vec_len spare.new) result ≡ nodes_in (vec_len spare.old) tree }
     ensures capacity { vec_capacity spare.new ≡ vec_capacity spare.old }
 {
     match tree {

@@ -11,6 +11,10 @@ abbrev pub alarms : Tree → List Alarm
 alarms Leaf = []
 alarms (Fork' p left alarm rank soonest right) = alarms left ++ alarm ∷ alarms right
 
+-- how many nodes there are: so many spare ones, and those of a tree
+abbrev pub nodes_in : ℕ → Tree → ℕ
+nodes_in spare tree = spare + length (alarms tree)
+
 -- what each node says of those below it holds
 abbrev pub IsSound : Tree → Type 0
 IsSound Leaf = Unit {0}
