@@ -29,7 +29,8 @@ use node_head::Head;
 use relay_base::{Pace, Sink, Source};
 use std::alloc::Global;
 use std::sync::Wait;
-use std::thread::Threads;
+use std::thread;
+use std::thread::{JoinHandle, Threads};
 
 /// The capture that is made of a number and a count of lines.
 fn made(alloc: Global, number: u32, lines: u32) -> Result<Input, Stop>
@@ -71,7 +72,7 @@ fn input_of<R: Threads + Sync, S: Source>(
     }
 }
 
-/// Runs a capture into the book. The caller gives the capture's memory back after it has written what comes of it.
+/// Runs a capture into the book.
 fn fill<R: Threads + Wait + Sync, P: Pace>(
     rt: &R,
     alloc: Global,
@@ -120,7 +121,19 @@ fn write<R: Threads + Sync, K: Sink>(
     Ok(())
 }
 
-/// Runs a capture into the book, and writes what a command writes of it.
+/// Gives the memory of a capture back, in a thread of its own where one can be made.
+fn give_back<R: Threads>(rt: &R, capture: Capture) -> Option<JoinHandle<()>> {
+    thread::spawn(rt, move || drop(capture)).ok()
+}
+
+/// Waits for the end of a thread, where there is one.
+fn wait_for<R: Threads>(rt: &R, thread: Option<JoinHandle<()>>) {
+    if let Some(thread) = thread {
+        thread.join(rt);
+    }
+}
+
+/// Runs a capture into the book, and writes what a command writes of it, while the memory of the capture is given back.
 fn serve_capture<R: Threads + Wait + Sync, K: Sink, P: Pace>(
     rt: &R,
     alloc: Global,
@@ -140,7 +153,10 @@ fn serve_capture<R: Threads + Wait + Sync, K: Sink, P: Pace>(
 {
     let report = report_of(command, &capture.head);
     fill(rt, alloc, &capture, pace, book)?;
-    write(rt, alloc, report, book, out)
+    let giving_back = give_back(rt, capture);
+    let written = write(rt, alloc, report, book, out);
+    wait_for(rt, giving_back);
+    written
 }
 
 /// Takes the steps of nodes in a row, and writes what their users are told.
