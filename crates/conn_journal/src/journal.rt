@@ -28,7 +28,7 @@ use crate::store::Store;
 use plant_core::{Answer, Asked, Entry, EntryList, LaneHead, Plant, fitted};
 use relay_base::{Event, Memory, Outs, Stamp};
 use routing_control::asked;
-use section_coupling::{Begun, Duo, ask_of, opens, stray};
+use section_coupling::{Begun, Duo, ReadWish, stray};
 use std::alloc::Global;
 use std::marker::Model;
 
@@ -65,10 +65,10 @@ impl<S: Store> Model for ConnJournal<S> {
 }
 
 /// The routing that an event asks.
-fn asked_by(plant: &Plant, event: &Event) -> Option<Asked>
+fn asked_by(plant: &Plant, event: &ReadWish<'_>) -> Option<Asked>
     ensures { (head : LaneHead) → result ≡ conn_asked_of head plant.now event.now }
 {
-    match ask_of(event) {
+    match event.ask() {
         Some(ask) => Some(asked(plant, &ask)),
         None => None,
     }
@@ -136,12 +136,12 @@ fn answer_in(asked: &Option<Asked>) -> Option<&Answer>
 
 /// How many references an opening takes.
 #[tactic(auto, using(crate::proofs::LaneGrows::none_needed))]
-fn needed(event: &Event, answer: Option<&Answer>) -> u8
+fn needed(event: &ReadWish<'_>, answer: Option<&Answer>) -> u8
     ensures { (terms : Terms) → result ≡
         slots_needed (wish_of terms event.now) (option_map (λ a. a.now) answer.entry) }
 {
     match answer {
-        Some(answer) => Duo::needs(event, answer),
+        Some(answer) => Duo::needs_read(event, answer),
         None => 0,
     }
 }
@@ -150,7 +150,7 @@ impl Context<'_> {
     /// Opens a connection with the lowest free references.
     fn begin<S: Store>(
         &self,
-        event: &Event,
+        event: &ReadWish<'_>,
         asked: &Option<Asked>,
         openings: &Openings<S>,
     ) -> Result<Begun, Memory>
@@ -172,7 +172,7 @@ impl Context<'_> {
         let answer = answer_in(asked);
         let count = needed(event, answer);
         let refs = openings.lowest_free(count)?;
-        let begun = Duo::begin(
+        let begun = Duo::begin_read(
             self.alloc,
             &self.head.terms,
             openings.taken(),
@@ -187,7 +187,7 @@ impl Context<'_> {
     fn open<S: Store>(
         &self,
         plant: &Plant,
-        event: &Event,
+        event: &ReadWish<'_>,
         openings: &Openings<S>,
     ) -> Result<Turn, Memory>
         requires taken { openings.now.state.taken ≤ 4_294_967_295 }
@@ -264,9 +264,11 @@ impl Context<'_> {
             WakesDue (S.due openings.now.store) openings.now.state.kept turn.change) }
     {
         if matches!(event, Event::Tick) {
-            self.tick(openings)
-        } else if opens(event) {
-            self.open(plant, event, openings)
+            return self.tick(openings);
+        }
+        let wish = ReadWish::of(event);
+        if wish.opens() {
+            self.open(plant, &wish, openings)
         } else {
             self.hear(event, openings)
         }

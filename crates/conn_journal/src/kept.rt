@@ -12,7 +12,7 @@ ghost use Rattle.conn_journal.specs.Inner.Views.{IsAlive, live_at};
 ghost use Rattle.conn_journal.specs.Inner.Hearing.{gives, Becomes, HeardBy};
 
 use relay_base::{Event, Memory, Outs, Ref24};
-use section_coupling::Duo;
+use section_coupling::{Duo, ReadEvent};
 use std::alloc::Global;
 use std::marker::Model;
 
@@ -68,21 +68,21 @@ fn unless_over(alloc: Global, duo: Duo) -> Result<Option<Kept>, Memory>
 }
 
 /// A connection after an event that it hears, and the outputs of that.
-fn feed(duo: &Duo, now: u32, event: &Event) -> Result<(Duo, Outs), Memory>
-    requires hears { IsTrue (hears (duo_at now duo.now) event.now) }
-    ensures fed { let later = taken_after now event.now in IfOk result (λ r.
-        duo_at later r.0 ≡ fed duo.now.ticks (duo_at now duo.now) event.now) }
+fn feed(duo: &Duo, now: u32, event: ReadEvent<'_>) -> Result<(Duo, Outs), Memory>
+    requires hears { IsTrue (hears (duo_at now duo.now) event) }
+    ensures fed { let later = taken_after now event.entry in IfOk result (λ r.
+        duo_at later r.0 ≡ fed duo.now.ticks (duo_at now duo.now) event.entry) }
     ensures ticks { IfOk result (λ r. r.0.ticks ≡ duo.now.ticks) }
-    ensures part { IfOk result (λ r. Some r.1 ≡ part_in event.now (live_at now duo.now)) }
+    ensures part { IfOk result (λ r. Some r.1 ≡ part_in event.entry (live_at now duo.now)) }
 {
-    let heard = duo.hear(u64::from(now), event)?;
+    let heard = duo.hear_read(u64::from(now), event)?;
     Ok((heard.duo, heard.outs))
 }
 
 /// What an event that it hears makes of a connection. `now` is how many ticks the lane took before.
-fn after(alloc: Global, duo: &Duo, now: u32, event: &Event) -> Result<Heard, Memory>
-    requires hears { IsTrue (hears (duo_at now duo.now) event.now) }
-    ensures { IfOk result (λ heard. Becomes now event.now duo.now heard) }
+fn after(alloc: Global, duo: &Duo, now: u32, event: ReadEvent<'_>) -> Result<Heard, Memory>
+    requires hears { IsTrue (hears (duo_at now duo.now) event) }
+    ensures { IfOk result (λ heard. Becomes now event.entry duo.now heard) }
 {
     let (later, outs) = feed(duo, now, event)?;
     let this = given_up(duo, &later, 0);
@@ -115,10 +115,15 @@ impl Kept {
     }
 
     /// What an event makes of the connection; None where it doesn't hear it. `now` is how many ticks the lane took before.
-    pub fn hear(&self, alloc: Global, now: u32, event: &Event) -> Result<Option<Heard>, Memory>
-        ensures { IfOk result (λ heard. HeardBy now event.now self.now heard) }
+    pub fn hear(
+        &self,
+        alloc: Global,
+        now: u32,
+        event: ReadEvent<'_>,
+    ) -> Result<Option<Heard>, Memory>
+        ensures { IfOk result (λ heard. HeardBy now event.entry self.now heard) }
     {
-        if !self.duo.hears(event) {
+        if !self.duo.hears_read(&event) {
             return Ok(None);
         }
         let heard = after(alloc, &self.duo, now, event)?;
@@ -129,6 +134,6 @@ impl Kept {
     pub fn tick(&self, alloc: Global, now: u32) -> Result<Heard, Memory>
         ensures { IfOk result (λ heard. Becomes now Tick self.now heard) }
     {
-        after(alloc, &self.duo, now, &Event::Tick)
+        after(alloc, &self.duo, now, ReadEvent::of(&Event::Tick))
     }
 }

@@ -23,8 +23,7 @@ use crate::store::Store;
 use local_refs::Slots;
 use plant_core::{Entry, EntryList};
 use relay_base::{Event, Memory, Outs, PlainList, Ref24};
-use section_coupling::{Duo, named};
-use section_model::arrival_in;
+use section_coupling::{Duo, ReadEvent, named};
 use std::alloc::Global;
 use std::marker::Model;
 
@@ -67,14 +66,11 @@ impl<S: Store> Model for Openings<S> {
 }
 
 /// The local reference that a message or a request names.
-fn reference_in(event: &Event) -> Option<Ref24>
+fn reference_in(event: &ReadEvent<'_>) -> Option<Ref24>
     ensures { result ≡ reference_in event.now }
 {
-    match event {
-        Event::Message { bytes, .. } => match arrival_in(bytes.as_slice()) {
-            Some(arrival) => Some(arrival.parameters.dlr),
-            None => None,
-        },
+    match event.event() {
+        Event::Message { .. } => event.destination(),
         Event::Asked { request, .. } => named(request),
         Event::Tick => None,
     }
@@ -204,7 +200,7 @@ impl<S: Store> Openings<S> {
 
     /// The number of the connection an end of which has the slot of the reference that an event names. Whether it hears the event, it tells by the
     /// whole reference.
-    fn number_of(&self, event: &Event) -> Option<usize>
+    fn number_of(&self, event: &ReadEvent<'_>) -> Option<usize>
         requires standing { IsStanding self.now.state }
         ensures place { (keeps : List Remnant) → Stands keeps self.now.state →
             IsPlaceIn event.now keeps result }
@@ -228,7 +224,24 @@ impl<S: Store> Openings<S> {
             IfOk result (λ r. WakesDue wakes self.now.state.kept r.0) }
         ensures takes { IfOk result (λ r. TakesNone r.0) }
     {
-        let Some(number) = self.number_of(event) else {
+        self.hear_read(ReadEvent::of(event))
+    }
+
+    /// The same of an event that was read.
+    fn hear_read(&self, event: ReadEvent<'_>) -> Result<(Change, Option<Outs>), Memory>
+        requires standing { IsStanding self.now.state }
+        requires event { is_tick event ≡ false }
+        requires taken { self.now.state.taken ≤ 4_294_967_295 }
+        ensures part { (keeps : List Remnant) → Stands keeps self.now.state →
+            IfOk result (λ r. r.1 ≡ first_part event.entry keeps) }
+        ensures makes { (keeps : List Remnant) → Stands keeps self.now.state →
+            let later = map (remnant_after event.entry) keeps in
+            IfOk result (λ r. Makes r.0 self.now.state self.now.state.taken later) }
+        ensures woken { (wakes : ℕ → Bool) →
+            IfOk result (λ r. WakesDue wakes self.now.state.kept r.0) }
+        ensures takes { IfOk result (λ r. TakesNone r.0) }
+    {
+        let Some(number) = self.number_of(&event) else {
             return Ok((Change::Nothing, None));
         };
         let Some(one) = self.store.get(number) else {

@@ -1,5 +1,5 @@
 //! The windows of a connection section.
-ghost use Rattle.std.specs.Prelude.{◌≡◌, ◌≤◌, IfOk, OnErr, length, is_some};
+ghost use Rattle.std.specs.Prelude.{◌≡◌, ◌≤◌, ◌==◌, not, IfOk, OnErr, length, is_some};
 ghost use Rattle.section_model.specs.Ends.{cleared};
 ghost use Rattle.section_model.specs.Lengths.{ActedWithin, InputWithin, WindowsWithin};
 ghost use Rattle.section_model.specs.Windowed.{windowed_fires};
@@ -103,6 +103,13 @@ impl Windows {
         ensures { result ≡ is_some self.now.windows.waiting }
     {
         self.waiting.is_some()
+    }
+
+    /// Whether units left on the other end that no P(R) has told yet.
+    pub fn owes_acknowledgement(&self) -> bool
+        ensures { result ≡ not (self.now.windows.passed == self.now.windows.told) }
+    {
+        self.flow.due().is_some()
     }
 
     /// The window law: the units that came in stay within the window, and at most 127 units are sent beyond the last P(R) received.

@@ -1,5 +1,5 @@
 -- What does nothing leaves the connection as it is.
-use Rattle.std.proofs.Common.{◌≡◌, ◌==◌, ◌&&◌, ◌||◌, not, nat_lt, Bool, true, false, List, [], ◌∷◌, ◌++◌, length, fold, if◌then◌else◌, is_some, refl, ap, ◌∙◌, arith, append-nil}
+use Rattle.std.proofs.Common.{◌≡◌, ◌==◌, ◌&&◌, not, nat_lt, Bool, true, false, List, [], ◌∷◌, ◌++◌, length, fold, if◌then◌else◌, is_some, refl, ap, ◌∙◌, arith, append-nil}
 use Rattle.std.proofs.lemmas.Bool.{or_parts, ltb-false}
 use Rattle.plant_core.specs.declared.terms.Ticks.{Ticks}
 use Rattle.relay_base.specs.declared.words.Output.{Output}
@@ -8,7 +8,7 @@ use Rattle.section_model.specs.declared.cell.Cell.{Cell}
 use Rattle.section_model.specs.declared.cell.Cell.TheVariants as cell
 use Rattle.section_model.specs.declared.cell.Timer.{Timer}
 use Rattle.section_model.specs.declared.hand.Acted.{Acted}
-use Rattle.section_model.specs.Ends.{Section, End, wire, owner, Connection, is_up}
+use Rattle.section_model.specs.Ends.{Section, End, wire, owner, Connection, is_up, no_effect}
 use Rattle.section_model.specs.Acting.{timed, by_windows}
 use Rattle.section_model.specs.Coupling.{settles}
 use Rattle.section_model.specs.Step.{fires_next, fires_due, is_due_at, on_windows, on_each, after_event}
@@ -16,7 +16,7 @@ use Rattle.section_model.specs.Timing.{firing_order}
 use Rattle.section_model.specs.Windowed.{Windowed, leaves, acknowledges}
 use Rattle.section_class3.specs.Windows.{windows_turn}
 use Rattle.connection_law.proofs.Timer.Quiet.{nothing_leaves, settled}
-use Rattle.section_coupling.specs.Inner.Idle.{has_due, is_in_class_3, has_waiting, is_leave, may_turn}
+use Rattle.section_coupling.specs.Inner.Idle.{has_due, is_in_class_3, has_turn, may_turn}
 use Rattle.section_coupling.specs.Views.{behind}
 use Rattle.section_coupling.proofs.Alone.{due_behind}
 
@@ -48,14 +48,17 @@ unfolding after_event
 none_follows ticks c outs this that =
     ap (on_each (on_windows ticks acknowledges)) (none_on_each ticks leaves c outs this that) ∙ none_on_each ticks acknowledges c outs this that
 
--- Nothing leaves where nothing waits.
+-- Nothing leaves where nothing waits, and nothing is acknowledged where all was.
 
-pub leaving : (up leave waits b : Bool) → up ≡ true → leave ≡ true → b ≡ waits → b ≡ (up && (not leave || waits))
-leaving true true waits b e f g = g
-leaving true false waits b e f g = absurd (cc)
-leaving false leave waits b e f g = absurd (cc)
+told-all : (b : Bool) → not b ≡ false → b ≡ true
+told-all true e = refl
+told-all false e = absurd (cc)
 
-no_turn_on : (ticks : Ticks) (k : Cell) (x : Section) (that : End) (b : Bool) → (b && (not (is_leave k) || has_waiting x)) ≡ false
+nothing_owed : (x : Windowed) → not (x.windows.passed == x.windows.told) ≡ false → acknowledges x ≡ (x, no_effect)
+unfolding acknowledges
+nothing_owed x none = rw (told-all (x.windows.passed == x.windows.told) none) refl
+
+no_turn_on : (ticks : Ticks) (k : Cell) (x : Section) (that : End) (b : Bool) → (b && has_turn k x) ≡ false
     → (if b then settles ticks (timed ticks x (by_windows (windows_turn k) x)) that else (record { this = wire x; that = that }, [])) ≡ (record { this = wire x; that = that }, [])
 no_turn_on ticks cell.Leave x that true none =
     let parts = or_parts (nat_lt 0 (length x.windows.waits)) (is_some x.windows.waiting) none in
@@ -63,6 +66,8 @@ no_turn_on ticks cell.Leave x that true none =
     let units : may_leave x.windows ≡ 0 = omega (arith, few) in
     let expedited = ap (λ (b : Bool). b && not x.windows.unanswered) parts.1 in
     ap (λ done. settles ticks (timed ticks x (by_windows (λ _. done) x)) that) (nothing_leaves (record { head = x.head; windows = x.windows }) (units, expedited)) ∙ settled ticks x that
+no_turn_on ticks cell.Acknowledge x that true none =
+    ap (λ done. settles ticks (timed ticks x (by_windows (λ _. done) x)) that) (nothing_owed (record { head = x.head; windows = x.windows }) none) ∙ settled ticks x that
 no_turn_on ticks _ x that true none = absurd (cc)
 no_turn_on ticks k x that false none = refl
 

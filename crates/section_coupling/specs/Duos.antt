@@ -6,6 +6,7 @@ use Rattle.plant_core.specs.declared.terms.Ticks.{Ticks}
 use Rattle.section_model.specs.declared.cell.Timer.{Timer}
 use Rattle.section_model.specs.declared.cell.Timer.TheVariants.{Repeat}
 use Rattle.section_model.specs.Ends.{End, wire, owner, Connection}
+use Rattle.section_model.specs.Parameters.{Arrival, arrival_in}
 use Rattle.section_model.specs.Timing.{firing_order, timer_in}
 use Rattle.connection_law.specs.InStep.{IsInStep}
 use Rattle.section_coupling.specs.declared.pair.EndName.{EndName}
@@ -52,3 +53,9 @@ abbrev pub taken_after : ℕ → Event → ℕ
 taken_after now (Arrives point sls bytes) = now
 taken_after now (Requested ssn r) = now
 taken_after now Tick = now + 1
+
+-- the message for a connection that an event is, if it is one
+abbrev pub arrival_of_event : Event → Option Arrival
+arrival_of_event (Arrives point sls bytes) = arrival_in bytes
+arrival_of_event (Requested ssn r) = None
+arrival_of_event Tick = None

@@ -6,7 +6,6 @@ ghost use Rattle.std.specs.Option.{option_map};
 ghost use Rattle.section_model.specs.Lane.{reference_of};
 ghost use Rattle.section_model.specs.Opening.{wish_of, slots_needed, opened};
 ghost use Rattle.section_coupling.specs.Openings.{IsAnswered};
-ghost use Rattle.section_model.specs.Parameters.{arrival_in};
 ghost use Rattle.section_coupling.specs.Views.{connection_at, connection_by, behind, left_at};
 ghost use Rattle.section_coupling.specs.Sound.{IsCredit, SoundPair};
 ghost use Rattle.connection_law.specs.InStep.{IsInStep};
@@ -17,7 +16,7 @@ ghost use Rattle.section_coupling.specs.Duos.{duo_at, taken_after, end_numbered,
 
 use crate::asking::ask;
 use crate::clock::{Clock, taken_after};
-use crate::coming::{Coming, Wanting};
+use crate::coming::{Coming, ReadEvent, Wanting};
 use crate::following::follow;
 use crate::hearing::hear_message;
 use crate::opening::{Opening, begin};
@@ -26,10 +25,10 @@ use crate::sizes::needs;
 use crate::taken::Taken;
 use crate::ticking::{tick, timer_placed};
 use crate::unheard::{is_in_range, named};
+use crate::wish::ReadWish;
 use plant_core::{Answer, Terms, Ticks};
 use relay_base::{Event, Memory, Outs, Ref24};
 use section_grid::Timer;
-use section_model::arrival_in;
 use std::alloc::Global;
 use std::marker::Model;
 
@@ -67,19 +66,20 @@ fn take(
     alloc: Global,
     clock: &Clock,
     now: u32,
-    event: &Event,
+    event: ReadEvent<'_>,
     pair: &mut Pair,
     outs: &mut Outs,
 ) -> Result<(), Memory>
-    requires clock { clock.now.taken ≡ taken_after now event.now }
+    requires clock { clock.now.taken ≡ taken_after now event }
     requires pair { SoundPair pair.old }
-    requires hears { IsTrue (hears (connection_at now pair.old) event.now) }
-    ensures step { let done = event_step clock.now.ticks (connection_at now pair.old) event.now in
+    requires hears { IsTrue (hears (connection_at now pair.old) event) }
+    ensures step { let done = event_step clock.now.ticks (connection_at now pair.old) event.entry in
         OnOk result (behind outs.old done ≡ (connection_by clock.now pair.new, outs.new)) }
     ensures sound { OnOk result (SoundPair pair.new) }
 {
+    let (event, arrival) = event.into_parts();
     match event {
-        Event::Message { opc, bytes, .. } => match arrival_in(bytes.as_slice()) {
+        Event::Message { opc, .. } => match arrival {
             Some(arrival) => {
                 let coming = Coming {
                     event,
@@ -115,6 +115,14 @@ impl Duo {
         ensures { (terms : Terms) →
             result ≡ slots_needed (wish_of terms event.now) (Some answer.now) }
     {
+        Duo::needs_read(&ReadWish::of(event), answer)
+    }
+
+    /// The same of an event that was read.
+    pub fn needs_read(event: &ReadWish<'_>, answer: &Answer) -> u8
+        ensures { (terms : Terms) →
+            result ≡ slots_needed (wish_of terms event.now) (Some answer.now) }
+    {
         needs(event, answer)
     }
 
@@ -125,6 +133,27 @@ impl Duo {
         terms: &Terms,
         now: u64,
         event: &Event,
+        asked: Option<&Answer>,
+        refs: &[Ref24],
+    ) -> Result<Begun, Memory>
+        requires now { now ≤ 4_294_967_295 }
+        requires credit { IsCredit terms.now.credit }
+        requires answered { let answer = option_map (λ a. a.now) asked in
+            IsAnswered (wish_of terms.now event.now) answer }
+        ensures opened { let answer = option_map (λ a. a.now) asked.entry in
+            IfOk result (λ b. opened terms.now (wish_of terms.now event.now) answer refs.now ≡
+            record { connection = option_map (duo_at now) b.duo; outs = b.outs }) }
+        ensures ticks { IfOk result (λ b. IfSome b.duo (λ d. d.ticks ≡ terms.now.ticks)) }
+    {
+        Duo::begin_read(alloc, terms, now, &ReadWish::of(event), asked, refs)
+    }
+
+    /// The same with an event that was read.
+    pub fn begin_read(
+        alloc: Global,
+        terms: &Terms,
+        now: u64,
+        event: &ReadWish<'_>,
         asked: Option<&Answer>,
         refs: &[Ref24],
     ) -> Result<Begun, Memory>
@@ -160,15 +189,19 @@ impl Duo {
 
     /// Whether it hears an event: a tick unless it is over, a message whose destination local reference is that of a section which
     /// isn't gone, and a request in its ranges that names such a reference.
-    #[tactic(auto, unfolding(section_model::specs::Step::hears))]
     pub fn hears(&self, event: &Event) -> bool
         ensures { (now : ℕ) → result ≡ hears (duo_at now self.now) event.now }
     {
-        match event {
-            Event::Message { bytes, .. } => match arrival_in(bytes.as_slice()) {
-                Some(arrival) => self.pair.has(arrival.parameters.dlr),
-                None => false,
-            },
+        self.hears_read(&ReadEvent::of(event))
+    }
+
+    /// The same of an event that was read.
+    #[tactic(auto, unfolding(section_model::specs::Step::hears))]
+    pub fn hears_read(&self, event: &ReadEvent<'_>) -> bool
+        ensures { (now : ℕ) → result ≡ hears (duo_at now self.now) event.now }
+    {
+        match event.event() {
+            Event::Message { .. } => event.destination().is_some_and(|mine| self.pair.has(mine)),
             Event::Asked { request, .. } => {
                 is_in_range(request) && named(request).is_some_and(|mine| self.pair.has(mine))
             }
@@ -194,6 +227,24 @@ impl Duo {
         ensures expedited { IfOk result (λ heard.
             SendsExpedited self.now.ticks (duo_at now self.now) event.now heard.outs) }
     {
+        self.hear_read(now, ReadEvent::of(event))
+    }
+
+    /// The same with an event that was read.
+    pub fn hear_read(&self, now: u64, event: ReadEvent<'_>) -> Result<Heard, Memory>
+        requires now { now ≤ 4_294_967_295 }
+        requires hears { IsTrue (hears (duo_at now self.now) event) }
+        ensures step { let later = taken_after now event.entry in IfOk result (λ heard.
+            connection_step self.now.ticks (duo_at now self.now) event.entry ≡
+            (duo_at later heard.duo, heard.outs)) }
+        ensures ticks { IfOk result (λ heard. heard.duo.ticks ≡ self.now.ticks) }
+        ensures windows { IfOk result (λ heard.
+            FlowKept (duo_at (taken_after now event.entry) heard.duo)) }
+        ensures data { IfOk result (λ heard.
+            SendsData self.now.ticks (duo_at now self.now) event.entry heard.outs) }
+        ensures expedited { IfOk result (λ heard.
+            SendsExpedited self.now.ticks (duo_at now self.now) event.entry heard.outs) }
+    {
         let Duo {
             alloc,
             ticks,
@@ -202,7 +253,7 @@ impl Duo {
         let before = now as u32;
         let clock = Clock {
             ticks,
-            taken: taken_after(before, event),
+            taken: taken_after(before, event.event()),
         };
         let mut outs = Outs::new(alloc);
         take(alloc, &clock, before, event, &mut pair, &mut outs)?;

@@ -8,7 +8,7 @@ ghost use Rattle.section_model.specs.Step.{on_windows, on_each, after_event};
 ghost use Rattle.connection_law.specs.InStep.{AreInStep, IsInStep};
 ghost use Rattle.section_coupling.specs.Views.{section_at, section_by, end_at, end_by, connection_by, standing, behind, IsAct, IsEndAct};
 ghost use Rattle.section_coupling.specs.Inner.Alone.{turns_alone};
-ghost use Rattle.section_coupling.specs.Inner.Idle.{is_in_class_3, has_waiting, is_leave, may_turn};
+ghost use Rattle.section_coupling.specs.Inner.Idle.{is_in_class_3, has_waiting, has_turn, may_turn};
 ghost use Rattle.section_coupling.specs.Sound.{AreSound, SoundActed, SoundWire, SoundSide, SoundPair};
 
 use crate::clock::Clock;
@@ -34,18 +34,25 @@ fn has_waiting(wire: &Wire) -> bool
     wire.windows.waiting_units() > 0 || wire.windows.has_waiting_expedited()
 }
 
-/// Whether it is the part by which they leave.
-fn is_leave(cell: Cell) -> bool
-    ensures { result ≡ is_leave cell }
+/// Whether there is something to do on a section for a part of it: something waits to leave, or something that left is to be acknowledged.
+fn has_turn(cell: Cell, wire: &Wire) -> bool
+    requires sound { SoundWire wire.now }
+    requires class { wire.now.head.class ≡ 3 }
+    ensures { (now : ℕ) → result ≡ has_turn cell (section_at now wire.now) }
 {
-    matches!(cell, Cell::Leave)
+    match cell {
+        Cell::Leave => has_waiting(wire),
+        Cell::Acknowledge => wire.windows.owes_acknowledgement(),
+        _ => true,
+    }
 }
 
 /// Whether a part of it may do something on a section.
 fn may_turn_section(cell: Cell, wire: &Wire) -> bool
+    requires { SoundWire wire.now }
     ensures { (now : ℕ) → result ≡ may_turn cell (end (section_at now wire.now)) }
 {
-    has_windows(&wire.head) && (!is_leave(cell) || has_waiting(wire))
+    has_windows(&wire.head) && has_turn(cell, wire)
 }
 
 /// A part of it on a section.
@@ -64,6 +71,7 @@ fn turn_section(alloc: Global, clock: &Clock, cell: Cell, wire: &mut Wire) -> Re
 impl Side {
     /// Whether a part of it may do something on this end.
     fn may_turn(&self, cell: Cell) -> bool
+        requires { SoundSide self.now }
         ensures { (now : ℕ) → result ≡ may_turn cell (end_at now self.now) }
     {
         match self {

@@ -23,7 +23,8 @@ mod wire;
 mod wish;
 
 pub use clock::taken_after;
+pub use coming::ReadEvent;
 pub use duo::{Begun, Duo, Heard, TIMERS};
 pub use taken::Taken;
 pub use unheard::{named, stray};
-pub use wish::{ask_of, opens};
+pub use wish::ReadWish;

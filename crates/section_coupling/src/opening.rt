@@ -24,11 +24,11 @@ use crate::taken::Taken;
 use crate::timers::Timers;
 use crate::unheard::sent;
 use crate::wire::Wire;
-use crate::wish::{Calling, Incoming, Outgoing, WantedView, WishView, wish_of};
+use crate::wish::{Calling, Incoming, Outgoing, ReadWish, WantedView, WishView};
 use plant_core::{Answer, Rewrite, RouteCause, Terms, called_onward, refusal_cause};
 use q713_codec::Message;
 use relay_base::causes::{REFUSAL_NOT_AVAILABLE, REFUSAL_UNQUALIFIED};
-use relay_base::{BoxedOctets, Event, Memory, Octets, Output, Outs, Pc, Ref24, Ssn, Tell};
+use relay_base::{BoxedOctets, Memory, Octets, Output, Outs, Pc, Ref24, Ssn, Tell};
 use sccp_address::subsystem_address;
 use scmg_messages::put_status;
 use section_class2::Line;
@@ -582,14 +582,14 @@ fn begin_by_user(
 }
 
 /// The connection that an event opens, and what comes of the event, after so many ticks of the lane (at most 4,294,967,296): by CR or by
-/// a user's request. Routing control has answered where `ask_of` asks it. The references are those
+/// a user's request. Routing control has answered where `ask` asks it. The references are those
 /// that are free for the connection: as many as it needs, or fewer where too few are free.
 #[tactic(auto, unfolding(section_model::specs::Opening::opened))]
 pub fn begin(
     alloc: Global,
     terms: &Terms,
     now: Taken,
-    event: &Event,
+    event: &ReadWish<'_>,
     asked: Option<&Answer>,
     refs: &[Ref24],
 ) -> Result<Opening, Memory>
@@ -599,9 +599,9 @@ pub fn begin(
         record { connection = option_map (connection_at now) o.pair; outs = o.outs }) }
     ensures sound { IfOk result (λ o. IfSome o.pair SoundPair) }
 {
-    match wish_of(event) {
-        WishView::ByCr(incoming) => begin_by_cr(alloc, terms, now, &incoming, asked, refs),
-        WishView::ByUser(outgoing) => begin_by_user(alloc, terms, now, &outgoing, asked, refs),
+    match event.wish() {
+        WishView::ByCr(incoming) => begin_by_cr(alloc, terms, now, incoming, asked, refs),
+        WishView::ByUser(outgoing) => begin_by_user(alloc, terms, now, outgoing, asked, refs),
         WishView::NoWish => Ok(Opening::none(Outs::new(alloc))),
     }
 }

@@ -10,10 +10,9 @@ ghost use Rattle.plant_core.specs.Rewriting.{called_onward};
 ghost use Rattle.section_coupling.specs.Inner.Sizes.{option_size, octet_size, options_size, are_fitting};
 ghost use Rattle.section_coupling.specs.Openings.{seen_calling, seen_wanted, seen_outgoing};
 
-use crate::wish::{Calling, WantedView, WishView, wish_of};
+use crate::wish::{Calling, ReadWish, WantedView, WishView};
 use plant_core::{Answer, Rewrite};
 use q713_codec::LONGEST;
-use relay_base::Event;
 use relay_base::limits::{GREATEST_OCTET, LONGEST_DATA, LONGEST_PARAMETER};
 use sccp_address::{Address, Selector, Title, parse};
 
@@ -203,10 +202,10 @@ fn needed_by_user(answer: &Answer) -> u8
 
 /// How many free references the connection of an event takes by the answer of routing control: 0, 1 or 2.
 #[tactic(auto, unfolding(section_model::specs::Opening::slots_needed))]
-pub fn needs(event: &Event, answer: &Answer) -> u8
+pub fn needs(event: &ReadWish<'_>, answer: &Answer) -> u8
     ensures { (terms : Terms) → result ≡ slots_needed (wish_of terms event.now) (Some answer.now) }
 {
-    match wish_of(event) {
+    match event.wish() {
         WishView::ByCr(incoming) => needed_by_cr(&incoming.wanted, answer),
         WishView::ByUser(_) => needed_by_user(answer),
         WishView::NoWish => 0,

@@ -15,6 +15,7 @@ use q713_codec::{View, protocol_class, read};
 use relay_base::limits::{GREATEST_CREDIT, LINK_SELECTIONS, LONGEST_DATA, LONGEST_GIVEN_ADDRESS};
 use relay_base::{Event, Octets, Pc, Ref24, Request, Sls, Ssn};
 use sccp_address::parse;
+use std::marker::Model;
 
 /// The type of CR (Q.713, 2.3).
 const CR: u8 = 0x01;
@@ -197,7 +198,7 @@ fn wish_of_octets(point: Pc, sls: Sls, bytes: &[u8]) -> WishView<'_>
 
 /// What an event wants.
 #[tactic(auto, unfolding(section_model::specs::Opening::wish_of))]
-pub fn wish_of(event: &Event) -> WishView<'_>
+fn wish_of(event: &Event) -> WishView<'_>
     ensures value { (terms : Terms) → seen_wish terms result ≡ wish_of terms event.now }
     ensures within { UserWithin result }
 {
@@ -235,22 +236,63 @@ fn ask_of_incoming<'a>(wanted: &WantedView<'a>) -> Option<Ask<'a>>
     }
 }
 
-/// What routing is asked for an event that opens a connection: nothing for a CR of a class other than 2 and 3, or whose called
-/// address is none.
-#[tactic(auto, unfolding(section_model::specs::Opening::question_of))]
-pub fn ask_of(event: &Event) -> Option<Ask<'_>>
-    ensures { (terms : Terms) → option_map seen_ask result ≡ question_of (wish_of terms event.now) }
-{
-    match wish_of(event) {
-        WishView::ByCr(incoming) => ask_of_incoming(&incoming.wanted),
-        WishView::ByUser(outgoing) => { asked_for(None, Origin::User, outgoing.wanted.called) }
-        WishView::NoWish => None,
-    }
+/// An event, with what it wants, which is read once. A clause sees it as the event.
+#[derive(Drop)]
+pub struct ReadWish<'a> {
+    event: &'a Event,
+    wish: WishView<'a>,
 }
 
-/// Whether an event opens a connection: it is CR, or a user's request for one in its ranges.
-pub fn opens(event: &Event) -> bool
-    ensures { (terms : Terms) → result ≡ is_wish (wish_of terms event.now) }
-{
-    !matches!(wish_of(event), WishView::NoWish)
+impl<'a> Model for ReadWish<'a> {
+    ghost use Rattle.std.specs.Prelude.{◌≡◌};
+    ghost use Rattle.relay_base.specs.declared.words.Event.{Event as EventState};
+    ghost use Rattle.plant_core.specs.declared.terms.Terms.{Terms};
+    ghost use Rattle.section_model.specs.Opening.{wish_of};
+    ghost use Rattle.section_coupling.specs.Openings.{seen_wish, UserWithin};
+
+    ghost Value = { EventState };
+
+    ghost view = { λ r. r.event.now };
+
+    ghost invariant = { λ r.
+        ((terms : Terms) → seen_wish terms r.wish ≡ wish_of terms r.event.now) × UserWithin r.wish };
+}
+
+impl<'a> ReadWish<'a> {
+    pub fn of(event: &'a Event) -> ReadWish<'a>
+        ensures { result ≡ event.now }
+    {
+        ReadWish {
+            event,
+            wish: wish_of(event),
+        }
+    }
+
+    /// What the event wants.
+    pub(crate) fn wish(&self) -> &WishView<'a>
+        ensures value { (terms : Terms) → seen_wish terms result.now ≡ wish_of terms self.now }
+        ensures within { UserWithin result.now }
+    {
+        &self.wish
+    }
+
+    /// What routing is asked for an event that opens a connection: nothing for a CR of a class other than 2 and 3, or whose called
+    /// address is none.
+    #[tactic(auto, unfolding(section_model::specs::Opening::question_of))]
+    pub fn ask(&self) -> Option<Ask<'a>>
+        ensures { (terms : Terms) → option_map seen_ask result ≡ question_of (wish_of terms self.now) }
+    {
+        match self.wish() {
+            WishView::ByCr(incoming) => ask_of_incoming(&incoming.wanted),
+            WishView::ByUser(outgoing) => asked_for(None, Origin::User, outgoing.wanted.called),
+            WishView::NoWish => None,
+        }
+    }
+
+    /// Whether the event opens a connection: it is CR, or a user's request for one in its ranges.
+    pub fn opens(&self) -> bool
+        ensures { (terms : Terms) → result ≡ is_wish (wish_of terms self.now) }
+    {
+        !matches!(self.wish(), WishView::NoWish)
+    }
 }

@@ -20,12 +20,13 @@ is_in_class_3 (owner u) = false
 abbrev pub has_waiting : Section → Bool
 has_waiting x = nat_lt 0 (length x.windows.waits) || is_some x.windows.waiting
 
--- the part of what follows each event by which they leave
-abbrev pub is_leave : Cell → Bool
-is_leave cell.Leave = true
-is_leave _ = false
+-- there is something to do on a section for a part of what follows each event: something waits to leave, or something that left is to be acknowledged
+abbrev pub has_turn : Cell → Section → Bool
+has_turn cell.Leave x = has_waiting x
+has_turn cell.Acknowledge x = not (x.windows.passed == x.windows.told)
+has_turn _ x = true
 
--- a part of it may do something on an end: on a section of class 3 that is up, and where something waits if it is to leave
+-- a part of it may do something on an end: on a section of class 3 that is up, where there is something to do
 abbrev pub may_turn : Cell → End → Bool
-may_turn c (wire x) = is_in_class_3 (wire x) && (not (is_leave c) || has_waiting x)
+may_turn c (wire x) = is_in_class_3 (wire x) && has_turn c x
 may_turn c (owner u) = false

@@ -9,4 +9,5 @@ pub after-requires : goal.after-requires
 after-requires c =
     let d = c.self.inside.duo.value in
     let alive = hears_tick (duo_at c.args.now d) (over_alike c.args.now 0 d ∙ c.self.invariant) in
-    record { hears = subst (λ x. hears (duo_at c.args.now x) Tick ≡ true) (sym c.deref.ensures) alive }
+    let told = subst (λ x. hears (duo_at c.args.now x) Tick ≡ true) (sym c.deref.ensures) alive in
+    record { hears = subst (λ event. hears (duo_at c.args.now c.deref.result.now) event ≡ true) (sym c.of.ensures) told }

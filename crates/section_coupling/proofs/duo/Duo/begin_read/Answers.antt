@@ -1,6 +1,6 @@
 use Rattle.section_coupling.specs.Sound.{SoundPair}
 use Rattle.section_coupling.proofs.Keeping.{kept-opened, of-some}
-use Rattle.section_coupling.proofs.duo.Duo.begin.Goals as goal
+use Rattle.section_coupling.proofs.duo.Duo.begin_read.Goals as goal
 
 pub invariant_of-duo : goal.invariant_of-duo
 invariant_of-duo c = (
