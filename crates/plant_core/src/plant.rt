@@ -120,13 +120,12 @@ impl Plant {
         self.edition
     }
 
-    /// An equal plant.
-    pub fn copy(&self) -> Result<Plant, Memory>
-        ensures routing { IfOk result (λ p. p.routing ≡ self.now.routing) }
+    /// This plant, with these users and rows.
+    fn copy_with(&self, users: Vec<Ssn>, rows: Table) -> Result<Plant, Memory>
+        ensures routing { let routing = record self.now.routing { users = users.items; rows = rows.rows }
+            in IfOk result (λ p. p.routing ≡ routing) }
         ensures edition { IfOk result (λ p. p.edition ≡ self.now.edition) }
     {
-        let users = self.users.clone()?;
-        let rows = self.rows.copy()?;
         let barred_points = self.barred_points.copy()?;
         Ok(Plant {
             own: self.own,
@@ -137,6 +136,15 @@ impl Plant {
             out_of_service: self.out_of_service.copy()?,
             edition: self.edition,
         })
+    }
+
+    /// An equal plant.
+    pub fn copy(&self) -> Result<Plant, Memory>
+        ensures routing { IfOk result (λ p. p.routing ≡ self.now.routing) }
+        ensures edition { IfOk result (λ p. p.edition ≡ self.now.edition) }
+    {
+        let users = self.users.clone()?;
+        self.copy_with(users, self.rows.copy()?)
     }
 
     /// The row that translates these digits (Q.714, 2.4).
