@@ -85,11 +85,11 @@ fn capture_after<L: LineReader>(
     reader: &L,
     head: Head,
     line: u32,
-    lines: &mut Lines<'_>,
+    lines: Lines<'_>,
 ) -> Result<Capture, CaptureFault>
     requires reader { L.can_read reader.now }
-    requires few { line + length lines.old < 2 ^ 32 }
-    ensures value { Reads result (capture_read head line lines.old) }
+    requires few { line + length lines < 2 ^ 32 }
+    ensures value { Reads result (capture_read head line lines.entry) }
     ensures head { IfOk result (λ c. c.head ≡ head) }
 {
     let read = reader.read(alloc, &head, line, lines)?;
@@ -111,7 +111,7 @@ fn capture_within<L: LineReader>(
 {
     let mut lines = bytes.lines();
     let (head, count) = head_part(alloc, &mut lines)?;
-    capture_after(alloc, reader, head, count as u32 + 2, &mut lines)
+    capture_after(alloc, reader, head, count as u32 + 2, lines)
 }
 
 /// The capture that an input is, or the first of its faults, of which the lines are read by this reader.

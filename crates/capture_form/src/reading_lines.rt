@@ -6,7 +6,7 @@ ghost use Rattle.capture_form.specs.Capture.{Reads};
 ghost use Rattle.capture_form.specs.Inner.Stated.{numbered};
 ghost use Rattle.capture_form.specs.Inner.LineRead.{AreRead};
 ghost use Rattle.capture_form.specs.Inner.Reader.{AreAsMany, lines_taken, nothing_read};
-ghost use Rattle.capture_form.specs.Inner.Blocks.{FirstReads, IsBlockWithin, SayLines, blocks_taken};
+ghost use Rattle.capture_form.specs.Inner.Blocks.{FirstReads, Follows, IsBlockWithin, SayLines, StepReads, blocks_taken};
 
 use crate::fault::CaptureFault;
 use crate::line_read::{LineRead, read_line};
@@ -17,8 +17,8 @@ use bstr::Lines;
 use node_head::Head;
 use relay_base::{Memory, take_spare};
 use std::alloc::Global;
-use std::thread;
 use std::thread::Threads;
+use std::{mem, thread};
 
 /// The most blocks that lines are read in, each in a thread of its own.
 const MOST_BLOCKS: usize = 8;
@@ -28,6 +28,16 @@ const LEAST_BLOCK: usize = 1_024;
 
 /// How many octets of memory a line takes once it is read.
 const LINE_OCTETS: usize = 256;
+
+/// How far lines are read: what was taken, a window of lines that are not taken, and the lines behind those that were found, of which the
+/// first has this number.
+#[derive(Drop)]
+struct Progress<'a> {
+    read: Reading,
+    window: Vec<StatedLine<'a>>,
+    number: u32,
+    lines: Lines<'a>,
+}
 
 /// What each line of a block says, unless memory ran out.
 type Block = Result<Vec<LineRead>, Memory>;
@@ -48,11 +58,11 @@ pub trait LineReader {
         alloc: Global,
         head: &Head,
         first: u32,
-        lines: &mut Lines<'_>,
+        lines: Lines<'_>,
     ) -> Result<Reading, CaptureFault>
         requires reader { can_read self.now }
-        requires few { first + length lines.old < 2 ^ 32 }
-        ensures { Reads result (lines_taken head.now (nothing_read head.now) (numbered first lines.old)) };
+        requires few { first + length lines < 2 ^ 32 }
+        ensures { Reads result (lines_taken head.now (nothing_read head.now) (numbered first lines.entry)) };
 }
 
 /// Reads lines one after the other, and takes what each says.
@@ -61,15 +71,15 @@ fn read_in_turn(
     alloc: Global,
     head: &Head,
     first: u32,
-    lines: &mut Lines<'_>,
+    mut lines: Lines<'_>,
 ) -> Result<Reading, CaptureFault>
-    requires few { first + length lines.old < 2 ^ 32 }
-    ensures { Reads result (lines_taken head.now (nothing_read head.now) (numbered first lines.old)) }
+    requires few { first + length lines < 2 ^ 32 }
+    ensures { Reads result (lines_taken head.now (nothing_read head.now) (numbered first lines.entry)) }
 {
     let mut read = nothing_read(alloc, head)?;
     let mut number = first;
     let mut words = Vec::new(alloc);
-    while let Some(line) = next_stated(&mut number, lines) {
+    while let Some(line) = next_stated(&mut number, &mut lines) {
         let said = read_line(alloc, head, &line, &mut words)?;
         take_line(alloc, head, &mut read, said)?;
     }
@@ -87,7 +97,7 @@ impl LineReader for InTurn {
         alloc: Global,
         head: &Head,
         first: u32,
-        lines: &mut Lines<'_>,
+        lines: Lines<'_>,
     ) -> Result<Reading, CaptureFault> {
         read_in_turn(alloc, head, first, lines)
     }
@@ -155,61 +165,99 @@ fn taken_blocks(
     Ok(read)
 }
 
-/// Takes what the lines of blocks say, and reads the lines of the next window meanwhile.
-fn taken_beside<R: Threads + Sync>(
+/// Takes what the blocks of a window say, and fills the window with the lines that come.
+fn step<'a>(
+    alloc: Global,
+    head: &Head,
+    progress: Progress<'a>,
+    blocks: Vec<Block>,
+) -> Result<Progress<'a>, CaptureFault>
+    requires links { length progress.read.current ≡ head.now.links + 1 }
+    requires within { AllByRecursion (IsBlockWithin head.now.links) blocks.items }
+    requires few { progress.number + length progress.lines < 2 ^ 32 }
+    ensures value { StepReads result (blocks_taken head.now progress.entry.read blocks.items) }
+    ensures next { IfOk result (Follows progress.entry) }
+{
+    let Progress {
+        read,
+        mut window,
+        mut number,
+        mut lines,
+    } = progress;
+    let read = taken_blocks(alloc, head, read, blocks)?;
+    fill(&mut window, &mut number, &mut lines)?;
+    Ok(Progress {
+        read,
+        window,
+        number,
+        lines,
+    })
+}
+
+/// Takes what the blocks of a window say, and fills it with the lines that come, while the lines of the next window are read.
+fn step_beside<'a, R: Threads + Sync>(
     rt: &R,
     alloc: Global,
     head: &Head,
-    read: Reading,
+    progress: Progress<'a>,
     blocks: Vec<Block>,
     next: &[StatedLine<'_>],
-) -> Result<(Reading, Vec<Block>), CaptureFault>
-    requires links { length read.current ≡ head.now.links + 1 }
+) -> Result<(Progress<'a>, Vec<Block>), CaptureFault>
+    requires links { length progress.read.current ≡ head.now.links + 1 }
     requires within { AllByRecursion (IsBlockWithin head.now.links) blocks.items }
-    ensures value { FirstReads result (blocks_taken head.now read blocks.items) }
-    ensures kept { IfOk result (λ t. AreAsMany read t.0) }
-    ensures next { IfOk result (λ t. SayLines head.now next.now t.1.items) }
+    requires few { progress.number + length progress.lines < 2 ^ 32 }
+    ensures value { FirstReads result (blocks_taken head.now progress.entry.read blocks.items) }
+    ensures next { IfOk result (λ t. Follows progress.entry t.0) }
+    ensures says { IfOk result (λ t. SayLines head.now next.now t.1.items) }
 {
-    if blocks.is_empty() || next.is_empty() {
-        let taken = taken_blocks(alloc, head, read, blocks)?;
+    if blocks.is_empty() {
+        let progress = step(alloc, head, progress, blocks)?;
         let said = read_blocks(rt, alloc, head, next)?;
-        return Ok((taken, said));
+        return Ok((progress, said));
     }
     let reading = move || -> Result<Vec<Block>, Memory>
         requires { IsSync R.row }
         ensures { IfOk result (λ said. SayLines head.entry.now next.entry.now said.items) }
     { read_blocks(rt, alloc, head, next) };
-    let taking = move || -> Result<Reading, CaptureFault>
-        requires { (length read.current ≡ head.now.links + 1)
-            × AllByRecursion (IsBlockWithin head.now.links) blocks.items }
-        ensures { Reads result (blocks_taken head.entry.now read blocks.items)
-            × IfOk result (AreAsMany read) }
-    { taken_blocks(alloc, head, read, blocks) };
-    let (said, taken) = thread::join(rt, reading, taking);
-    Ok((taken?, said?))
+    let stepping = move || -> Result<Progress<'_>, CaptureFault>
+        requires { (length progress.read.current ≡ head.now.links + 1)
+            × AllByRecursion (IsBlockWithin head.now.links) blocks.items
+            × (progress.number + length progress.lines < 2 ^ 32) }
+        ensures { StepReads result (blocks_taken head.entry.now progress.entry.read blocks.items)
+            × IfOk result (Follows progress.entry) }
+    { step(alloc, head, progress, blocks) };
+    let (said, progress) = thread::join(rt, reading, stepping);
+    Ok((progress?, said?))
 }
 
-/// Reads lines in threads, a window of them while what those of the one before say is taken.
+/// Reads lines in threads, a window of them while what those of the one before say is taken, and the one behind is filled.
 fn read_in_threads<R: Threads + Sync>(
     rt: &R,
     alloc: Global,
     head: &Head,
     first: u32,
-    lines: &mut Lines<'_>,
+    mut lines: Lines<'_>,
 ) -> Result<Reading, CaptureFault>
-    requires few { first + length lines.old < 2 ^ 32 }
-    ensures { Reads result (lines_taken head.now (nothing_read head.now) (numbered first lines.old)) }
+    requires few { first + length lines < 2 ^ 32 }
+    ensures { Reads result (lines_taken head.now (nothing_read head.now) (numbered first lines.entry)) }
 {
-    let mut read = nothing_read(alloc, head)?;
     let mut number = first;
     let mut window = Vec::new(alloc);
+    fill(&mut window, &mut number, &mut lines)?;
+    let mut progress = Progress {
+        read: nothing_read(alloc, head)?,
+        window: Vec::new(alloc),
+        number,
+        lines,
+    };
     let mut blocks = Vec::new(alloc);
     loop {
-        fill(&mut window, &mut number, lines)?;
-        (read, blocks) = taken_beside(rt, alloc, head, read, blocks, window.as_slice())?;
         if window.is_empty() {
-            return Ok(read);
+            let Progress { read, .. } = progress;
+            return taken_blocks(alloc, head, read, blocks);
         }
+        (progress, blocks) = step_beside(rt, alloc, head, progress, blocks, window.as_slice())?;
+        mem::swap(&mut progress.window, &mut window);
     }
 }
 
@@ -233,7 +281,7 @@ impl<'r, R: Threads + Sync> LineReader for InThreads<'r, R> {
         alloc: Global,
         head: &Head,
         first: u32,
-        lines: &mut Lines<'_>,
+        lines: Lines<'_>,
     ) -> Result<Reading, CaptureFault> {
         read_in_threads(self.rt, alloc, head, first, lines)
     }
