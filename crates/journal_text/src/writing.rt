@@ -20,7 +20,7 @@ use std::thread::Threads;
 const LONG: usize = 65_536;
 
 /// How many entries of a lane are printed at a time.
-const WINDOW: usize = 8_192;
+const WINDOW: usize = 32_768;
 
 /// Into how many blocks they are cut at most.
 const BLOCKS: usize = 8;

@@ -10,7 +10,7 @@ invariant-loop-window g l =
     let print = flat_map g.P.Printed.print in
     (goal.iterator-loop-window g).can_next l.window-iterator
     × (goal.iterator-loop-window g).is_finite l.window-iterator
-    × (chunks_size l.window-iterator ≡ 8192)
+    × (chunks_size l.window-iterator ≡ 32768)
     × Carried (g.K.Sink.held l.initial.out) (g.K.Sink.held l.out) (g.K.Sink.faults l.initial.out) (g.K.Sink.faults l.out)
     (l.initial.text ++ print l.entries)
     (l.text ++ print (chunks_rest l.window-iterator))
