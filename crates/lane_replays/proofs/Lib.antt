@@ -1,2 +1,3 @@
 mod Scans
 pub mod RulesLemmas
+mod TakeLemmas
