@@ -1,5 +1,5 @@
 //! A place from which a thread looks at what is published.
-ghost use Rattle.std.specs.Prelude.{◌≡◌};
+ghost use Rattle.std.specs.Prelude.{◌≡◌, IsTrue};
 ghost use Rattle.left_right.specs.Sides.{view};
 ghost use Rattle.gtt_editions.specs.Published.{Begins};
 ghost use Rattle.gtt_editions.specs.Marked.{shown_by, list_of};
@@ -60,6 +60,19 @@ impl<'r, R: Wait> Model for Looking<'r, R> {
     ghost invariant = { λ l. IsCurrent (view_of l.reading.place) (shown_by l.reading.part.value) };
 }
 
+/// Looks once: whether what is seen begins with what this copy shows.
+fn look_once<R: Wait>(rt: &R, reader: PlaceReader, store: &Store) -> (PlaceReader, bool)
+    requires { IsOpened (view reader.place) }
+    ensures opened { IsOpened (view result.0.place) }
+    ensures looks { LooksFrom (standing (view reader.place)) (standing (view result.0.place)) }
+    ensures learnt { let seen = (view result.0.place).seen in
+        IsTrue result.1 → Begins seen (list_of (shown_by store.now)) }
+{
+    let reading = enter(rt, reader);
+    let learnt = reading.get().begins_with(store);
+    (reading.leave(), learnt)
+}
+
 /// Looks until what is seen begins with what this copy shows.
 fn catch_up<R: Wait>(rt: &R, reader: PlaceReader, store: &Store) -> PlaceReader
     requires { IsOpened (view reader.place) }
@@ -69,9 +82,8 @@ fn catch_up<R: Wait>(rt: &R, reader: PlaceReader, store: &Store) -> PlaceReader
 {
     let mut reader = reader;
     for _ in rt.forever() {
-        let reading = enter(rt, reader);
-        let learnt = reading.get().begins_with(store);
-        reader = reading.leave();
+        let (next, learnt) = look_once(rt, reader, store);
+        reader = next;
         if learnt {
             return reader;
         }

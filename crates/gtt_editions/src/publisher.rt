@@ -1,6 +1,8 @@
 //! The one thread that publishes.
-ghost use Rattle.std.specs.Prelude.{◌≡◌, ◌+◌, ◌-◌, ◌<◌, ◌^◌, true, length, IsTrue, IsErr, IfOk, OnOk, OnErr};
+ghost use Rattle.std.specs.Prelude.{◌≡◌, ◌+◌, ◌-◌, ◌<◌, ◌^◌, [], true, false, length, drop, IsTrue, IsErr, IfOk, OnOk, OnErr};
 ghost use Rattle.left_right.specs.Sides.{view};
+ghost use Rattle.gtt_editions.specs.Marked.{shown_by};
+ghost use Rattle.gtt_editions.specs.Rule.{IsCurrent, IsGoing, publishing};
 ghost use Rattle.gtt_editions.specs.Standing.{IsNewPlace, IsEndOf, with_change, newest_of};
 ghost use Rattle.gtt_editions.specs.Shown.{newcomer};
 
@@ -107,6 +109,26 @@ fn new_reader<R: Wait>(rt: &R, writer: &PlantWriter) -> PlaceReader
     unreachable!()
 }
 
+/// Publishes a group. Either copy has room for it before the first one has it.
+fn publish_group<R: Wait>(rt: &R, writer: &mut PlantWriter, group: &Group) -> Result<(), Memory>
+    requires settled { drop writer.old.behind writer.old.log.items ≡ [] }
+    requires current { let desk = writer.old.desk in
+        IsCurrent (view desk.place) (shown_by desk.shown.value) }
+    requires going { IsGoing (shown_by writer.old.desk.shown.value) }
+    ensures ok { let old = publishing (view writer.old.desk.place) false in
+        OnOk result (publishing (view writer.new.desk.place) false ≡ with_change old group.now) }
+    ensures err { let old = publishing (view writer.old.desk.place) true in
+        OnErr result (publishing (view writer.new.desk.place) true ≡ old) }
+    ensures settled { OnOk result (drop writer.new.behind writer.new.log.items ≡ []) }
+    ensures current { let desk = writer.new.desk in
+        IsCurrent (view desk.place) (shown_by desk.shown.value) }
+    ensures going { IsGoing (shown_by writer.new.desk.shown.value) }
+{
+    publish(rt, writer, Step::Room(copied(group)?))?;
+    publish(rt, writer, Step::Change(copied(group)?))?;
+    Ok(())
+}
+
 impl<'r, R: Wait> Publisher<'r, R> {
     /// A place that has seen nothing.
     pub(crate) fn place(&mut self) -> Place<'r, R>
@@ -136,9 +158,7 @@ impl<'r, R: Wait> Publisher<'r, R> {
             return Err(Memory);
         }
         self.spent = true;
-        // Either copy has room for the group before the first one has it.
-        publish(self.rt, &mut self.writer, Step::Room(copied(group)?))?;
-        publish(self.rt, &mut self.writer, Step::Change(copied(group)?))?;
+        publish_group(self.rt, &mut self.writer, group)?;
         self.spent = false;
         Ok(self.writer.published().plant.edition())
     }
