@@ -2,7 +2,7 @@
 use Rattle.std.proofs.Common.{◌≡◌, ◌∙◌, ℕ, zero, suc, ◌+◌, ◌<◌, ◌≤◌, ◌==◌, ◌&&◌, nat_lt, nat_le, Bool, true, false, cond, List, [], ◌∷◌, length, get_or, take, sum, is_some, refl, sym, ap, ap₂, subst, arith, add-zero, add-one, set, drop, ◌++◌, Result, Ok, Err, IfOk, inl, inr, ◌⊎◌}
 use Rattle.std.specs.List.{sum_by}
 use Rattle.std.proofs.lemmas.Bool.{and_from, and_left, and_right, cases_eq, eq-eqb, ne_eqb}
-use Rattle.std.proofs.lemmas.List.{get_or-set_other, get_or-set_same}
+use Rattle.std.proofs.lemmas.List.{get_or-set_other, get_or-set_same, get_or_append_left, get_or_push}
 use Rattle.std.proofs.Math.Seq.{take-append_seam, take-length}
 use Rattle.std.proofs.lemmas.Bool.Decides.{nat_tests}
 use Rattle.std.proofs.lemmas.List.Sums.{sum_by-cons, sum_by_more, count_by-le-length}
@@ -23,6 +23,14 @@ sums_joined f g h joined (x ∷ xs) =
     let rest = sums_joined f g h joined xs in
     let first = joined x in
     omega (arith, rest, first, sum_by-cons f x xs, sum_by-cons g x xs, sum_by-cons h x xs)
+
+-- one sum more stands behind the sums of the counts before each of so many
+pub sums_pushed : (sums counts : List ℕ) (n x : ℕ) → length sums ≡ n + 1 → x ≡ sum (take (n + 1) counts) → ((at : ℕ) → at ≤ n → get_or sums at 0 ≡ sum (take at counts)) → (at : ℕ) → at ≤ n + 1
+    → get_or (sums ++ x ∷ []) at 0 ≡ sum (take at counts)
+sums_pushed sums counts n x size total each at few = elim (cases_eq at (n + 1)) [
+  | inl same ↦ get_or_push sums x 0 at (size ∙ sym same) ∙ total ∙ ap (λ k. sum (take k counts)) (sym same)
+  | inr apart ↦ get_or_append_left sums (x ∷ []) 0 at (omega (arith, size, few, apart)) ∙ each at (omega (arith, few, apart))
+]
 
 -- ---- editions
 
