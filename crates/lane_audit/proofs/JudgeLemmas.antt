@@ -1,7 +1,8 @@
 -- What comes of a part, by what waits, what may be named and what the lane makes of the event.
-use Rattle.std.proofs.Common.{◌≡◌, ◌≤◌, Bool, true, false, true≢false, List, length, map, Option, Some, None, option_and_then, is_some, Ok, Err, if◌then◌else◌, ap, sym, subst, ◌∙◌, refl, arith}
+use Rattle.std.proofs.Common.{◌≡◌, ◌≤◌, Bool, true, false, true≢false, List, length, map, Option, Some, None, option_and_then, is_some, Result, Ok, Err, IfOk, inl, inr, if◌then◌else◌, ap, sym, subst, ◌∙◌, refl, arith}
 use Rattle.std.proofs.lemmas.List.{length-map}
 use Rattle.relay_base.specs.Decimal.{digits_value}
+use Rattle.relay_base.specs.declared.errors.Memory.{Memory}
 use Rattle.relay_base.specs.declared.words.Stamp.{Stamp}
 use Rattle.plant_core.specs.Asking.{asked_at}
 use Rattle.plant_core.specs.Plant.{PlantState}
@@ -10,12 +11,13 @@ use Rattle.capture_form.specs.Events.{Stamped}
 use Rattle.journal_form.specs.Headings.{RoutingWords}
 use Rattle.journal_form.specs.Parts.{EntryPart}
 use Rattle.journal_form.specs.Stamps.{stamp_of}
+use Rattle.journal_finding.specs.declared.finding.FindingKind.{FindingKind}
 use Rattle.journal_finding.specs.declared.finding.FindingKind.TheVariants.{Order, Edition, Entry}
 use Rattle.journal_finding.specs.Entries.{LaneRules, event_next, if_written, entry_of}
 use Rattle.lane_events.specs.Pending.{Waiting, next_in, taken_in}
 use Rattle.lane_events.specs.Editions.{Named, routing_at, may_be_next}
 use Rattle.lane_audit.specs.declared.replay.Judged.{Judged}
-use Rattle.lane_audit.specs.Follows.{Awaits, Names, Takes, Goes, may_follow, named_by}
+use Rattle.lane_audit.specs.Follows.{Awaits, Names, Takes, Made, Goes, Judges, may_follow, named_by}
 use Rattle.lane_audit.proofs.EntryLemmas.{next_is, without_event, by_routing, routed_wrong, routed_other, routed_so}
 use Rattle.lane_audit.proofs.WaitLemmas.{names_more, waits_more, phase_within}
 
@@ -65,7 +67,7 @@ module _ {V E : Type 0} (rules : LaneRules V E) (journal : List E) (part : Entry
       module _ (after : List E) (plant : PlantState) (judged : Judged) (takes : Takes rules journal after plant stamp event part judged) (may : may_follow s stamp.phase part.words.asked ≡ true)
           (edition : plant.edition ≡ (named_by s stamp.phase part.words.asked).edition) (routing : plant.routing ≡ routing_at (named_by s stamp.phase part.words.asked) (named_by s stamp.phase part.words.asked).edition) where
         -- an edition is named where nothing is asked, or none where something is
-        pub judged_unasked : (judged.asks ≡ is_some part.words.asked → ⊥) → entry_of rules journal part ≡ Err Edition
+        judged_unasked : (judged.asks ≡ is_some part.words.asked → ⊥) → entry_of rules journal part ≡ Err Edition
         judged_unasked other =
             by_routing rules journal part stamp takes.own (Err Edition) is (event-is ∙ takes.is) (routed_other rules journal s stamp.phase names phase_there (rules.question takes.own) part.words.asked (λ same. other (takes.asks ∙ same)))
 
@@ -83,11 +85,11 @@ module _ {V E : Type 0} (rules : LaneRules V E) (journal : List E) (part : Entry
               ∙ ap (if_written rules part) (sym takes.comes)
 
           -- the lines are others
-          pub judged_unwritten : judged.is_written ≡ false → entry_of rules journal part ≡ Err Entry
+          judged_unwritten : judged.is_written ≡ false → entry_of rules journal part ≡ Err Entry
           judged_unwritten no_lines = whole ∙ ap (λ b. if b then Ok takes.entry else Err Entry) (sym takes.written ∙ no_lines)
 
           -- it is the entry
-          pub judged_so : judged.is_written ≡ true → Goes rules journal after part (taken_in w stamp) (named_by s stamp.phase part.words.asked)
+          judged_so : judged.is_written ≡ true → Goes rules journal after part (taken_in w stamp) (named_by s stamp.phase part.words.asked)
           judged_so lines =
               let asked = takes.routed ∙ ap (λ k. asked_at k plant.routing (rules.question takes.own)) edition in
               record {
@@ -97,3 +99,14 @@ module _ {V E : Type 0} (rules : LaneRules V E) (journal : List E) (part : Entry
                 awaits = subst (λ j. Awaits rules j (taken_in w stamp)) (sym takes.journal) (waits_more rules journal takes.entry w stamp event awaits takes.stamped next);
                 names = subst (λ j. Names rules j (named_by s stamp.phase part.words.asked)) (sym takes.journal) (names_more rules journal takes.entry s stamp.phase part.words.asked (rules.question takes.own) plant.routing names may asks asked);
               }
+
+      -- what is wrong with the entry that the lane made is what is wrong with the part
+      pub judged_made : (after : List E) (plant : PlantState) (made : Result (Option FindingKind) Memory) → IfOk made (Made rules journal after plant stamp event part) → may_follow s stamp.phase part.words.asked ≡ true
+          → plant.edition ≡ (named_by s stamp.phase part.words.asked).edition → plant.routing ≡ routing_at (named_by s stamp.phase part.words.asked) (named_by s stamp.phase part.words.asked).edition
+          → IfOk made (Judges rules journal after part (taken_in w stamp) (named_by s stamp.phase part.words.asked))
+      judged_made after plant (Err memory) made may edition routing = tt
+      judged_made after plant (Ok None) made may edition routing = judged_so after plant made.judged made.takes may edition routing made.is.0 made.is.1
+      judged_made after plant (Ok (Some kind)) made may edition routing = elim made.is [
+        | inl wrong ↦ judged_unasked after plant made.judged made.takes may edition routing wrong.1 ∙ ap Err (sym wrong.0)
+        | inr wrong ↦ judged_unwritten after plant made.judged made.takes may edition routing wrong.1 wrong.2 ∙ ap Err (sym wrong.0)
+      ]

@@ -1,5 +1,5 @@
 -- How what the code of an audit holds stands to the rules of a lane and the entries so far, and what comes of a line.
-use Rattle.std.specs.Prelude.{◌≡◌, ◌+◌, ◌≤◌, ◌<◌, ℕ, nat_le, List, [], ◌∷◌, ◌++◌, length, map, get_or, is_some, true, Bool, Option, Some, None, Ok, Err}
+use Rattle.std.specs.Prelude.{◌≡◌, ◌≢◌, ◌⊎◌, ◌+◌, ◌≤◌, ◌<◌, ℕ, nat_le, List, [], ◌∷◌, ◌++◌, length, map, get_or, is_some, true, false, Bool, Option, Some, None, Ok, Err}
 use Rattle.std.specs.declared.result.Result.{Result}
 use Rattle.std.specs.List.{list_all}
 use Rattle.relay_base.specs.declared.words.Stamp.{Stamp}
@@ -9,6 +9,7 @@ use Rattle.plant_core.specs.declared.entry.ControlEvent.{ControlEvent}
 use Rattle.journal_form.specs.Parts.{EntryPart}
 use Rattle.journal_finding.specs.declared.finding.Fault.{Fault}
 use Rattle.journal_finding.specs.declared.finding.FindingKind.{FindingKind}
+use Rattle.journal_finding.specs.declared.finding.FindingKind.TheVariants.{Edition, Entry}
 use Rattle.journal_finding.specs.Entries.{LaneRules, taken_at, is_phase_reached, editions_of, is_written, entry_of}
 use Rattle.lane_events.specs.Pending.{Waiting, none_pending, links_in}
 use Rattle.lane_events.specs.declared.editions.TheConstants.{MANY_EDITIONS}
@@ -53,6 +54,18 @@ pub record Takes {V E : Type 0} (rules : LaneRules V E) (before after : List E) 
   pub journal : after ≡ before ++ entry ∷ []
   pub asks : judged.asks ≡ is_some (rules.question own)
   pub written : judged.is_written ≡ is_written rules entry part
+
+-- this is wrong with what is known of an entry beside a part: its event asks where the part has no routing, or the other way round, or else its lines are others
+abbrev pub IsWrong : Judged → EntryPart → Option FindingKind → Type 0
+IsWrong judged part None = (judged.asks ≡ is_some part.words.asked) × (judged.is_written ≡ true)
+IsWrong judged part (Some kind) =
+    ((kind ≡ Edition) × (judged.asks ≢ is_some part.words.asked)) ⊎ ((kind ≡ Entry) × (judged.asks ≡ is_some part.words.asked) × (judged.is_written ≡ false))
+
+-- the lane made an entry of an event, with which this is wrong beside a part, or nothing
+pub record Made {V E : Type 0} (rules : LaneRules V E) (before after : List E) (plant : PlantState) (stamp : Stamp) (event : ControlEvent) (part : EntryPart) (kind : Option FindingKind) : Type 0 where
+  pub judged : Judged
+  pub takes : Takes rules before after plant stamp event part judged
+  pub is : IsWrong judged part kind
 
 -- the journal has the entry of a part, and what waits and may be named follows it
 pub record Goes {V E : Type 0} (rules : LaneRules V E) (before after : List E) (part : EntryPart) (w : Waiting) (s : Named) : Type 0 where

@@ -1,16 +1,17 @@
 //! The entries of a lane in a text, each beside what the lane does.
-ghost use Rattle.std.specs.Prelude.{◌≡◌, ◌<◌, ◌+◌, ◌^◌, length, IfOk, OnOk, option_map};
+ghost use Rattle.std.specs.Prelude.{◌≡◌, ◌<◌, ◌+◌, ◌^◌, true, length, is_some, IfOk, OnOk, option_map};
 ghost use Rattle.journal_form.specs.Inner.Seen.{seen_routing, seen_part, seen_lane};
 ghost use Rattle.journal_form.specs.Parts.{lane_size};
 ghost use Rattle.journal_finding.specs.Entries.{journal_from};
 ghost use Rattle.lane_events.specs.declared.editions.TheConstants.{MANY_EDITIONS};
-ghost use Rattle.lane_audit.specs.Follows.{Awaits, Names, may_follow, named_by, Judges, found_of};
+ghost use Rattle.lane_audit.specs.Follows.{Awaits, Names, Made, may_follow, named_by, Judges, found_of};
 
 use crate::replay::Replay;
 use journal_finding::{Fault, FindingKind};
 use journal_form::{EntryForm, LaneForm, Routing};
 use lane_events::{Editions, LaneEvents};
-use relay_base::Memory;
+use plant_core::{ControlEvent, Plant};
+use relay_base::{Memory, Stamp};
 
 /// Whether the edition of a routing, where a line has one, may be named in a phase; it is then named.
 fn may_name(
@@ -29,6 +30,32 @@ fn may_name(
         None => Ok(true),
         Some(words) => editions.name(phase, words.edition),
     }
+}
+
+/// What is wrong with the entry that the lane makes of an event, beside the lines of one, or nothing.
+fn judge_made<R: Replay>(
+    lane: &mut R,
+    plant: &Plant,
+    stamp: Stamp,
+    event: &ControlEvent,
+    part: &EntryForm<'_>,
+) -> Result<Option<FindingKind>, Memory>
+    requires event { is_some ((R.rules lane.old).event event.now) ≡ true }
+    requires few { length (R.journal lane.old) < 4_294_967_295 }
+    ensures made { let before = R.journal lane.old in let after = R.journal lane.new in
+        let part = seen_part part.now in
+        IfOk result (Made (R.rules lane.old) before after plant.now stamp event.now part) }
+    ensures rules { OnOk result (R.rules lane.new ≡ R.rules lane.old) }
+    ensures head { OnOk result (R.head lane.new ≡ R.head lane.old) }
+{
+    let judged = lane.take(plant, stamp, event, part)?;
+    if judged.asks != part.words.asked.is_some() {
+        return Ok(Some(FindingKind::Edition));
+    }
+    if !judged.is_written {
+        return Ok(Some(FindingKind::Entry));
+    }
+    Ok(None)
 }
 
 /// What is wrong with an entry, or nothing, and then the lane took its event.
@@ -58,14 +85,7 @@ fn judge_entry<R: Replay>(
     if !may_name(editions, stamp.phase, &part.words.asked)? {
         return Ok(Some(FindingKind::Edition));
     }
-    let judged = lane.take(editions.plant(), stamp, event, part)?;
-    if judged.asks != part.words.asked.is_some() {
-        return Ok(Some(FindingKind::Edition));
-    }
-    if !judged.is_written {
-        return Ok(Some(FindingKind::Entry));
-    }
-    Ok(None)
+    judge_made(lane, editions.plant(), stamp, event, part)
 }
 
 /// The number of the line behind a lane.

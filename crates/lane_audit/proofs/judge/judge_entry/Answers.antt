@@ -1,9 +1,9 @@
-use Rattle.std.proofs.Common.{◌≡◌, sym, subst₂, arith, rules}
+use Rattle.std.proofs.Common.{◌≡◌, IfOk, sym, subst₂, arith, rules}
 use Rattle.journal_form.specs.Inner.Seen.{seen_part}
 use Rattle.lane_events.specs.Pending.{taken_in}
-use Rattle.lane_audit.specs.Follows.{Goes, named_by}
+use Rattle.lane_audit.specs.Follows.{Judges, named_by}
 use Rattle.lane_audit.proofs.EntryLemmas.{without_stamp}
-use Rattle.lane_audit.proofs.JudgeLemmas.{judged_late, judged_foreign, phase_there, judged_unnamed, judged_unasked, judged_unwritten, judged_so}
+use Rattle.lane_audit.proofs.JudgeLemmas.{judged_late, judged_foreign, phase_there, judged_unnamed, judged_made}
 use Rattle.lane_audit.proofs.judge.judge_entry.Goals as goal
 
 pub returns-in_default-clause-judges : goal.returns-in_default-clause-judges
@@ -21,23 +21,17 @@ pub returns-then-not-branch-clause-judges : goal.returns-then-not-branch-clause-
 returns-then-not-branch-clause-judges g c =
     judged_unnamed (g.R.Replay.rules c.args.lane.now) (g.R.Replay.journal c.args.lane.now) (seen_part c.args.part.now) c.args.events.now c.in-Some.stamp c.requires.awaits (search rules) c.in-Some-take.event.now (search rules) c.args.editions.now c.requires.names (search rules) (search rules)
 
-pub returns-then-judged-is_some-clause-judges : goal.returns-then-judged-is_some-clause-judges
-returns-then-judged-is_some-clause-judges g c =
-    judged_unasked (g.R.Replay.rules c.args.lane.now) (g.R.Replay.journal c.args.lane.now) (seen_part c.args.part.now) c.args.events.now c.in-Some.stamp c.requires.awaits (search rules) c.in-Some-take.event.now (search rules) c.args.editions.now c.requires.names
-    (g.R.Replay.journal c.take-2.new.self) c.plant.result.now c.in_ok-judged.judged c.in_ok-judged.ensures.taken (search rules) (search rules) (search rules) (search rules)
-
-pub returns-then-not-judged-clause-judges : goal.returns-then-not-judged-clause-judges
-returns-then-not-judged-clause-judges g c =
-    judged_unwritten (g.R.Replay.rules c.args.lane.now) (g.R.Replay.journal c.args.lane.now) (seen_part c.args.part.now) c.args.events.now c.in-Some.stamp c.requires.awaits (search rules) c.in-Some-take.event.now (search rules) c.args.editions.now c.requires.names
-    (g.R.Replay.journal c.take-2.new.self) c.plant.result.now c.in_ok-judged.judged c.in_ok-judged.ensures.taken (search rules) (search rules) (search rules) (search rules) (search rules)
-
 pub returns-clause-judges : goal.returns-clause-judges
 returns-clause-judges g c =
-    let goes = judged_so (g.R.Replay.rules c.args.lane.now) (g.R.Replay.journal c.args.lane.now) (seen_part c.args.part.now) c.args.events.now c.in-Some.stamp c.requires.awaits (search rules) c.in-Some-take.event.now (search rules) c.args.editions.now c.requires.names
-    (g.R.Replay.journal c.take-2.new.self) c.plant.result.now c.in_ok-judged.judged c.in_ok-judged.ensures.taken (search rules) (search rules) (search rules) (search rules) (search rules) in
+    let own = g.R.Replay.rules c.args.lane.now in
+    let journal = g.R.Replay.journal c.args.lane.now in
+    let after = g.R.Replay.journal c.judge_made.new.lane in
+    let part = seen_part c.args.part.now in
+    let made = judged_made own journal part c.args.events.now c.in-Some.stamp c.requires.awaits (search rules) c.in-Some-take.event.now (search rules) c.args.editions.now c.requires.names
+    after c.plant.result.now c.judge_made.result c.judge_made.ensures.made (search rules) (search rules) (search rules) in
     let waits : c.take.new.self ≡ taken_in c.args.events.now c.in-Some.stamp = search rules in
-    let named : c.may_name.new.editions ≡ named_by c.args.editions.now c.in-Some.stamp.phase (seen_part c.args.part.now).words.asked = search rules in
-    subst₂ (Goes (g.R.Replay.rules c.args.lane.now) (g.R.Replay.journal c.args.lane.now) (g.R.Replay.journal c.take-2.new.self) (seen_part c.args.part.now)) (sym waits) (sym named) goes
+    let named : c.may_name.new.editions ≡ named_by c.args.editions.now c.in-Some.stamp.phase part.words.asked = search rules in
+    subst₂ (λ w s. IfOk c.judge_made.result (Judges own journal after part w s)) (sym waits) (sym named) made
 
 pub may_name-requires-clause-phase : goal.may_name-requires-clause-phase
 may_name-requires-clause-phase g c =
