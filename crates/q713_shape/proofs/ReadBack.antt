@@ -13,7 +13,8 @@ use Rattle.relay_base.specs.declared.limits.TheConstants.{GREATEST_OCTET, LONGES
 use Rattle.q713_shape.proofs.Counting.{and-both}
 use Rattle.q713_shape.proofs.Pointing.{length-variables}
 use Rattle.q713_shape.proofs.Ranges.{in_range-lengths, in_range-options, in_range-pointers, list_all-append, length-number_octets, concat-map-append, length-pointer_octets, length-skips, length-option_skip, length-octets_of}
-use Rattle.q713_shape.proofs.Whole.{HasPointers, values_of-values}
+use Rattle.q713_shape.specs.Inner.Pointers.{HasPointers}
+use Rattle.q713_shape.proofs.Whole.{values_of-values}
 
 -- what stands at a place, and past it
 drop-past : (b xs ys : List ℕ) (i k : ℕ) → drop i b ≡ xs ++ ys → k ≡ i + length xs → drop k b ≡ ys

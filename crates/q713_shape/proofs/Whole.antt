@@ -1,10 +1,11 @@
 -- The values of a message, by what its parts are.
-use Rattle.std.proofs.Common.{◌≡◌, ℕ, ◌+◌, ◌*◌, ◌<◌, ◌≤◌, ◌==◌, true, false, List, length, take, drop, Ok, Err, refl, lt-ltb}
+use Rattle.std.proofs.Common.{◌≡◌, ℕ, ◌+◌, ◌*◌, ◌<◌, ◌==◌, true, false, List, length, take, drop, Ok, Err, refl, lt-ltb}
 use Rattle.std.specs.Prelude.{Option}
 use Rattle.std.proofs.lemmas.Bool.{le-ltb}
 use Rattle.relay_base.specs.declared.words.ReadFault.{ReadFault}
 use Rattle.relay_base.specs.declared.words.ReadFault.TheVariants.{Empty, Short}
 use Rattle.q713_shape.specs.Format.{Format, pointer_width, place_behind_pointers}
+use Rattle.q713_shape.specs.Inner.Pointers.{HasPointers}
 use Rattle.q713_shape.specs.Reading.{filled_variables, options_at, values_of}
 
 pub values_of-empty : (format : Format) (b : List ℕ) → (length b == 0) ≡ true → values_of format b ≡ Err Empty
@@ -14,11 +15,6 @@ values_of-empty format b e = rw e refl
 pub values_of-short : (format : Format) (b : List ℕ) → (length b == 0) ≡ false → length b < place_behind_pointers format → values_of format b ≡ Err Short
 unfolding values_of
 values_of-short format b e h = rw (e, lt-ltb (length b) (place_behind_pointers format) h) refl
-
--- a message with room for its pointers
-pub record HasPointers (format : Format) (b : List ℕ) : Type 0 where
-  pub some : (length b == 0) ≡ false
-  pub room : place_behind_pointers format ≤ length b
 
 pub values_of-variable_fault : (format : Format) (b : List ℕ) (place : ℕ) (fault : ReadFault) → HasPointers format b → place ≡ 1 + length format.fixed → filled_variables format.wide b place format.vars ≡ Err fault → values_of format b ≡ Err fault
 unfolding values_of

@@ -1,2 +1,3 @@
 pub mod Nameless
+pub mod Pointers
 pub mod Taking

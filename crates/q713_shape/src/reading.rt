@@ -5,6 +5,7 @@ ghost use Rattle.q713_shape.specs.Format.{pointer_width, pointer_count, option_c
 ghost use Rattle.q713_shape.specs.Reading.{number_at, value_at, variable_at, filled_variables, options_in, options_at, values_of};
 ghost use Rattle.q713_shape.specs.Rules.{names_of, has_few_names};
 ghost use Rattle.q713_shape.specs.Parts.{slices, optional_slices, format_of, values_seen};
+ghost use Rattle.q713_shape.specs.Inner.Pointers.{HasPointers};
 ghost use Rattle.q713_shape.specs.Inner.Taking.{taken_with};
 
 use crate::lengths::{is_option_len, pointer_octets, pointers_len};
@@ -172,17 +173,11 @@ fn optional_part<'a>(
 }
 
 impl<const F: usize, const V: usize> Shape<F, V> {
-    /// The parts of a message of this type, or its first fault (Q.713). A pointer's place counts from the type octet.
-    pub fn take_parts<'a>(&self, bytes: &'a [u8]) -> Result<Parts<'a, F, V>, ReadFault>
-        requires { 0 < length bytes.now → slice_index bytes.now 0 ≡ self.now.kind }
+    /// The parts of a message that has room for its pointers, or its first fault.
+    fn parts_in<'a>(&self, bytes: &'a [u8]) -> Result<Parts<'a, F, V>, ReadFault>
+        requires { HasPointers (format_of self.now) bytes.now }
         ensures { Gives values_seen result (values_of (format_of self.now) bytes.now) }
     {
-        if bytes.is_empty() {
-            return Err(ReadFault::Empty);
-        }
-        if bytes.len() < 1 + F + pointers_len(&self.vars, &self.options, self.wide) {
-            return Err(ReadFault::Short);
-        }
         let mut fixed = [0; F];
         fixed.copy_from_slice(&bytes[1..1 + F]);
         let place = 1 + F;
@@ -198,5 +193,19 @@ impl<const F: usize, const V: usize> Shape<F, V> {
             vars: found.values,
             options: optional.values,
         })
+    }
+
+    /// The parts of a message of this type, or its first fault (Q.713). A pointer's place counts from the type octet.
+    pub fn take_parts<'a>(&self, bytes: &'a [u8]) -> Result<Parts<'a, F, V>, ReadFault>
+        requires { 0 < length bytes.now → slice_index bytes.now 0 ≡ self.now.kind }
+        ensures { Gives values_seen result (values_of (format_of self.now) bytes.now) }
+    {
+        if bytes.is_empty() {
+            return Err(ReadFault::Empty);
+        }
+        if bytes.len() < 1 + F + pointers_len(&self.vars, &self.options, self.wide) {
+            return Err(ReadFault::Short);
+        }
+        self.parts_in(bytes)
     }
 }
