@@ -21,5 +21,5 @@ pub use leaving::octets_of;
 pub use returning::{refusal_output, return_outs};
 pub use segment::{Next, Segment};
 pub use unit::unit_outs;
-pub use unitdata::{Kind, UnitView, message_of, unit_of};
+pub use unitdata::{Kind, UnitView, unit_of, view_of};
 pub use user::{reference_after, user_outs};

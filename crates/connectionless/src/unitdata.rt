@@ -1,13 +1,12 @@
 //! The messages of the connectionless service (Q.713, 4.10, 4.11 and 4.18 to 4.21), as one view of their parameters.
-ghost use Rattle.std.specs.Prelude.{◌≡◌, IfOk};
+ghost use Rattle.std.specs.Prelude.{◌≡◌, IsTrue};
 ghost use Rattle.std.specs.Option.{option_map};
 ghost use Rattle.q713_codec.specs.Reading.{seen};
+ghost use Rattle.q713_codec.specs.Writing.{is_unit};
 ghost use Rattle.connectionless.specs.Unitdata.{unitdata_of, message_of};
 ghost use Rattle.connectionless.specs.Inner.Units.{seen_unit};
 
-use q713_codec::{Message, View};
-use relay_base::{Memory, Octets};
-use std::alloc::Global;
+use q713_codec::View;
 
 /// UDT and UDTS, XUDT and XUDTS, or LUDT and LUDTS.
 #[derive(Clone, Copy, PartialEq, Eq)]
@@ -83,30 +82,34 @@ pub fn unit_of<'a>(view: &View<'a>) -> Option<UnitView<'a>>
     })
 }
 
-/// The message that a unit or service message is.
+/// The message that a unit or service message is, with its octets where they lie.
 #[tactic(auto, unfolding(crate::specs::Unitdata::message_of))]
-pub fn message_of(alloc: Global, unit: &UnitView<'_>) -> Result<Message, Memory>
-    ensures { IfOk result (λ message. message ≡ message_of (seen_unit unit.now)) }
+pub fn view_of<'a>(unit: &UnitView<'a>) -> View<'a>
+    ensures value { seen result ≡ message_of (seen_unit unit.now) }
+    ensures unit { IsTrue (is_unit result) }
 {
-    let called = Octets::from_slice(alloc, unit.called)?;
-    let calling = Octets::from_slice(alloc, unit.calling)?;
-    let body = Octets::from_slice(alloc, unit.body)?;
+    let UnitView {
+        called,
+        calling,
+        body,
+        segmentation,
+        importance,
+        ..
+    } = *unit;
     let hop = unit.hop.unwrap_or(0);
-    let segmentation = unit.segmentation;
-    let importance = unit.importance;
-    macro_rules! message_from {
+    macro_rules! view_from {
         (
             { $($short:ident $short_kind:ident $short_is_service:literal $short_first:ident),* }
             { $($variant:ident $kind:ident $is_service:literal $first:ident),* }
         ) => {
             match (unit.kind, unit.is_service) {
-                $((Kind::$short_kind, $short_is_service) => Message::$short {
+                $((Kind::$short_kind, $short_is_service) => View::$short {
                     $short_first: unit.first,
                     called,
                     calling,
                     body,
                 },)*
-                $((Kind::$kind, $is_service) => Message::$variant {
+                $((Kind::$kind, $is_service) => View::$variant {
                     $first: unit.first,
                     hop,
                     called,
@@ -118,7 +121,7 @@ pub fn message_of(alloc: Global, unit: &UnitView<'_>) -> Result<Message, Memory>
             }
         };
     }
-    Ok(message_from! {
+    view_from! {
         { Udt Basic false class_octet, Udts Basic true cause }
         {
             Xudt Extended false class_octet,
@@ -126,5 +129,5 @@ pub fn message_of(alloc: Global, unit: &UnitView<'_>) -> Result<Message, Memory>
             Ludt Long false class_octet,
             Ludts Long true cause
         }
-    })
+    }
 }

@@ -1,7 +1,6 @@
 //! An LUDT or an LUDTS that goes on to a point which can't take it (Q.714, 4.1.1).
 ghost use Rattle.std.specs.Prelude.{◌≡◌, ◌≤◌, ◌++◌, ◌∷◌, [], false, Some, None, if◌then◌else◌, IfOk, OnOk, OnErr};
 ghost use Rattle.q713_codec.specs.Reading.{seen};
-ghost use Rattle.q713_codec.specs.Writing.{is_in_range, spelling_of};
 ghost use Rattle.connectionless.specs.Unitdata.{unitdata_of, class_of};
 ghost use Rattle.connectionless.specs.Leaving.{unit_octets};
 ghost use Rattle.connectionless.specs.Cutting.{can_be_cut, segment_outputs};
@@ -11,8 +10,8 @@ ghost use Rattle.connectionless.specs.Inner.Units.{seen_unit, seen_cut};
 ghost use Rattle.long_interwork.specs.Shortening.{extended, option_size, is_small, fits, is_entire, cutting, shortened, shortened_message, IsLongUnit, in_one, unit_shortened, service_shortened};
 
 use crate::forward::Forward;
-use connectionless::{CutUnit, Kind, UnitView, message_of, refusal_output, unit_of};
-use q713_codec::{LONGEST, Message, View, protocol_class, write};
+use connectionless::{CutUnit, Kind, UnitView, refusal_output, unit_of, view_of};
+use q713_codec::{LONGEST, View, protocol_class, write_unit};
 use relay_base::causes::RETURN_SEGMENTATION_FAILURE;
 use relay_base::limits::LONGEST_PARAMETER;
 use relay_base::{Lost, Memory, Octets, Output, Outs, Pc, Ref24, Sls};
@@ -40,17 +39,6 @@ fn is_small(unit: &UnitView<'_>) -> bool
     unit.body.len() <= LONGEST_PARAMETER && size <= LONGEST
 }
 
-/// The octets of a message that may be written.
-fn written(alloc: Global, message: &Message) -> Result<Option<Octets>, Memory>
-    ensures { let octets = if is_in_range message.now then Some (spelling_of message.now) else None
-        in IfOk result (λ x. x ≡ octets) }
-{
-    if !message.in_range() {
-        return Ok(None);
-    }
-    Ok(Some(write(alloc, message)?))
-}
-
 /// The octets of an XUDT or an XUDTS without segmentation, where one message holds it.
 fn fitting_octets(alloc: Global, unit: &UnitView<'_>) -> Result<Option<Octets>, Memory>
     ensures { let octets = if fits (seen_unit unit.now) then Some (unit_octets (seen_unit unit.now)) else None
@@ -59,8 +47,7 @@ fn fitting_octets(alloc: Global, unit: &UnitView<'_>) -> Result<Option<Octets>, 
     if !is_small(unit) {
         return Ok(None);
     }
-    let message = message_of(alloc, unit)?;
-    written(alloc, &message)
+    write_unit(alloc, &view_of(unit), None)
 }
 
 /// Whether it is no part of a longer message: it has no segmentation, or that of a first segment behind which none remains (Q.713, 3.17).

@@ -15,7 +15,7 @@ use relay_base::{Octets, Ref24};
 pub fn cr_written<'a>(
     slr: Ref24,
     class_octet: u8,
-    called: &'a Octets,
+    called: &'a [u8],
     credit: &'a Option<u8>,
     calling: &'a Option<Octets>,
     body: &'a Option<Octets>,
@@ -29,7 +29,7 @@ pub fn cr_written<'a>(
     Written::of(
         &cr_shape(),
         FixedPart::new().with_reference(slr).with(&[class_octet]),
-        [called.as_slice(), &[], &[]],
+        [called, &[], &[]],
         [
             octet(credit),
             octets(calling),
@@ -122,19 +122,19 @@ pub fn rlc_written(dlr: Ref24, slr: Ref24) -> Written<'static>
 }
 
 /// A message of the type data form 1 (06).
-pub fn dt1_written<'a>(dlr: Ref24, segmenting: u8, body: &'a Octets) -> Written<'a>
+pub fn dt1_written<'a>(dlr: Ref24, segmenting: u8, body: &'a [u8]) -> Written<'a>
     ensures { IsWritten result (Dt1 dlr segmenting body.now) }
 {
     Written::of(
         &dt1_shape(),
         FixedPart::new().with_reference(dlr).with(&[segmenting]),
-        [body.as_slice(), &[], &[]],
+        [body, &[], &[]],
         [None, None, None, None, None],
     )
 }
 
 /// A message of the type data form 2 (07).
-pub fn dt2_written<'a>(dlr: Ref24, sequencing: [u8; 2], body: &'a Octets) -> Written<'a>
+pub fn dt2_written<'a>(dlr: Ref24, sequencing: [u8; 2], body: &'a [u8]) -> Written<'a>
     ensures { IsWritten result (Dt2 dlr sequencing body.now) }
 {
     Written::of(
@@ -142,7 +142,7 @@ pub fn dt2_written<'a>(dlr: Ref24, sequencing: [u8; 2], body: &'a Octets) -> Wri
         FixedPart::new()
             .with_reference(dlr)
             .with(&[sequencing[0], sequencing[1]]),
-        [body.as_slice(), &[], &[]],
+        [body, &[], &[]],
         [None, None, None, None, None],
     )
 }
@@ -164,16 +164,16 @@ pub fn ak_written(dlr: Ref24, receive: u8, credit: u8) -> Written<'static>
 /// A message of the type unitdata (09).
 pub fn udt_written<'a>(
     class_octet: u8,
-    called: &'a Octets,
-    calling: &'a Octets,
-    body: &'a Octets,
+    called: &'a [u8],
+    calling: &'a [u8],
+    body: &'a [u8],
 ) -> Written<'a>
     ensures { IsWritten result (Udt class_octet called.now calling.now body.now) }
 {
     Written::of(
         &udt_shape(),
         FixedPart::new().with(&[class_octet]),
-        [called.as_slice(), calling.as_slice(), body.as_slice()],
+        [called, calling, body],
         [None, None, None, None, None],
     )
 }
@@ -181,28 +181,28 @@ pub fn udt_written<'a>(
 /// A message of the type unitdata service (0A).
 pub fn udts_written<'a>(
     cause: u8,
-    called: &'a Octets,
-    calling: &'a Octets,
-    body: &'a Octets,
+    called: &'a [u8],
+    calling: &'a [u8],
+    body: &'a [u8],
 ) -> Written<'a>
     ensures { IsWritten result (Udts cause called.now calling.now body.now) }
 {
     Written::of(
         &udts_shape(),
         FixedPart::new().with(&[cause]),
-        [called.as_slice(), calling.as_slice(), body.as_slice()],
+        [called, calling, body],
         [None, None, None, None, None],
     )
 }
 
 /// A message of the type expedited data (0B).
-pub fn ed_written<'a>(dlr: Ref24, body: &'a Octets) -> Written<'a>
+pub fn ed_written<'a>(dlr: Ref24, body: &'a [u8]) -> Written<'a>
     ensures { IsWritten result (Ed dlr body.now) }
 {
     Written::of(
         &ed_shape(),
         FixedPart::new().with_reference(dlr),
-        [body.as_slice(), &[], &[]],
+        [body, &[], &[]],
         [None, None, None, None, None],
     )
 }
@@ -283,9 +283,9 @@ pub fn it_written(
 pub fn xudt_written<'a>(
     class_octet: u8,
     hop: u8,
-    called: &'a Octets,
-    calling: &'a Octets,
-    body: &'a Octets,
+    called: &'a [u8],
+    calling: &'a [u8],
+    body: &'a [u8],
     segmentation: &'a Option<[u8; 4]>,
     importance: &'a Option<u8>,
 ) -> Written<'a>
@@ -296,7 +296,7 @@ pub fn xudt_written<'a>(
     Written::of(
         &xudt_shape(),
         FixedPart::new().with(&[class_octet, hop]),
-        [called.as_slice(), calling.as_slice(), body.as_slice()],
+        [called, calling, body],
         [four(segmentation), octet(importance), None, None, None],
     )
 }
@@ -305,9 +305,9 @@ pub fn xudt_written<'a>(
 pub fn xudts_written<'a>(
     cause: u8,
     hop: u8,
-    called: &'a Octets,
-    calling: &'a Octets,
-    body: &'a Octets,
+    called: &'a [u8],
+    calling: &'a [u8],
+    body: &'a [u8],
     segmentation: &'a Option<[u8; 4]>,
     importance: &'a Option<u8>,
 ) -> Written<'a>
@@ -318,7 +318,7 @@ pub fn xudts_written<'a>(
     Written::of(
         &xudts_shape(),
         FixedPart::new().with(&[cause, hop]),
-        [called.as_slice(), calling.as_slice(), body.as_slice()],
+        [called, calling, body],
         [four(segmentation), octet(importance), None, None, None],
     )
 }
@@ -327,9 +327,9 @@ pub fn xudts_written<'a>(
 pub fn ludt_written<'a>(
     class_octet: u8,
     hop: u8,
-    called: &'a Octets,
-    calling: &'a Octets,
-    body: &'a Octets,
+    called: &'a [u8],
+    calling: &'a [u8],
+    body: &'a [u8],
     segmentation: &'a Option<[u8; 4]>,
     importance: &'a Option<u8>,
 ) -> Written<'a>
@@ -340,7 +340,7 @@ pub fn ludt_written<'a>(
     Written::of(
         &ludt_shape(),
         FixedPart::new().with(&[class_octet, hop]),
-        [called.as_slice(), calling.as_slice(), body.as_slice()],
+        [called, calling, body],
         [four(segmentation), octet(importance), None, None, None],
     )
 }
@@ -349,9 +349,9 @@ pub fn ludt_written<'a>(
 pub fn ludts_written<'a>(
     cause: u8,
     hop: u8,
-    called: &'a Octets,
-    calling: &'a Octets,
-    body: &'a Octets,
+    called: &'a [u8],
+    calling: &'a [u8],
+    body: &'a [u8],
     segmentation: &'a Option<[u8; 4]>,
     importance: &'a Option<u8>,
 ) -> Written<'a>
@@ -362,7 +362,7 @@ pub fn ludts_written<'a>(
     Written::of(
         &ludts_shape(),
         FixedPart::new().with(&[cause, hop]),
-        [called.as_slice(), calling.as_slice(), body.as_slice()],
+        [called, calling, body],
         [four(segmentation), octet(importance), None, None, None],
     )
 }
