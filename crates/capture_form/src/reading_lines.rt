@@ -1,5 +1,5 @@
 //! How lines are read: one after the other, or in threads.
-ghost use Rattle.std.specs.Prelude.{◌≡◌, ◌<◌, ◌≤◌, ◌*◌, ◌+◌, ◌^◌, length, IfOk};
+ghost use Rattle.std.specs.Prelude.{◌≡◌, ◌<◌, ◌≤◌, ◌+◌, ◌^◌, length, IfOk};
 ghost use Rattle.std.specs.List.{AllByRecursion};
 ghost use Rattle.std.specs.Thread.{IsSync};
 ghost use Rattle.capture_form.specs.Capture.{Reads};
@@ -20,8 +20,8 @@ use std::alloc::Global;
 use std::thread::Threads;
 use std::{mem, thread};
 
-/// The most blocks that lines are read in, each in a thread of its own.
-const MOST_BLOCKS: usize = 8;
+/// The most blocks that lines are read in, each in a thread of its own: with the one that takes what lines say they are eight.
+const MOST_BLOCKS: usize = 7;
 
 /// The fewest lines of a block, but for the last one.
 const LEAST_BLOCK: usize = 1_024;
@@ -66,47 +66,33 @@ pub trait LineReader {
 }
 
 /// Reads lines one after the other, and takes what each says.
-#[tactic(auto, unfolding(crate::specs::Inner::Reader::all_taken))]
-fn read_in_turn(
-    alloc: Global,
-    head: &Head,
-    first: u32,
-    mut lines: Lines<'_>,
-) -> Result<Reading, CaptureFault>
-    requires few { first + length lines < 2 ^ 32 }
-    ensures { Reads result (lines_taken head.now (nothing_read head.now) (numbered first lines.entry)) }
-{
-    let mut read = nothing_read(alloc, head)?;
-    let mut number = first;
-    let mut words = Vec::new(alloc);
-    while let Some(line) = next_stated(&mut number, &mut lines) {
-        let said = read_line(alloc, head, &line, &mut words)?;
-        take_line(alloc, head, &mut read, said)?;
-    }
-    Ok(read)
-}
-
-/// Reads lines one after the other.
 pub struct InTurn;
 
 impl LineReader for InTurn {
     ghost can_read = { λ _. Unit {0} };
 
+    #[tactic(auto, unfolding(crate::specs::Inner::Reader::all_taken))]
     fn read(
         &self,
         alloc: Global,
         head: &Head,
         first: u32,
-        lines: Lines<'_>,
+        mut lines: Lines<'_>,
     ) -> Result<Reading, CaptureFault> {
-        read_in_turn(alloc, head, first, lines)
+        let mut read = nothing_read(alloc, head)?;
+        let mut number = first;
+        let mut words = Vec::new(alloc);
+        while let Some(line) = next_stated(&mut number, &mut lines) {
+            let said = read_line(alloc, head, &line, &mut words)?;
+            take_line(alloc, head, &mut read, said)?;
+        }
+        Ok(read)
     }
 }
 
 /// How many lines a block has of so many.
 fn block_size(lines: usize) -> usize
     ensures least { LEAST_BLOCK ≤ result }
-    ensures few { lines ≤ MOST_BLOCKS * result }
 {
     lines.div_ceil(MOST_BLOCKS).max(LEAST_BLOCK)
 }
@@ -125,24 +111,33 @@ fn read_block(alloc: Global, head: &Head, lines: &[StatedLine<'_>]) -> Block
     Ok(reads)
 }
 
-/// What lines say, in blocks, each of which is read in a thread of its own where one can be made.
+/// What lines say, in blocks of so many, each of which is read in a thread of its own where one can be made. This thread makes the others and waits: a thread
+/// that it made may be kept waiting behind it for some milliseconds while it works.
+#[cycle(blocks)]
 fn read_blocks<R: Threads + Sync>(
     rt: &R,
     alloc: Global,
     head: &Head,
     lines: &[StatedLine<'_>],
+    size: usize,
 ) -> Result<Vec<Block>, Memory>
+    requires { 0 < size }
     ensures { IfOk result (λ blocks. SayLines head.now lines.now blocks.items) }
 {
-    let blocks = thread::map_chunks(
-        rt,
-        alloc,
-        lines,
-        block_size(lines.len()),
-        &|_: usize, block: &[StatedLine<'_>]| -> Block
-            ensures { IfOk result (λ reads. AreRead head.entry.now block.now reads.items) }
-        { read_block(alloc, head, block) },
-    )?;
+    if lines.is_empty() {
+        return Ok(Vec::new(alloc));
+    }
+    let (block, rest) = lines.split_at(size.min(lines.len()));
+    let front = move || -> Block
+        ensures { IfOk result (λ reads. AreRead head.entry.now block.entry.now reads.items) }
+    { read_block(alloc, head, block) };
+    let back = move || -> Result<Vec<Block>, Memory>
+        requires { IsSync R.row × (0 < size) }
+        ensures { IfOk result (λ blocks. SayLines head.entry.now rest.entry.now blocks.items) }
+    { read_blocks(rt, alloc, head, rest, size) };
+    let (first, others) = thread::join(rt, front, back);
+    let mut blocks = others?;
+    blocks.insert(0, first)?;
     Ok(blocks)
 }
 
@@ -210,15 +205,10 @@ fn step_beside<'a, R: Threads + Sync>(
     ensures next { IfOk result (λ t. Follows progress.entry t.0) }
     ensures says { IfOk result (λ t. SayLines head.now next.now t.1.items) }
 {
-    if blocks.is_empty() {
-        let progress = step(alloc, head, progress, blocks)?;
-        let said = read_blocks(rt, alloc, head, next)?;
-        return Ok((progress, said));
-    }
     let reading = move || -> Result<Vec<Block>, Memory>
         requires { IsSync R.row }
         ensures { IfOk result (λ said. SayLines head.entry.now next.entry.now said.items) }
-    { read_blocks(rt, alloc, head, next) };
+    { read_blocks(rt, alloc, head, next, block_size(next.len())) };
     let stepping = move || -> Result<Progress<'_>, CaptureFault>
         requires { (length progress.read.current ≡ head.now.links + 1)
             × AllByRecursion (IsBlockWithin head.now.links) blocks.items
@@ -226,42 +216,11 @@ fn step_beside<'a, R: Threads + Sync>(
         ensures { StepReads result (blocks_taken head.entry.now progress.entry.read blocks.items)
             × IfOk result (Follows progress.entry) }
     { step(alloc, head, progress, blocks) };
-    let (said, progress) = thread::join(rt, reading, stepping);
+    let (progress, said) = thread::join(rt, stepping, reading);
     Ok((progress?, said?))
 }
 
 /// Reads lines in threads, a window of them while what those of the one before say is taken, and the one behind is filled.
-fn read_in_threads<R: Threads + Sync>(
-    rt: &R,
-    alloc: Global,
-    head: &Head,
-    first: u32,
-    mut lines: Lines<'_>,
-) -> Result<Reading, CaptureFault>
-    requires few { first + length lines < 2 ^ 32 }
-    ensures { Reads result (lines_taken head.now (nothing_read head.now) (numbered first lines.entry)) }
-{
-    let mut number = first;
-    let mut window = Vec::new(alloc);
-    fill(&mut window, &mut number, &mut lines)?;
-    let mut progress = Progress {
-        read: nothing_read(alloc, head)?,
-        window: Vec::new(alloc),
-        number,
-        lines,
-    };
-    let mut blocks = Vec::new(alloc);
-    loop {
-        if window.is_empty() {
-            let Progress { read, .. } = progress;
-            return taken_blocks(alloc, head, read, blocks);
-        }
-        (progress, blocks) = step_beside(rt, alloc, head, progress, blocks, window.as_slice())?;
-        mem::swap(&mut progress.window, &mut window);
-    }
-}
-
-/// Reads lines in threads.
 #[derive(Drop)]
 pub struct InThreads<'r, R: Threads + Sync> {
     rt: &'r R,
@@ -281,8 +240,32 @@ impl<'r, R: Threads + Sync> LineReader for InThreads<'r, R> {
         alloc: Global,
         head: &Head,
         first: u32,
-        lines: Lines<'_>,
+        mut lines: Lines<'_>,
     ) -> Result<Reading, CaptureFault> {
-        read_in_threads(self.rt, alloc, head, first, lines)
+        let mut number = first;
+        let mut window = Vec::new(alloc);
+        fill(&mut window, &mut number, &mut lines)?;
+        let mut progress = Progress {
+            read: nothing_read(alloc, head)?,
+            window: Vec::new(alloc),
+            number,
+            lines,
+        };
+        let mut blocks = Vec::new(alloc);
+        loop {
+            if window.is_empty() {
+                let Progress { read, .. } = progress;
+                return taken_blocks(alloc, head, read, blocks);
+            }
+            (progress, blocks) = step_beside(
+                self.rt,
+                alloc,
+                head,
+                progress,
+                blocks,
+                window.as_slice(),
+            )?;
+            mem::swap(&mut progress.window, &mut window);
+        }
     }
 }

@@ -8,7 +8,7 @@ use Rattle.capture_form.specs.declared.reading.Reading.{Reading}
 use Rattle.capture_form.specs.declared.stated.StatedLine.{StatedLine}
 use Rattle.capture_form.proofs.ReadLemmas.{window-taken, window-refused}
 use Rattle.capture_form.proofs.BlockLemmas.{refused-by, say-nothing, window-said}
-use Rattle.capture_form.proofs.reading_lines.read_in_threads.Goals as goal
+use Rattle.capture_form.proofs.reading_lines.InThreadsLineReader.read.Goals as goal
 
 pub loop-progress-init : goal.loop-progress-init
 loop-progress-init g c =

@@ -1,7 +1,7 @@
 use Rattle.std.proofs.Common.{◌≡◌, ◌+◌, ◌<◌, ◌^◌, length}
 use Rattle.capture_form.specs.Inner.Stated.{numbered}
 use Rattle.capture_form.specs.Inner.Reader.{lines_taken, nothing_read}
-use Rattle.capture_form.proofs.reading_lines.read_in_turn.Given as goal
+use Rattle.capture_form.proofs.reading_lines.InTurnLineReader.read.Given as goal
 
 -- what was taken so far, and what the lines to come make of it
 abbrev pub invariant-loop-line : goal.invariant-loop-line

@@ -2,7 +2,7 @@ use Rattle.std.proofs.Common.{◌≡◌, ◌++◌, ◌+◌, ◌<◌, ◌^◌, []
 use Rattle.capture_form.specs.Inner.Stated.{numbered, seen_lines}
 use Rattle.capture_form.specs.Inner.Blocks.{SayLines}
 use Rattle.capture_form.specs.Inner.Reader.{lines_taken, nothing_read}
-use Rattle.capture_form.proofs.reading_lines.read_in_threads.Given as goal
+use Rattle.capture_form.proofs.reading_lines.InThreadsLineReader.read.Given as goal
 
 -- what was taken so far, and what the lines of which it is known what they say, those of the window and those to come make of it
 abbrev pub invariant-loop-progress : goal.invariant-loop-progress

@@ -2,7 +2,7 @@ use Rattle.std.proofs.Common.{ap, ◌∙◌, arith, rules}
 use Rattle.capture_form.specs.Capture.{fault_in}
 use Rattle.capture_form.specs.Inner.Reader.{lines_taken}
 use Rattle.capture_form.proofs.ReadLemmas.{line-done, line-refused, read-within}
-use Rattle.capture_form.proofs.reading_lines.read_in_turn.Goals as goal
+use Rattle.capture_form.proofs.reading_lines.InTurnLineReader.read.Goals as goal
 
 pub take_line-requires-clause-within : goal.take_line-requires-clause-within
 take_line-requires-clause-within c = read-within c.args.head.now _ c.in_ok-said.said c.in_ok-said.ensures
