@@ -1,8 +1,10 @@
 -- What is taken of the blocks of lines, one after the other, is what is taken of the lines.
-use Rattle.std.proofs.Common.{◌≡◌, ◌++◌, List, [], ◌∷◌, Ok, Err, IfOk, refl, sym, ap, ◌∙◌, subst}
+use Rattle.std.proofs.Common.{◌≡◌, ℕ, ◌++◌, List, [], ◌∷◌, Ok, Err, IfOk, take, drop, refl, sym, ap, ◌∙◌, subst, take-append-drop}
 use Rattle.std.proofs.lemmas.List.{map-append}
 use Rattle.std.specs.declared.result.Result.{Result}
 use Rattle.std.specs.List.{AllByRecursion}
+use Rattle.block_threads.specs.Blocks.{OfBlocks}
+use Rattle.block_threads.proofs.BlockLemmas.{blocks-first, blocks-end}
 use Rattle.relay_base.specs.Giving.{◌>>=◌, RefusesOrMemory}
 use Rattle.node_head.specs.declared.head.Head.{Head}
 use Rattle.capture_form.specs.Capture.{Reads, fault_in}
@@ -34,8 +36,12 @@ block-taken : (head : Head) (block rest ls : List StatedLine) (r : Reading) → 
 block-taken head block rest ls r parted =
     ap (λ xs. lines_taken head r (seen_lines xs)) parted ∙ ap (lines_taken head r) (map-append seen_line block rest) ∙ lines-append head (seen_lines block) (seen_lines rest) r
 
+-- a block says what these lines say, unless memory ran out
+abbrev pub SaysBlock : Head → List StatedLine → Block → Type 0
+SaysBlock head ls block = IfOk block (λ reads. AreRead head ls reads.items)
+
 -- a block says what the first lines say, and others what those behind them say
-pub say-more : (head : Head) (block rest ls : List StatedLine) (first : Block) (more : List Block) → ls ≡ block ++ rest → IfOk first (λ reads. AreRead head block reads.items) → SayLines head rest more
+pub say-more : (head : Head) (block rest ls : List StatedLine) (first : Block) (more : List Block) → ls ≡ block ++ rest → SaysBlock head block first → SayLines head rest more
     → SayLines head ls (first ∷ more)
 unfolding blocks_taken
 say-more head block rest ls (Err memory) more parted said says = record { within = (tt, says.within); taken = λ r. tt }
@@ -67,3 +73,10 @@ say-nothing head window blocks none empty = subst (SayLines head window) (sym em
 pub window-said : (head : Head) (r s : Reading) (window : List StatedLine) (blocks : List Block) → SayLines head window blocks → blocks_taken head r blocks ≡ Ok s
     → lines_taken head r (seen_lines window) ≡ Ok s
 window-said head r s window blocks says done = subst (λ m. Reads m (lines_taken head r (seen_lines window))) done (says.taken r)
+
+-- blocks that say what those of the lines say, say what the lines say
+pub say-blocks : (head : Head) (size : ℕ) (ls : List StatedLine) (blocks : List Block) → OfBlocks (SaysBlock head) size ls blocks → SayLines head ls blocks
+say-blocks head size ls [] all = say-nothing head ls [] (blocks-end (SaysBlock head) size ls all) refl
+say-blocks head size ls (first ∷ more) all =
+    let parts = blocks-first (SaysBlock head) size ls first more all in
+    say-more head (take size ls) (drop size ls) ls first more (sym (take-append-drop size ls)) parts.0 (say-blocks head size (drop size ls) more parts.1)

@@ -13,6 +13,7 @@ use crate::line_read::{LineRead, read_line};
 use crate::reading::Reading;
 use crate::stated::{StatedLine, fill, next_stated};
 use crate::steps::{nothing_read, take_line, take_reads};
+use block_threads::map_blocks;
 use bstr::Lines;
 use node_head::Head;
 use relay_base::{Memory, take_spare};
@@ -111,33 +112,24 @@ fn read_block(alloc: Global, head: &Head, lines: &[StatedLine<'_>]) -> Block
     Ok(reads)
 }
 
-/// What lines say, in blocks of so many, each of which is read in a thread of its own where one can be made. This thread makes the others and waits: a thread
-/// that it made may be kept waiting behind it for some milliseconds while it works.
-#[cycle(blocks)]
+/// What lines say, in blocks, each of which is read in a thread of its own where one can be made.
 fn read_blocks<R: Threads + Sync>(
     rt: &R,
     alloc: Global,
     head: &Head,
     lines: &[StatedLine<'_>],
-    size: usize,
 ) -> Result<Vec<Block>, Memory>
-    requires { 0 < size }
     ensures { IfOk result (λ blocks. SayLines head.now lines.now blocks.items) }
 {
-    if lines.is_empty() {
-        return Ok(Vec::new(alloc));
-    }
-    let (block, rest) = lines.split_at(size.min(lines.len()));
-    let front = move || -> Block
-        ensures { IfOk result (λ reads. AreRead head.entry.now block.entry.now reads.items) }
-    { read_block(alloc, head, block) };
-    let back = move || -> Result<Vec<Block>, Memory>
-        requires { IsSync R.row × (0 < size) }
-        ensures { IfOk result (λ blocks. SayLines head.entry.now rest.entry.now blocks.items) }
-    { read_blocks(rt, alloc, head, rest, size) };
-    let (first, others) = thread::join(rt, front, back);
-    let mut blocks = others?;
-    blocks.insert(0, first)?;
+    let blocks = map_blocks(
+        rt,
+        alloc,
+        lines,
+        block_size(lines.len()),
+        &|block: &[StatedLine<'_>]| -> Block
+            ensures { IfOk result (λ reads. AreRead head.entry.now block.now reads.items) }
+        { read_block(alloc, head, block) },
+    )?;
     Ok(blocks)
 }
 
@@ -208,7 +200,7 @@ fn step_beside<'a, R: Threads + Sync>(
     let reading = move || -> Result<Vec<Block>, Memory>
         requires { IsSync R.row }
         ensures { IfOk result (λ said. SayLines head.entry.now next.entry.now said.items) }
-    { read_blocks(rt, alloc, head, next, block_size(next.len())) };
+    { read_blocks(rt, alloc, head, next) };
     let stepping = move || -> Result<Progress<'_>, CaptureFault>
         requires { (length progress.read.current ≡ head.now.links + 1)
             × AllByRecursion (IsBlockWithin head.now.links) blocks.items

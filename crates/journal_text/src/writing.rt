@@ -10,10 +10,10 @@ ghost use Rattle.journal_text.specs.Inner.Writing.{Writes, CarriesTo, Joins, wit
 use crate::book::Book;
 use crate::entries::{Printed, print_entries, put_entries, put_lane};
 use crate::text::Text;
+use block_threads::map_blocks;
 use plant_core::EntryList;
 use relay_base::{Failed, Memory, Sink, write_all};
 use std::alloc::{AllocError, Global};
-use std::thread;
 use std::thread::Threads;
 
 /// How many octets wait in memory before they are written.
@@ -23,7 +23,7 @@ const LONG: usize = 65_536;
 const WINDOW: usize = 32_768;
 
 /// Into how many blocks they are cut at most.
-const BLOCKS: usize = 8;
+const BLOCKS: usize = 4;
 
 /// How many entries are too few to be cut into blocks.
 const FEW: usize = 256;
@@ -104,12 +104,14 @@ fn write_blocks<R: Threads + Sync, K: Sink, P: Printed + Sync>(
     ensures { CarriesTo K.held K.faults out.old out.new (flat_map P.print entries.now) [] result }
 {
     let size = entries.len().div_ceil(BLOCKS).max(FEW);
-    let prints = thread::map_chunks(
+    let prints = map_blocks(
         rt,
         alloc,
         entries,
         size,
-        &|_, block| print_entries(alloc, block),
+        &|block: &[P]| -> Result<Text, AllocError>
+            ensures { IfOk result (λ text. text ≡ flat_map P.print block.now) }
+        { print_entries(alloc, block) },
     )?;
     for print in prints {
         write_block(out, print)?;
