@@ -16,6 +16,28 @@ use std::snapshot::Snapshot;
 use std::sync::atomic::AtomicUsize;
 
 impl<L: LaneState> Gate<L> {
+    // A gate round the lane, and one seat for all callers. Without memory the lane is let go.
+    fn open(alloc: Global, lane: L, callers: u8) -> Result<(Gate<L>, Place<L>), Memory>
+        requires callers { (0 < callers) × (callers ≤ MOST_CALLERS) }
+        requires fresh { (link : ℕ) → L.taken lane link ≡ 0 }
+        ensures origin { IfOk result (λ made. origin_of made.0 ≡ lane) }
+        ensures callers { IfOk result (λ made. callers_of made.0 ≡ callers) }
+        ensures seat { IfOk result (λ made. let shared = made.0.table.shared in
+            (made.1.table_id ≡ shared.table_id) × (made.1.me ≡ (whole_view shared.key, []))) }
+    {
+        let opening = Opening {
+            lane: Snapshot::of(&lane),
+            callers,
+        };
+        let mut slots = Vec::with_capacity(alloc, 1)?;
+        slots.push_reserved(Some(lane));
+        let Ok((table, seat)) = Table::new(alloc, &[0], slots, &opening) else {
+            return Err(Memory);
+        };
+        let sleeping = AtomicUsize::new(0);
+        Ok((Gate { table, sleeping }, seat))
+    }
+
     /// A gate round the lane, and a pass for each of 1 to 9 callers. The passes are numbered from 0, as the links of the lane's plan. Only want of memory refuses it, and the lane is then let go.
     pub fn make(alloc: Global, lane: L, callers: u8) -> Result<(Gate<L>, PassList), Memory>
         requires callers { (0 < callers) × (callers ≤ MOST_CALLERS) }
@@ -26,20 +48,8 @@ impl<L: LaneState> Gate<L> {
             AreAllPasses made.0 made.1 × AreNumbered callers made.1) }
         ensures unused { IfOk result (λ made. All (λ p. done_of p ≡ 0) made.1) }
     {
-        let opening = Opening {
-            lane: Snapshot::of(&lane),
-            callers,
-        };
         let mut passes = Vec::with_capacity(alloc, usize::from(callers))?;
-        let mut slots = Vec::with_capacity(alloc, 1)?;
-        slots.push_reserved(Some(lane));
-        let Ok((table, seat)) = Table::new(alloc, &[0], slots, &opening) else {
-            return Err(Memory);
-        };
-        let gate = Gate {
-            table,
-            sleeping: AtomicUsize::new(0),
-        };
+        let (gate, seat) = Gate::open(alloc, lane, callers)?;
         gate.hand_out(seat, callers, &mut passes);
         Ok((gate, PassList::from(passes)))
     }

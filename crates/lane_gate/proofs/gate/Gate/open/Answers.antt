@@ -3,7 +3,7 @@ use Rattle.atomic_table.specs.Table.{opening}
 use Rattle.lane_gate.specs.declared.table.Opening.{Opening}
 use Rattle.lane_gate.specs.Inner.Rule.{IsKept, whole_view}
 use Rattle.lane_gate.proofs.TurnKeeps.{opens}
-use Rattle.lane_gate.proofs.gate.Gate.make.Goals as goal
+use Rattle.lane_gate.proofs.gate.Gate.open.Goals as goal
 
 pub new-requires : goal.new-requires
 new-requires g c = let plan = g.L.LaneState.plan in let taken = g.L.LaneState.taken in let key : Opening g.row.L.Denot = record { lane = c.of.result; callers = c.args.callers } in
