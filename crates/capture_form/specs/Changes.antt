@@ -49,14 +49,18 @@ row_of own selector digits lead more = do
   second ← second_of own more
   Ok (record { selector = selector; prefix = prefix; first = first; second = second })
 
+-- the row of these words is added
+unfoldable pub with_row : ℕ → List ℕ → List ℕ → List ℕ → List ℕ → List ℕ → List ℕ → List (List ℕ) → Result Change LineKind
+with_row own gti type plan nature digits lead more = do
+  selector ← selector_of gti type plan nature
+  row ← row_of own selector digits lead more
+  Ok (AddRow row)
+
 -- add <gti> <tt> <np> <nai> <digits> <first> [<second>]
 abbrev pub add_form : ℕ → List (List ℕ) → Result Change LineKind
 add_form own (gti ∷ type ∷ plan ∷ nature ∷ digits ∷ lead ∷ more) =
     if nat_lt 1 (length more) then Err Words
-    else (do
-      selector ← selector_of gti type plan nature
-      row ← row_of own selector digits lead more
-      Ok (AddRow row))
+    else with_row own gti type plan nature digits lead more
 add_form own _ = Err Words
 
 -- the row with the selector and the prefix of these words is taken away

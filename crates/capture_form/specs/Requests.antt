@@ -32,20 +32,34 @@ conn_of tag class credit called body = do
   octets ← body_of LONGEST_DATA body
   Ok (request.Conn name number granted to octets)
 
--- the form of a request, by its first word
-abbrev pub form_of : List ℕ → Option RequestForm
-form_of word =
-    if same word (codes "unit") then Some form.Unit
-    else if same word (codes "conn") then Some form.Conn
-    else if same word (codes "accept") then Some form.Accept
+-- what ends a connection: its reference, a cause and data
+abbrev pub ending_of : List (List ℕ) → Result (ℕ × ℕ × List ℕ) LineKind
+ending_of (reference ∷ cause ∷ body ∷ []) = do
+  mine ← below REFERENCES reference
+  number ← below OCTET_VALUES cause
+  octets ← body_of LONGEST_DATA body
+  Ok (mine, number, octets)
+ending_of _ = Err Words
+
+-- the form of a request that names a connection, by its first word
+abbrev pub naming_form : List ℕ → Option RequestForm
+naming_form word =
+    if same word (codes "accept") then Some form.Accept
     else if same word (codes "refuse") then Some form.Refuse
     else if same word (codes "send") then Some form.Send
     else if same word (codes "ed") then Some form.Expedite
     else if same word (codes "reset") then Some form.Reset
     else if same word (codes "disc") then Some form.Disc
+    else None
+
+-- the form of a request, by its first word
+abbrev pub form_of : List ℕ → Option RequestForm
+form_of word =
+    if same word (codes "unit") then Some form.Unit
+    else if same word (codes "conn") then Some form.Conn
     else if same word (codes "coord") then Some form.Coord
     else if same word (codes "grant") then Some form.Grant
-    else None
+    else naming_form word
 
 -- the six words after `unit`, of which the third says whether return on error is asked
 abbrev pub is_unit : List (List ℕ) → Bool
@@ -79,11 +93,9 @@ request_of form.Accept (reference ∷ class ∷ credit ∷ body ∷ []) = do
   octets ← body_of LONGEST_DATA body
   Ok (request.Accept mine number granted octets)
 -- refuse <ref> <cause> <hex>
-request_of form.Refuse (reference ∷ cause ∷ body ∷ []) = do
-  mine ← below REFERENCES reference
-  number ← below OCTET_VALUES cause
-  octets ← body_of LONGEST_DATA body
-  Ok (request.Refuse mine number octets)
+request_of form.Refuse words = do
+  asked ← ending_of words
+  Ok (request.Refuse asked.0 asked.1 asked.2)
 -- send <ref> <hex>
 request_of form.Send (reference ∷ body ∷ []) = do
   mine ← below REFERENCES reference
@@ -99,11 +111,9 @@ request_of form.Reset (reference ∷ []) = do
   mine ← below REFERENCES reference
   Ok (request.Reset mine)
 -- disc <ref> <cause> <hex>
-request_of form.Disc (reference ∷ cause ∷ body ∷ []) = do
-  mine ← below REFERENCES reference
-  number ← below OCTET_VALUES cause
-  octets ← body_of LONGEST_DATA body
-  Ok (request.Disc mine number octets)
+request_of form.Disc words = do
+  asked ← ending_of words
+  Ok (request.Disc asked.0 asked.1 asked.2)
 -- coord
 request_of form.Coord [] = Ok request.Coord
 -- grant <point>

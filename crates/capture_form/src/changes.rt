@@ -4,7 +4,7 @@ ghost use Rattle.plant_core.specs.Changes.{alone};
 ghost use Rattle.capture_form.specs.Groups.{with_change};
 ghost use Rattle.capture_form.specs.Inner.Words.{texts, States};
 ghost use Rattle.capture_form.specs.Line.{change_form};
-ghost use Rattle.capture_form.specs.Changes.{indicator_of, carried, selector_of, second_of, row_of, add_form, without_row, del_form, row_form, status_form, service_form, change_of};
+ghost use Rattle.capture_form.specs.Changes.{indicator_of, carried, selector_of, second_of, row_of, with_row, add_form, without_row, del_form, row_form, status_form, service_form, change_of};
 
 use crate::fault::LineKind;
 use crate::refused::LineRefused;
@@ -85,15 +85,33 @@ fn row_of(
     })
 }
 
+/// The row of these words, of which there is one or none for the second place, is added.
+#[tactic(auto, unfolding(crate::specs::Changes::with_row))]
+fn with_row(
+    own: Pc,
+    gti: &[u8],
+    tt: &[u8],
+    np: &[u8],
+    nai: &[u8],
+    digits: &[u8],
+    first: &[u8],
+    more: &[&[u8]],
+) -> Result<Change, LineKind>
+    ensures { let more = texts more.now
+        in result ≡ with_row own gti.now tt.now np.now nai.now digits.now first.now more }
+{
+    let selector = selector(gti, tt, np, nai)?;
+    let row = row_of(own, selector, digits, first, more)?;
+    Ok(Change::AddRow(row))
+}
+
 /// `e add <gti> <tt> <np> <nai> <digits> <first> [<second>]`, of which the words after `add`.
 fn add_form(own: Pc, words: &[&[u8]]) -> Result<Change, LineKind>
     ensures { result ≡ add_form own (texts words.now) }
 {
     match words {
         [gti, tt, np, nai, digits, first, more @ ..] if more.len() < 2 => {
-            let selector = selector(gti, tt, np, nai)?;
-            let row = row_of(own, selector, digits, first, more)?;
-            Ok(Change::AddRow(row))
+            with_row(own, gti, tt, np, nai, digits, first, more)
         }
         _ => Err(LineKind::Words),
     }

@@ -1,16 +1,16 @@
 //! What a user asks for in the words of a request.
 ghost use Rattle.std.specs.Prelude.{◌≡◌};
 ghost use Rattle.capture_form.specs.Inner.Words.{texts, States};
-ghost use Rattle.capture_form.specs.Requests.{unit_of, conn_of, is_unit, form_of, has_form, request_of};
+ghost use Rattle.capture_form.specs.Requests.{unit_of, conn_of, ending_of, is_unit, naming_form, form_of, has_form, request_of};
 
 use crate::fault::LineKind;
 use crate::refused::LineRefused;
 use crate::words::{asks_return, below, body, boxed_body, called, calling, class, is_return, text};
-use relay_base::Request;
 use relay_base::limits::{
     CREDITS, LINK_SELECTIONS, LONGEST_DATA, LONGEST_EXPEDITED, LONGEST_GIVEN_UNIT, LONGEST_TEXT,
     OCTET_VALUES, POINT_CODES, REFERENCES,
 };
+use relay_base::{Octets, Ref24, Request};
 use std::alloc::Global;
 
 /// What asks for a unit.
@@ -105,9 +105,9 @@ fn accept_asked(alloc: Global, words: &[&[u8]]) -> Result<Request, LineRefused>
     })
 }
 
-/// `refuse <ref> <cause> <hex>`
-fn refuse_asked(alloc: Global, words: &[&[u8]]) -> Result<Request, LineRefused>
-    ensures { States result (request_of RequestForm.Refuse (texts words.now)) }
+/// What ends a connection, `<ref> <cause> <hex>`: its reference, a cause and data.
+fn ending_of(alloc: Global, words: &[&[u8]]) -> Result<(Ref24, u8, Octets), LineRefused>
+    ensures { States result (ending_of (texts words.now)) }
 {
     let [reference, cause, hex] = words else {
         return Err(LineRefused::Kind(LineKind::Words));
@@ -115,6 +115,14 @@ fn refuse_asked(alloc: Global, words: &[&[u8]]) -> Result<Request, LineRefused>
     let mine = below::<REFERENCES>(reference)?;
     let cause = below::<OCTET_VALUES>(cause)?.number() as u8;
     let body = body(alloc, LONGEST_DATA, hex)?;
+    Ok((mine, cause, body))
+}
+
+/// `refuse <ref> <cause> <hex>`
+fn refuse_asked(alloc: Global, words: &[&[u8]]) -> Result<Request, LineRefused>
+    ensures { States result (request_of RequestForm.Refuse (texts words.now)) }
+{
+    let (mine, cause, body) = ending_of(alloc, words)?;
     Ok(Request::Refuse { mine, cause, body })
 }
 
@@ -157,12 +165,7 @@ fn reset_asked(words: &[&[u8]]) -> Result<Request, LineRefused>
 fn disc_asked(alloc: Global, words: &[&[u8]]) -> Result<Request, LineRefused>
     ensures { States result (request_of RequestForm.Disc (texts words.now)) }
 {
-    let [reference, cause, hex] = words else {
-        return Err(LineRefused::Kind(LineKind::Words));
-    };
-    let mine = below::<REFERENCES>(reference)?;
-    let cause = below::<OCTET_VALUES>(cause)?.number() as u8;
-    let body = body(alloc, LONGEST_DATA, hex)?;
+    let (mine, cause, body) = ending_of(alloc, words)?;
     Ok(Request::Disc { mine, cause, body })
 }
 
@@ -211,6 +214,21 @@ pub enum RequestForm {
 }
 
 impl RequestForm {
+    /// The form of a request that names a connection, by its first word.
+    fn of_naming(word: &[u8]) -> Option<RequestForm>
+        ensures { result ≡ naming_form word.now }
+    {
+        match word {
+            b"accept" => Some(RequestForm::Accept),
+            b"refuse" => Some(RequestForm::Refuse),
+            b"send" => Some(RequestForm::Send),
+            b"ed" => Some(RequestForm::Expedite),
+            b"reset" => Some(RequestForm::Reset),
+            b"disc" => Some(RequestForm::Disc),
+            _ => None,
+        }
+    }
+
     /// The form of a request by its first word.
     pub fn of(word: &[u8]) -> Option<RequestForm>
         ensures { result ≡ form_of word.now }
@@ -218,15 +236,9 @@ impl RequestForm {
         match word {
             b"unit" => Some(RequestForm::Unit),
             b"conn" => Some(RequestForm::Conn),
-            b"accept" => Some(RequestForm::Accept),
-            b"refuse" => Some(RequestForm::Refuse),
-            b"send" => Some(RequestForm::Send),
-            b"ed" => Some(RequestForm::Expedite),
-            b"reset" => Some(RequestForm::Reset),
-            b"disc" => Some(RequestForm::Disc),
             b"coord" => Some(RequestForm::Coord),
             b"grant" => Some(RequestForm::Grant),
-            _ => None,
+            _ => RequestForm::of_naming(word),
         }
     }
 

@@ -14,7 +14,7 @@ use Rattle.sccp_address.specs.Titles.{title_at}
 use Rattle.node_head.proofs.Given.{after_any, by_test}
 use Rattle.capture_form.specs.Text.{hex_of}
 use Rattle.capture_form.specs.Words.{number_below, below, class_in, class_of, called_of, octets_of, body_of, text_of}
-use Rattle.capture_form.specs.Requests.{conn_of, request_of}
+use Rattle.capture_form.specs.Requests.{conn_of, ending_of, request_of}
 use Rattle.capture_form.specs.declared.requests.RequestForm.{RequestForm}
 use Rattle.capture_form.specs.declared.requests.RequestForm.TheVariants as form
 use Rattle.capture_form.specs.declared.fault.LineKind.TheVariants.{Number, Size}
@@ -92,6 +92,13 @@ conn_askable tag class credit body =
     bound (IsBody LONGEST_DATA) Askable (body_of LONGEST_DATA body) _ (is_body LONGEST_DATA body) (λ octets d.
     subst (λ to. Askable (request.Conn name number granted to octets)) (sym t) (title_askable name number granted octets c g d))))))
 
+is_ending : (ws : List (List ℕ)) → IfOk (ending_of ws) (λ t. IsBody LONGEST_DATA t.2)
+is_ending (reference ∷ cause ∷ body ∷ []) =
+    after_any (λ t. IsBody LONGEST_DATA t.2) (below REFERENCES reference) _ (λ mine.
+    after_any (λ t. IsBody LONGEST_DATA t.2) (below OCTET_VALUES cause) _ (λ number.
+    bound (IsBody LONGEST_DATA) (λ t. IsBody LONGEST_DATA t.2) (body_of LONGEST_DATA body) _ (is_body LONGEST_DATA body) (λ octets d. d)))
+is_ending _ = tt
+
 -- words of another number ask for nothing
 form_askable : (f : RequestForm) (ws : List (List ℕ)) → on_connection (Some f) ≡ Some f → IfOk (request_of f (whole f ws)) Askable
 form_askable form.Conn (tag ∷ class ∷ credit ∷ body ∷ []) on = conn_askable tag class credit body
@@ -100,10 +107,7 @@ form_askable form.Accept (reference ∷ class ∷ credit ∷ body ∷ []) on =
     bound IsClass Askable (class_of class) _ (is_class class) (λ number c.
     bound IsCredit Askable (below CREDITS credit) _ (is_credit credit) (λ granted g.
     bound (IsBody LONGEST_DATA) Askable (body_of LONGEST_DATA body) _ (is_body LONGEST_DATA body) (λ octets d. both_true (both_true c g) d))))
-form_askable form.Refuse (reference ∷ cause ∷ body ∷ []) on =
-    after_any Askable (below REFERENCES reference) _ (λ mine.
-    after_any Askable (below OCTET_VALUES cause) _ (λ number.
-    bound (IsBody LONGEST_DATA) Askable (body_of LONGEST_DATA body) _ (is_body LONGEST_DATA body) (λ octets d. d)))
+form_askable form.Refuse ws on = bound (λ t. IsBody LONGEST_DATA t.2) Askable (ending_of ws) _ (is_ending ws) (λ t d. d)
 form_askable form.Send (reference ∷ body ∷ []) on =
     after_any Askable (below REFERENCES reference) _ (λ mine.
     bound (IsText LONGEST_TEXT) Askable (text_of LONGEST_TEXT body) _ (is_text LONGEST_TEXT body) (λ octets d. d))
@@ -111,10 +115,7 @@ form_askable form.Expedite (reference ∷ body ∷ []) on =
     after_any Askable (below REFERENCES reference) _ (λ mine.
     bound (IsText LONGEST_EXPEDITED) Askable (text_of LONGEST_EXPEDITED body) _ (is_text LONGEST_EXPEDITED body) (λ octets d. d))
 form_askable form.Reset (reference ∷ []) on = after_any Askable (below REFERENCES reference) _ (λ mine. refl)
-form_askable form.Disc (reference ∷ cause ∷ body ∷ []) on =
-    after_any Askable (below REFERENCES reference) _ (λ mine.
-    after_any Askable (below OCTET_VALUES cause) _ (λ number.
-    bound (IsBody LONGEST_DATA) Askable (body_of LONGEST_DATA body) _ (is_body LONGEST_DATA body) (λ octets d. d)))
+form_askable form.Disc ws on = bound (λ t. IsBody LONGEST_DATA t.2) Askable (ending_of ws) _ (is_ending ws) (λ t d. d)
 form_askable form.Unit ws on = absurd (cc)
 form_askable form.Coord ws on = absurd (cc)
 form_askable form.Grant ws on = absurd (cc)

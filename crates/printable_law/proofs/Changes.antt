@@ -11,7 +11,7 @@ use Rattle.node_head.specs.Entity.{number_below, optional_subsystem, parted, lea
 use Rattle.node_head.specs.Keys.{same}
 use Rattle.node_head.specs.declared.head.Head.{Head}
 use Rattle.std.proofs.lemmas.Bool.{ltb-true}
-use Rattle.capture_form.specs.Changes.{selector_of, second_of, row_of, add_form, del_form, row_form, status_form, service_form, change_of}
+use Rattle.capture_form.specs.Changes.{selector_of, second_of, row_of, with_row, add_form, del_form, row_form, status_form, service_form, change_of}
 use Rattle.capture_form.specs.Words.{prefix_of, lead_of, other_point_of, user_of}
 use Rattle.capture_form.specs.declared.fault.LineKind.TheVariants.{Words, Entity as NoEntity}
 use Rattle.printable_law.specs.OctetLaw.{IsOctet}
@@ -77,6 +77,7 @@ row-in own selector digits lead more =
     bound (λ e. IfSome e EntityInRange) RowInRange (second_of own more) _ (second-in own more) (λ second s. (f, s))))
 
 add-in : (own : ℕ) (words : List (List ℕ)) → IfOk (add_form own words) ChangeInRange
+unfolding with_row
 add-in own (gti ∷ type ∷ plan ∷ nature ∷ digits ∷ lead ∷ more) =
     either (λ r. IfOk r ChangeInRange) (nat_lt 1 (length more)) (Err Words) _ tt
     (after_any ChangeInRange (selector_of gti type plan nature) _ (λ selector.

@@ -5,7 +5,7 @@ use Rattle.relay_base.proofs.GivingLemmas.{bound}
 use Rattle.relay_base.specs.declared.limits.TheConstants.{CREDITS, LINK_SELECTIONS, LONGEST_DATA, LONGEST_EXPEDITED, LONGEST_GIVEN_UNIT, LONGEST_TEXT, OCTET_VALUES, POINT_CODES, REFERENCES}
 use Rattle.capture_form.specs.declared.requests.RequestForm.{RequestForm}
 use Rattle.capture_form.specs.declared.requests.RequestForm.TheVariants as form
-use Rattle.capture_form.specs.Requests.{unit_of, conn_of, request_of}
+use Rattle.capture_form.specs.Requests.{unit_of, conn_of, ending_of, request_of}
 use Rattle.capture_form.specs.Words.{below, class_of, called_of, calling_of, body_of, text_of}
 use Rattle.printable_law.specs.OctetLaw.{IsOctet, AreOctets}
 use Rattle.printable_law.specs.Ranges.{IsPoint, IsSelection, IsReference, IsTag, RequestInRange}
@@ -34,11 +34,16 @@ accept-in reference class credit body =
     bound (λ n. n < CREDITS) RequestInRange (below CREDITS credit) _ (below-in CREDITS credit) (λ granted g.
     bound AreOctets RequestInRange (body_of LONGEST_DATA body) _ (body-in LONGEST_DATA body) (λ octets are. (m, c, omega (arith, g), are)))))
 
-refuse-in : (reference cause body : List ℕ) → IfOk (request_of form.Refuse (reference ∷ cause ∷ body ∷ [])) RequestInRange
-refuse-in reference cause body =
-    bound IsReference RequestInRange (below REFERENCES reference) _ (below-in REFERENCES reference) (λ mine m.
-    bound IsOctet RequestInRange (below OCTET_VALUES cause) _ (below-in OCTET_VALUES cause) (λ number c.
-    bound AreOctets RequestInRange (body_of LONGEST_DATA body) _ (body-in LONGEST_DATA body) (λ octets are. (m, c, are))))
+-- what ends a connection has its ranges
+abbrev EndingInRange : ℕ × ℕ × List ℕ → Type 0
+EndingInRange ending = IsReference ending.0 × IsOctet ending.1 × AreOctets ending.2
+
+ending-in : (words : List (List ℕ)) → IfOk (ending_of words) EndingInRange
+ending-in (reference ∷ cause ∷ body ∷ []) =
+    bound IsReference EndingInRange (below REFERENCES reference) _ (below-in REFERENCES reference) (λ mine m.
+    bound IsOctet EndingInRange (below OCTET_VALUES cause) _ (below-in OCTET_VALUES cause) (λ number c.
+    bound AreOctets EndingInRange (body_of LONGEST_DATA body) _ (body-in LONGEST_DATA body) (λ octets are. (m, c, are))))
+ending-in _ = tt
 
 send-in : (reference body : List ℕ) → IfOk (request_of form.Send (reference ∷ body ∷ [])) RequestInRange
 send-in reference body =
@@ -53,21 +58,15 @@ expedite-in reference body =
 reset-in : (reference : List ℕ) → IfOk (request_of form.Reset (reference ∷ [])) RequestInRange
 reset-in reference = bound IsReference RequestInRange (below REFERENCES reference) _ (below-in REFERENCES reference) (λ mine m. m)
 
-disc-in : (reference cause body : List ℕ) → IfOk (request_of form.Disc (reference ∷ cause ∷ body ∷ [])) RequestInRange
-disc-in reference cause body =
-    bound IsReference RequestInRange (below REFERENCES reference) _ (below-in REFERENCES reference) (λ mine m.
-    bound IsOctet RequestInRange (below OCTET_VALUES cause) _ (below-in OCTET_VALUES cause) (λ number c.
-    bound AreOctets RequestInRange (body_of LONGEST_DATA body) _ (body-in LONGEST_DATA body) (λ octets are. (m, c, are))))
-
 pub request-in : (f : RequestForm) (more : List (List ℕ)) → IfOk (request_of f more) RequestInRange
 request-in form.Unit (sls ∷ class ∷ ret ∷ called ∷ calling ∷ body ∷ []) = unit-in sls class ret called calling body
 request-in form.Conn (tag ∷ class ∷ credit ∷ called ∷ body ∷ []) = conn-in tag class credit called body
 request-in form.Accept (reference ∷ class ∷ credit ∷ body ∷ []) = accept-in reference class credit body
-request-in form.Refuse (reference ∷ cause ∷ body ∷ []) = refuse-in reference cause body
+request-in form.Refuse words = bound EndingInRange RequestInRange (ending_of words) _ (ending-in words) (λ ending in_range. in_range)
 request-in form.Send (reference ∷ body ∷ []) = send-in reference body
 request-in form.Expedite (reference ∷ body ∷ []) = expedite-in reference body
 request-in form.Reset (reference ∷ []) = reset-in reference
-request-in form.Disc (reference ∷ cause ∷ body ∷ []) = disc-in reference cause body
+request-in form.Disc words = bound EndingInRange RequestInRange (ending_of words) _ (ending-in words) (λ ending in_range. in_range)
 request-in form.Coord [] = tt
 request-in form.Grant (point ∷ []) = bound IsPoint RequestInRange (below POINT_CODES point) _ (below-in POINT_CODES point) (λ to t. t)
 request-in _ _ = tt

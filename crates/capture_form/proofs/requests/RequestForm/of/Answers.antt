@@ -9,24 +9,6 @@ returns-in-unit c = ap form_of (sym (text_from_reads c.args.word.now (codes "uni
 pub returns-in-conn : goal.returns-in-conn
 returns-in-conn c = ap form_of (sym (text_from_reads c.args.word.now (codes "conn") (search rules) (search rules)))
 
-pub returns-in-accept : goal.returns-in-accept
-returns-in-accept c = ap form_of (sym (text_from_reads c.args.word.now (codes "accept") (search rules) (search rules)))
-
-pub returns-in-refuse : goal.returns-in-refuse
-returns-in-refuse c = ap form_of (sym (text_from_reads c.args.word.now (codes "refuse") (search rules) (search rules)))
-
-pub returns-in-send : goal.returns-in-send
-returns-in-send c = ap form_of (sym (text_from_reads c.args.word.now (codes "send") (search rules) (search rules)))
-
-pub returns-in-ed : goal.returns-in-ed
-returns-in-ed c = ap form_of (sym (text_from_reads c.args.word.now (codes "ed") (search rules) (search rules)))
-
-pub returns-in-reset : goal.returns-in-reset
-returns-in-reset c = ap form_of (sym (text_from_reads c.args.word.now (codes "reset") (search rules) (search rules)))
-
-pub returns-in-disc : goal.returns-in-disc
-returns-in-disc c = ap form_of (sym (text_from_reads c.args.word.now (codes "disc") (search rules) (search rules)))
-
 pub returns-in-coord : goal.returns-in-coord
 returns-in-coord c = ap form_of (sym (text_from_reads c.args.word.now (codes "coord") (search rules) (search rules)))
 
