@@ -1,5 +1,5 @@
 -- What comes of a part, by what waits, what may be named and what the lane makes of the event.
-use Rattle.std.proofs.Common.{◌≡◌, ◌≤◌, Bool, true, false, true≢false, List, length, map, Option, Some, None, option_and_then, is_some, Result, Ok, Err, IfOk, inl, inr, if◌then◌else◌, ap, sym, subst, ◌∙◌, refl, arith}
+use Rattle.std.proofs.Common.{◌≡◌, ◌≤◌, Bool, true, false, true≢false, List, length, map, Option, Some, None, option_and_then, is_some, Result, Ok, Err, IfOk, IfNone, inl, inr, if◌then◌else◌, ap, sym, subst, ◌∙◌, refl, arith}
 use Rattle.std.proofs.lemmas.List.{length-map}
 use Rattle.relay_base.specs.Decimal.{digits_value}
 use Rattle.relay_base.specs.declared.errors.Memory.{Memory}
@@ -17,7 +17,7 @@ use Rattle.journal_finding.specs.Entries.{LaneRules, event_next, if_written, ent
 use Rattle.lane_events.specs.Pending.{Waiting, next_in, taken_in}
 use Rattle.lane_events.specs.Editions.{Named, routing_at, may_be_next}
 use Rattle.lane_audit.specs.declared.replay.Judged.{Judged}
-use Rattle.lane_audit.specs.Follows.{Awaits, Names, Takes, Made, Goes, Judges, may_follow, named_by}
+use Rattle.lane_audit.specs.Follows.{Awaits, Names, Comes, Takes, Made, Goes, Judges, may_follow, named_by}
 use Rattle.lane_audit.proofs.EntryLemmas.{next_is, without_event, by_routing, routed_wrong, routed_other, routed_so}
 use Rattle.lane_audit.proofs.WaitLemmas.{names_more, waits_more, phase_within}
 
@@ -29,6 +29,11 @@ some-there : {A : Type 0} (x : Option A) → is_some x ≡ true → (y : A) × (
 some-there None h = absurd (true≢false (sym h))
 some-there (Some x) h = (x, refl)
 
+-- what holds, holds where there is nothing
+pub if-none : {A : Type 0} (x : Option A) (P : Type 0) → P → IfNone x P
+if-none None P p = p
+if-none (Some x) P p = tt
+
 -- naming an edition leaves the routing data of each
 same-routing : (s : Named) (phase : _) (words : Option RoutingWords) (n : _) → routing_at (named_by s phase words) n ≡ routing_at s n
 same-routing s phase None n = refl
@@ -38,30 +43,34 @@ same-routing s phase (Some words) n = by (may_be_next s phase (digits_value word
     by true = refl
     by false = refl
 
-module _ {V E : Type 0} (rules : LaneRules V E) (journal : List E) (part : EntryPart) (w : Waiting) (stamp : Stamp) (awaits : Awaits rules journal w) (is : stamp_of part.words ≡ Some stamp) where
-  -- another event is the next one, or none
-  pub judged_late : next_in w stamp ≡ None → entry_of rules journal part ≡ Err Order
-  judged_late next = without_event rules journal part stamp is (next_is rules journal w stamp awaits ∙ ap (option_and_then rules.event) next)
-
-  module _ (event : ControlEvent) (next : next_in w stamp ≡ Some event) where
-    event-is : event_next rules journal stamp ≡ rules.event event
-    event-is = next_is rules journal w stamp awaits ∙ ap (option_and_then rules.event) next
+module _ {V E : Type 0} (rules : LaneRules V E) (journal : List E) (part : EntryPart) (w : Waiting) (stamp : Stamp) (awaits : Awaits rules journal w) where
+  module _ (is : stamp_of part.words ≡ Some stamp) where
+    -- another event is the next one, or none
+    pub judged_late : next_in w stamp ≡ None → entry_of rules journal part ≡ Err Order
+    judged_late next = without_event rules journal part stamp is (next_is rules journal w stamp awaits ∙ ap (option_and_then rules.event) next)
 
     -- the lane takes no such event
-    pub judged_foreign : is_some (rules.event event) ≡ false → entry_of rules journal part ≡ Err Order
-    judged_foreign none = without_event rules journal part stamp is (event-is ∙ none-there (rules.event event) none)
+    pub judged_foreign : (event : ControlEvent) → next_in w stamp ≡ Some event → is_some (rules.event event) ≡ false → entry_of rules journal part ≡ Err Order
+    judged_foreign event next none = without_event rules journal part stamp is (next_is rules journal w stamp awaits ∙ ap (option_and_then rules.event) next ∙ none-there (rules.event event) none)
+
+  module _ (event : ControlEvent) (comes : Comes rules part w stamp event) where
+    is : stamp_of part.words ≡ Some stamp
+    is = comes.stamped
+
+    event-is : event_next rules journal stamp ≡ rules.event event
+    event-is = next_is rules journal w stamp awaits ∙ ap (option_and_then rules.event) comes.next
 
     -- the phase is one of the lane's
     pub phase_there : stamp.phase ≤ length rules.events
     phase_there =
         let same : length w.phases ≡ length rules.events = sym (length-map w.phases (map (λ p. p.events))) ∙ ap (λ (es : List (List Stamped)). length es) awaits.events in
-        omega (arith, same, phase_within w stamp event next)
+        omega (arith, same, phase_within w stamp event comes.next)
 
     module _ (s : Named) (names : Names rules journal s) where
       -- the edition may not be named
-      pub judged_unnamed : is_some (rules.event event) ≡ true → may_follow s stamp.phase part.words.asked ≡ false → entry_of rules journal part ≡ Err Edition
-      judged_unnamed some bad =
-          let own = some-there (rules.event event) some in
+      pub judged_unnamed : may_follow s stamp.phase part.words.asked ≡ false → entry_of rules journal part ≡ Err Edition
+      judged_unnamed bad =
+          let own = some-there (rules.event event) comes.taken in
           by_routing rules journal part stamp own.0 (Err Edition) is (event-is ∙ own.1) (routed_wrong rules journal s stamp.phase names phase_there (rules.question own.0) part.words.asked bad)
 
       module _ (after : List E) (plant : PlantState) (judged : Judged) (takes : Takes rules journal after plant stamp event part judged) (may : may_follow s stamp.phase part.words.asked ≡ true)
@@ -96,7 +105,7 @@ module _ {V E : Type 0} (rules : LaneRules V E) (journal : List E) (part : Entry
                 entry = takes.entry;
                 is = whole ∙ ap (λ b. if b then Ok takes.entry else Err Entry) (sym takes.written ∙ lines);
                 journal = takes.journal;
-                awaits = subst (λ j. Awaits rules j (taken_in w stamp)) (sym takes.journal) (waits_more rules journal takes.entry w stamp event awaits takes.stamped next);
+                awaits = subst (λ j. Awaits rules j (taken_in w stamp)) (sym takes.journal) (waits_more rules journal takes.entry w stamp event awaits takes.stamped comes.next);
                 names = subst (λ j. Names rules j (named_by s stamp.phase part.words.asked)) (sym takes.journal) (names_more rules journal takes.entry s stamp.phase part.words.asked (rules.question takes.own) plant.routing names may asks asked);
               }
 

@@ -7,11 +7,12 @@ use Rattle.plant_core.specs.Asking.{asked_at}
 use Rattle.plant_core.specs.Plant.{PlantState}
 use Rattle.plant_core.specs.declared.entry.ControlEvent.{ControlEvent}
 use Rattle.journal_form.specs.Parts.{EntryPart}
+use Rattle.journal_form.specs.Stamps.{stamp_of}
 use Rattle.journal_finding.specs.declared.finding.Fault.{Fault}
 use Rattle.journal_finding.specs.declared.finding.FindingKind.{FindingKind}
 use Rattle.journal_finding.specs.declared.finding.FindingKind.TheVariants.{Edition, Entry}
 use Rattle.journal_finding.specs.Entries.{LaneRules, taken_at, is_phase_reached, editions_of, is_written, entry_of}
-use Rattle.lane_events.specs.Pending.{Waiting, none_pending, links_in}
+use Rattle.lane_events.specs.Pending.{Waiting, none_pending, links_in, next_in}
 use Rattle.lane_events.specs.declared.editions.TheConstants.{MANY_EDITIONS}
 use Rattle.lane_events.specs.Editions.{Named, routing_at, before_phase, may_be_next, named_next}
 use Rattle.relay_base.specs.Decimal.{digits_value}
@@ -42,6 +43,12 @@ may_follow s phase (Some words) = may_be_next s phase (digits_value words.editio
 abbrev pub named_by : Named → ℕ → Option RoutingWords → Named
 named_by s phase None = s
 named_by s phase (Some words) = named_next s phase (digits_value words.edition)
+
+-- a part is of an event with this stamp, which waits to be taken next, and the lane takes it
+pub record Comes {V E : Type 0} (rules : LaneRules V E) (part : EntryPart) (w : Waiting) (stamp : Stamp) (event : ControlEvent) : Type 0 where
+  pub stamped : stamp_of part.words ≡ Some stamp
+  pub next : next_in w stamp ≡ Some event
+  pub taken : is_some (rules.event event) ≡ true
 
 -- the lane took an event at the edition of a plant: the journal has its entry, and this is known of the entry beside the lines of a part
 pub record Takes {V E : Type 0} (rules : LaneRules V E) (before after : List E) (plant : PlantState) (stamp : Stamp) (event : ControlEvent) (part : EntryPart) (judged : Judged) : Type 0 where

@@ -1,10 +1,11 @@
 //! The entries of a lane in a text, each beside what the lane does.
-ghost use Rattle.std.specs.Prelude.{◌≡◌, ◌<◌, ◌+◌, ◌^◌, true, length, is_some, IfOk, OnOk, option_map};
+ghost use Rattle.std.specs.Prelude.{◌≡◌, ◌<◌, ◌+◌, ◌^◌, true, length, is_some, Err, IfOk, IfSome, IfNone, OnOk, option_map};
 ghost use Rattle.journal_form.specs.Inner.Seen.{seen_routing, seen_part, seen_lane};
 ghost use Rattle.journal_form.specs.Parts.{lane_size};
-ghost use Rattle.journal_finding.specs.Entries.{journal_from};
+ghost use Rattle.journal_finding.specs.Entries.{entry_of, journal_from};
+ghost use Rattle.lane_events.specs.Pending.{taken_in};
 ghost use Rattle.lane_events.specs.declared.editions.TheConstants.{MANY_EDITIONS};
-ghost use Rattle.lane_audit.specs.Follows.{Awaits, Names, Made, may_follow, named_by, Judges, found_of};
+ghost use Rattle.lane_audit.specs.Follows.{Awaits, Names, Comes, Made, may_follow, named_by, Judges, found_of};
 
 use crate::replay::Replay;
 use journal_finding::{Fault, FindingKind};
@@ -58,6 +59,28 @@ fn judge_made<R: Replay>(
     Ok(None)
 }
 
+/// The event of an entry, with its stamp, where it comes next in the lane; it is then taken.
+fn next_event<'e, R: Replay>(
+    lane: &R,
+    events: &mut LaneEvents<'e>,
+    part: &EntryForm<'_>,
+) -> Option<(Stamp, &'e ControlEvent)>
+    requires awaits { Awaits (R.rules lane.now) (R.journal lane.now) events.old }
+    ensures comes { let part = seen_part part.now in
+        IfSome result (λ t. Comes (R.rules lane.now) part events.old t.0 t.1.now) }
+    ensures taken { IfSome result (λ t. events.new ≡ taken_in events.old t.0) }
+    ensures late { let entry = entry_of (R.rules lane.now) (R.journal lane.now) (seen_part part.now) in
+        IfNone result (entry ≡ Err FindingKind.Order) }
+{
+    let stamp = part.words.stamp()?;
+    let event = events.take(stamp)?;
+    if lane.takes(event) {
+        Some((stamp, event))
+    } else {
+        None
+    }
+}
+
 /// What is wrong with an entry, or nothing, and then the lane took its event.
 fn judge_entry<R: Replay>(
     lane: &mut R,
@@ -73,15 +96,9 @@ fn judge_entry<R: Replay>(
     ensures rules { OnOk result (R.rules lane.new ≡ R.rules lane.old) }
     ensures head { OnOk result (R.head lane.new ≡ R.head lane.old) }
 {
-    let Some(stamp) = part.words.stamp() else {
+    let Some((stamp, event)) = next_event(lane, events, part) else {
         return Ok(Some(FindingKind::Order));
     };
-    let Some(event) = events.take(stamp) else {
-        return Ok(Some(FindingKind::Order));
-    };
-    if !lane.takes(event) {
-        return Ok(Some(FindingKind::Order));
-    }
     if !may_name(editions, stamp.phase, &part.words.asked)? {
         return Ok(Some(FindingKind::Edition));
     }
