@@ -21,7 +21,7 @@ use Rattle.capture_form.specs.declared.lane_place.LanePlace.TheVariants.{Control
 use Rattle.capture_form.specs.Events.{Stamped}
 use Rattle.capture_form.specs.Place.{place_of, place_of_event, place_of_message, place_of_request, place_of_octets, place_of_reading}
 use Rattle.right_book.specs.Placed.{taken, placed}
-use Rattle.book_law.specs.SequenceLaw.{is_unit, reads_as_unit, asks_unit, is_of_key, events_on, lane_of}
+use Rattle.book_law.specs.SequenceLaw.{is_of_users, reads_as_unit, asks_unit, is_of_key, events_on, lane_of}
 
 -- A key has its place.
 
@@ -29,7 +29,7 @@ udt_place : (head : Head) (sls : ℕ) (called : List ℕ) → not (is_for_manage
     → (if is_for_management called then Control else Data (lane_of head sls)) ≡ Data (lane_of head sls)
 udt_place head sls called is = rw (not-true (is_for_management called) is) refl
 
-message_place : (head : Head) (opc sls : ℕ) (m : Message) → is_unit m ≡ true → place_of_message head opc sls m ≡ Data (lane_of head sls)
+message_place : (head : Head) (opc sls : ℕ) (m : Message) → is_of_users m ≡ true → place_of_message head opc sls m ≡ Data (lane_of head sls)
 unfolding place_of_message
 message_place head opc sls (Udt class called calling body) is = udt_place head sls called is
 message_place head opc sls (Udts cause called calling body) is = refl

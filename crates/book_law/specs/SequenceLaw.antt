@@ -8,8 +8,9 @@ use Rattle.relay_base.specs.declared.words.Event.TheVariants.{Message as Arrived
 use Rattle.relay_base.specs.declared.words.Request.{Request}
 use Rattle.relay_base.specs.declared.words.Request.TheVariants.{Unit as UnitRequest}
 use Rattle.q713_codec.specs.Names.{Message}
-use Rattle.q713_codec.specs.declared.message.Message.TheVariants.{Udt, Udts, Xudt, Xudts, Ludt, Ludts}
+use Rattle.q713_codec.specs.declared.message.Message.TheVariants.{Udt}
 use Rattle.q713_codec.specs.Reading.{reading_of}
+use Rattle.q713_codec.specs.Writing.{is_unit}
 use Rattle.scmg_messages.specs.Messages.{is_for_management}
 use Rattle.plant_core.specs.declared.entry.Entry.{Entry}
 use Rattle.plant_core.specs.declared.entry.ControlEvent.{ControlEvent}
@@ -23,17 +24,12 @@ use Rattle.right_book.specs.Heads.{lane_head_of}
 use Rattle.right_book.specs.Right.{IsRight}
 
 -- a unit or a service message, but none of management
-abbrev pub is_unit : Message → Bool
-is_unit (Udt _ called _ _) = not (is_for_management called)
-is_unit (Udts _ _ _ _) = true
-is_unit (Xudt _ _ _ _ _ _ _) = true
-is_unit (Xudts _ _ _ _ _ _ _) = true
-is_unit (Ludt _ _ _ _ _ _ _) = true
-is_unit (Ludts _ _ _ _ _ _ _) = true
-is_unit _ = false
+abbrev pub is_of_users : Message → Bool
+is_of_users (Udt _ called _ _) = not (is_for_management called)
+is_of_users message = is_unit message
 
 abbrev pub reads_as_unit : Result Message ReadFault → Bool
-reads_as_unit (Ok message) = is_unit message
+reads_as_unit (Ok message) = is_of_users message
 reads_as_unit (Err fault) = false
 
 -- a user's unit with this link selection
