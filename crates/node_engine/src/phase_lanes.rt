@@ -27,10 +27,11 @@ fn seated<'r, R: Wait, L: Drop>(
     ensures places { IfOk result (λ seats. let taken = map (λ s. s.place) seats.items in
         places.old.items ≡ places.new.items ++ reverse taken) }
 {
-    let mut seats = Vec::new(alloc);
+    let mut seats = Vec::with_capacity(alloc, lanes.len())?;
     for lane in lanes {
         let place = places.pop().unwrap();
-        seats.push(Seat::new(alloc, lane, place)?)?;
+        let seat = Seat::new(alloc, lane, place)?;
+        seats.push_reserved(seat);
     }
     Ok(seats)
 }
@@ -58,9 +59,9 @@ fn all_unseated<'r, R: Wait, L: Drop>(
     ensures seen { IfOk result (λ lanes.
         AllByRecursion (λ s. Begins ended.now.seen s.place.seen) seats.entry.items) }
 {
-    let mut lanes = Vec::new(alloc);
+    let mut lanes = Vec::with_capacity(alloc, seats.len())?;
     for seat in seats {
-        lanes.push(unseated(seat, ended))?;
+        lanes.push_reserved(unseated(seat, ended));
     }
     Ok(lanes)
 }
