@@ -59,6 +59,19 @@ impl<'r, R: Wait> Model for PhaseLanes<'r, R> {
     } };
 }
 
+/// The lane of a number at its place, before the first event of the phase.
+fn seated_turn<'p, 'r, R: Wait, L: SeatedKind>(
+    head: &'p Head,
+    phase: &'p Phase,
+    number: usize,
+    seat: Seat<'r, R, L>,
+) -> LaneTurn<'p, 'r, R>
+    requires room { HasRoom (length (phase_events phase.now)) (L.lane_of seat) }
+    ensures { result ≡ seated_turn L.name_of L.lane_of head.now phase.now number seat.entry }
+{
+    LaneTurn::new(head, phase, L::name(number), L::lane(seat))
+}
+
 /// Lanes of a kind go to the end of a row, before the first event of the phase.
 fn add_turns<'p, 'r, R: Wait, L: SeatedKind>(
     turns: &mut Vec<LaneTurn<'p, 'r, R>>,
@@ -74,8 +87,8 @@ fn add_turns<'p, 'r, R: Wait, L: SeatedKind>(
 {
     let first = turns.len();
     for seat in seats {
-        let name = L::name(turns.len() - first);
-        turns.push_reserved(LaneTurn::new(head, phase, name, L::lane(seat)));
+        let turn = seated_turn(head, phase, turns.len() - first, seat);
+        turns.push_reserved(turn);
     }
 }
 
