@@ -33,7 +33,8 @@ pub fn map_blocks<R: Threads + Sync, T: Sync, X: Send + Drop, F: Fn(&[T]) -> X +
         ensures { Gives F.Fn f.entry.now block.entry.now result }
     { f(block) };
     let back = move || -> Result<Vec<X>, AllocError>
-        requires { IsSync R.row × IsSync F.row × IsSync T.row × IsSend X.row × (0 < size) × Accepts F.Fn f.now }
+        requires { IsSync R.row × IsSync F.row × IsSync T.row × IsSend X.row
+            × (0 < size) × Accepts F.Fn f.now }
         ensures { IfOk result (λ v. GivesBlocks F.Fn f.entry.now size rest.entry.now v.items) }
     { map_blocks(rt, alloc, rest, size, f) };
     let (first, others) = thread::join(rt, front, back);
