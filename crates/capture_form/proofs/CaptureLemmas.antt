@@ -1,10 +1,9 @@
 -- What holds of a capture that was read: its events stand under the phases and links of their stamps, and they are not too many.
-use Rattle.std.proofs.Common.{◌≡◌, ℕ, zero, suc, ◌+◌, ◌≤◌, ◌<◌, ◌==◌, nat_lt, nat_le, codes, Bool, true, false, cond, List, [], ◌∷◌, ◌++◌, length, map, Option, Some, None, get_or, replicate, Result, Ok, Err, IfOk, refl, sym, ap, ◌∙◌, subst, arith, length-append, append-nil}
+use Rattle.std.proofs.Common.{◌≡◌, ℕ, zero, suc, ◌+◌, ◌≤◌, ◌<◌, ◌==◌, nat_lt, nat_le, codes, Bool, true, false, cond, List, [], ◌∷◌, ◌++◌, length, map, Option, Some, None, get_or, replicate, Result, Ok, Err, IfOk, refl, ap, ◌∙◌, subst, arith, length-append, append-nil}
 use Rattle.std.proofs.lemmas.Bool.Decides.{nat_tests}
 use Rattle.std.proofs.lemmas.Grind.{flat_map-append}
 use Rattle.std.proofs.Math.ListN.{set}
 use Rattle.std.specs.List.{filter_map, range_with_len}
-use Rattle.relay_base.specs.Giving.{◌>>=◌}
 use Rattle.relay_base.specs.declared.words.Stamp.{Stamp}
 use Rattle.plant_core.specs.declared.entry.ControlEvent.{ControlEvent}
 use Rattle.node_head.specs.Lines.{lines, halves}
@@ -22,11 +21,11 @@ use Rattle.capture_form.specs.declared.reading.Reading.{Reading}
 use Rattle.capture_form.specs.declared.capture.Capture.{Capture}
 use Rattle.capture_form.specs.Capture.{Reads, begins, lines_from, barriers, event_lines, barrier_form, with_above, open_group, fault_at, open_fault, event_at, phases_of, unless_faulty, at_head, capture_after, capture_from, capture_within}
 use Rattle.capture_form.specs.Inner.Stated.{Stated, numbered}
-use Rattle.capture_form.specs.Inner.Reader.{at_line, phase_ended, with_event, meaning_taken, line_added, barrier_taken, tick_counted, line_counted, event_put, event_taken, at_number, words_taken, line_taken, lines_taken, all_taken, nothing_read, closed, phases_read, capture_read}
+use Rattle.capture_form.specs.Inner.Reader.{at_line, phase_ended, with_event, meaning_taken, line_added, barrier_taken, tick_counted, line_counted, event_put, event_taken, at_number, words_taken, line_taken, lines_taken, all_taken, nothing_read, closed, phases_read}
 use Rattle.capture_form.specs.declared.steps.TheConstants.{MOST_LINES, MOST_TICK_LINES, MOST_BARRIERS}
 use Rattle.capture_form.specs.Events.{Stamped, phase_lists, phase_events, all_events, AreOfPhases, IsStamped}
 use Rattle.capture_form.proofs.PhaseLemmas.{phases-stamped}
-use Rattle.capture_form.proofs.ReaderLemmas.{reader-agrees}
+use Rattle.capture_form.proofs.ReaderLemmas.{capture_read, reader-agrees}
 use Rattle.relay_base.proofs.GivingLemmas.{bound}
 use Rattle.node_head.proofs.Given.{after_any, either, by_test}
 
@@ -201,8 +200,3 @@ read-stamped (Err fault) bytes e = tt
 pub read-few-events : (r : Result Capture CaptureFault) (bytes : List ℕ) → Reads r (capture_within bytes) → IfOk r (λ c. length (all_events c.phases) ≤ MOST_LINES)
 read-few-events (Ok capture) bytes e = (good-read (Ok capture) bytes e).few
 read-few-events (Err fault) bytes e = tt
-
--- what the reader makes of the lines behind a head is what the definition makes of the input
-pub within-read : (r : Result Capture CaptureFault) (bytes : List ℕ) (parts : Head × ℕ × List (List ℕ)) → at_head (begun (halves (lines bytes))) ≡ Ok parts
-    → Reads r (capture_read parts.0 (parts.1 + 2) parts.2) → Reads r (capture_within bytes)
-within-read r bytes parts e h = subst (Reads r) (reader-agrees parts.0 (parts.1 + 2) parts.2 ∙ ap (λ p. p >>= capture_from) (sym e)) h

@@ -1,7 +1,6 @@
 -- How many lines an input has.
-use Rattle.std.proofs.Common.{◌≡◌, ℕ, zero, suc, ◌+◌, ◌≤◌, ◌<◌, Bool, true, false, cond, List, [], ◌∷◌, length, drop, Option, Some, None, option_map, Result, Ok, Err, ap, subst, arith}
+use Rattle.std.proofs.Common.{◌≡◌, ℕ, zero, suc, ◌+◌, ◌≤◌, Bool, true, false, cond, List, [], ◌∷◌, length, drop, Option, Some, None, option_map, Result, Ok, Err, ap, subst, arith}
 use Rattle.std.proofs.lemmas.List.{length-map}
-use Rattle.relay_base.specs.declared.limits.TheConstants.{MOST_BYTES}
 use Rattle.bstr.specs.Text.{lines_from, lines_of, line_len, without_terminator}
 use Rattle.relay_base.specs.Giving.{◌>>=◌}
 use Rattle.node_head.specs.Lines.{lines, halves, is_mark, joined}
@@ -70,8 +69,8 @@ headed (Err f) p e = absurd (cc)
 pub length-begun : (ls : List (List ℕ)) (head : Head) (count : ℕ) (rest : List (List ℕ)) → begun (halves ls) ≡ Ok (head, count, rest) → count + 1 + length rest ≡ length ls
 length-begun ls head count rest e = begun-at (length ls) (halves ls) head count rest (length-halves ls) e
 
--- the number of the first line after the head, and how many lines follow
-pub few-lines : (bytes : List ℕ) (ls rest : List (List ℕ)) (head : Head) (count : ℕ) → length bytes ≤ MOST_BYTES → ls ≡ lines bytes
-    → at_head (begun (halves ls)) ≡ Ok (head, count, rest) → count + 2 + length rest < 4294967296
-few-lines bytes ls rest head count small e h =
+-- the lines behind a head end before this number
+pub most-lines : (bytes : List ℕ) (ls rest : List (List ℕ)) (head : Head) (count : ℕ) → ls ≡ lines bytes
+    → at_head (begun (halves ls)) ≡ Ok (head, count, rest) → count + 2 + length rest ≤ length bytes + 1
+most-lines bytes ls rest head count e h =
     omega (arith, length-begun ls head count rest (headed (begun (halves ls)) (head, count, rest) h), ap length e, length-lines bytes)

@@ -25,7 +25,7 @@ use Rattle.capture_form.specs.declared.steps.TheConstants.{MOST_LINES, MOST_TICK
 use Rattle.capture_form.specs.declared.reading.Reading.{Reading}
 use Rattle.capture_form.specs.Capture.{Line, is_barrier, is_tick, barriers, ticks, event_lines, left_by, open_group, form_fault, barrier_form, barrier_fault, event_fault, fault_at, open_fault, brought, event_at, phases_of, unless_faulty, capture_after}
 use Rattle.capture_form.specs.Inner.Stated.{Stated, numbered}
-use Rattle.capture_form.specs.Inner.Reader.{at_line, phase_ended, with_event, meaning_taken, line_added, barrier_taken, event_put, event_taken, lines_taken, all_taken, closed, phases_read, capture_read}
+use Rattle.capture_form.specs.Inner.Reader.{at_line, phase_ended, with_event, meaning_taken, line_added, barrier_taken, event_put, event_taken, lines_taken, all_taken, nothing_read, closed, phases_read}
 use Rattle.capture_form.proofs.PhaseLemmas.{AreUpTo, up-to-push, up-to-next, lists-push, lists-empty, phases-before, number-is, both-left, both-right}
 
 -- ---- what is kept
@@ -273,6 +273,13 @@ unfolding all_taken
 agrees head [] = agrees-none head
 agrees head (line ∷ more) = λ above events b n t number g c.
     words-agree head more (agrees head more) above events b n t line.0 g (words line.1) c (is_barrier (line.0, words line.1)) refl
+
+-- the capture of a head and the lines after it, of which the first has this number
+abbrev pub capture_read : Head → ℕ → List (List ℕ) → Result Capture CaptureFault
+capture_read head number ls = do
+  r ← lines_taken head (nothing_read head) (numbered number ls)
+  _ ← closed r.group
+  Ok (record { head = head; phases = phases_read r })
 
 -- from the first line on
 pub reader-agrees : (head : Head) (number : ℕ) (ls : List (List ℕ)) → capture_read head number ls ≡ capture_after head number ls

@@ -1,5 +1,5 @@
-pub mod Blocks
 pub mod LineRead
+pub mod Progress
 pub mod Reader
 pub mod Stated
 pub mod Words

@@ -1,15 +1,11 @@
 //! The lines that state something, each with its number.
-ghost use Rattle.std.specs.Prelude.{◌≡◌, ◌<◌, ◌+◌, ◌^◌, ◌++◌, [], None, length, OnOk};
+ghost use Rattle.std.specs.Prelude.{◌≡◌, ◌<◌, ◌+◌, ◌^◌, [], None, length};
 ghost use Rattle.std.specs.Option.{option_map};
 ghost use Rattle.std.specs.List.{cons_option};
 ghost use Rattle.capture_form.specs.Capture.{is_skipped};
-ghost use Rattle.capture_form.specs.Inner.Stated.{numbered, seen_line, seen_lines};
+ghost use Rattle.capture_form.specs.Inner.Stated.{numbered, seen_line};
 
 use bstr::Lines;
-use std::alloc::AllocError;
-
-/// The most lines that are read before what they say is taken.
-const MOST_IN_WINDOW: u32 = 16_384;
 
 /// A line that is neither empty nor a comment, and its number.
 #[derive(Clone, Copy)]
@@ -44,26 +40,4 @@ pub fn next_stated<'a>(number: &mut u32, lines: &mut Lines<'a>) -> Option<Stated
         }
     }
     None
-}
-
-/// Fills a window with the stated lines to come, up to the most. It stays empty where none is to come.
-pub fn fill<'a>(
-    window: &mut Vec<StatedLine<'a>>,
-    number: &mut u32,
-    lines: &mut Lines<'a>,
-) -> Result<(), AllocError>
-    requires few { number.old + length lines.old < 2 ^ 32 }
-    ensures lines { let rest = numbered number.new lines.new in
-        OnOk result (seen_lines window.new.items ++ rest ≡ numbered number.old lines.old) }
-    ensures end { OnOk result (length window.new.items ≡ 0 → lines.new ≡ []) }
-    ensures few { OnOk result (number.new + length lines.new ≡ number.old + length lines.old) }
-{
-    window.clear();
-    for _line in 0..MOST_IN_WINDOW {
-        match next_stated(number, lines) {
-            None => return Ok(()),
-            Some(line) => window.push(line)?,
-        }
-    }
-    Ok(())
 }

@@ -1,9 +1,8 @@
 //! What one line adds to what was read.
 ghost use Rattle.std.specs.Prelude.{◌≡◌, ◌<◌, ◌+◌, ◌-◌, ◌^◌, length, Some, IfOk, OnOk, Ok};
-ghost use Rattle.std.specs.List.{AllByRecursion};
 ghost use Rattle.capture_form.specs.Capture.{Reads};
 ghost use Rattle.capture_form.specs.Inner.LineRead.{may_stand_as};
-ghost use Rattle.capture_form.specs.Inner.Reader.{Takes, AreAsMany, IsStill, IsWithin, IsReadWithin, pushed, with_event, empty_phase, nothing_read, phase_ended, barrier_taken, tick_counted, line_counted, meaning_taken, event_put, event_taken, read_taken, reads_taken, at_line};
+ghost use Rattle.capture_form.specs.Inner.Reader.{Takes, AreAsMany, IsStill, IsWithin, IsReadWithin, pushed, with_event, empty_phase, nothing_read, phase_ended, barrier_taken, tick_counted, line_counted, meaning_taken, event_put, event_taken, read_taken, at_line};
 
 use crate::changes::{OpenGroup, alone};
 use crate::fault::{CaptureFault, Limit, LineFault, LineKind};
@@ -268,23 +267,4 @@ pub fn take_line(
         Saying::Barrier(standing, form) => take_barrier(alloc, head, read, standing, form),
         Saying::Event(event) => take_event(alloc, read, event),
     }
-}
-
-/// Takes lines one after the other.
-#[tactic(auto, unfolding(crate::specs::Inner::Reader::all_taken))]
-pub fn take_reads(
-    alloc: Global,
-    head: &Head,
-    read: &mut Reading,
-    lines: Vec<LineRead>,
-) -> Result<(), CaptureFault>
-    requires links { length read.old.current ≡ head.now.links + 1 }
-    requires within { AllByRecursion (IsReadWithin head.now.links) lines.items }
-    ensures value { Takes read.new result (reads_taken head.now read.old lines.items) }
-    ensures kept { OnOk result (AreAsMany read.old read.new) }
-{
-    for line in lines {
-        take_line(alloc, head, read, line)?;
-    }
-    Ok(())
 }

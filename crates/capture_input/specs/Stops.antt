@@ -2,6 +2,8 @@
 use Rattle.std.specs.Prelude.{◌≡◌, ℕ, codes, List, [], Option, Some, None, Err}
 use Rattle.std.specs.declared.result.Result.{Result}
 use Rattle.relay_base.specs.Giving.{GivesOrMemory}
+use Rattle.relay_base.specs.declared.errors.ReadAllFault.{ReadAllFault}
+use Rattle.relay_base.specs.declared.errors.ReadAllFault.TheVariants as read_fault
 use Rattle.capture_form.specs.declared.fault.CaptureFault.TheVariants as refused
 use Rattle.journal_text.specs.declared.writing.WriteFault.{WriteFault}
 use Rattle.journal_text.specs.declared.writing.WriteFault.TheVariants as write_fault
@@ -26,6 +28,12 @@ Reads result given = GivesOrMemory (λ x. x) fault_in result given
 abbrev pub stop_of : WriteFault → Stop
 stop_of write_fault.Sink = stop.WriteFault
 stop_of write_fault.Memory = stop.Memory
+
+-- the stop for bytes that were not taken
+abbrev pub read_stop : ReadAllFault → Stop
+read_stop read_fault.TooLong = stop.Bytes
+read_stop read_fault.Fault = stop.ReadFault
+read_stop read_fault.Memory = stop.Memory
 
 -- the stop for a refusal, unless memory ran out
 abbrev pub StopsFor : InputFault → Stop → Type 0

@@ -12,7 +12,7 @@ use Rattle.node_head.specs.declared.fault.HeadFault.{HeadFault}
 use Rattle.node_head.specs.declared.head.Head.{Head}
 use Rattle.relay_base.proofs.GivingLemmas.{bound}
 use Rattle.capture_form.proofs.CaptureLemmas.{read-few-events}
-use Rattle.capture_form.proofs.LengthLemmas.{few-lines as lines-few}
+use Rattle.capture_form.proofs.LengthLemmas.{most-lines}
 use Rattle.capture_form.specs.Capture.{Line, lines_from, event_lines, with_above, open_group, fault_at, open_fault, event_at, barriers, phases_of, unless_faulty, at_head, capture_after, capture_from, capture_within, capture_of}
 use Rattle.capture_form.specs.Events.{Stamped, is_at, phase_lists}
 use Rattle.capture_form.specs.declared.capture.Capture.{Capture}
@@ -75,7 +75,7 @@ within-in bytes small =
     by_parts (at_head (begun (halves (lines bytes)))) refl (at_head-in (λ (parts : Parts). HeadInRange parts.0) (begun (halves (lines bytes))) (begun-in (halves (lines bytes))))
   where
     by_parts : (r : Result Parts CaptureFault) → at_head (begun (halves (lines bytes))) ≡ r → IfOk r (λ (parts : Parts). HeadInRange parts.0) → IfOk (r >>= capture_from) IsInRange
-    by_parts (Ok (head, count, rest)) e told = after-in head (count + 2) rest told (lines-few bytes (lines bytes) rest head count small refl e)
+    by_parts (Ok (head, count, rest)) e told = after-in head (count + 2) rest told (omega (arith, small, most-lines bytes (lines bytes) rest head count refl e))
     by_parts (Err f) e told = tt
 
 -- what holds of the capture that an input within its limit is

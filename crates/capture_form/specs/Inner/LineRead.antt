@@ -13,8 +13,8 @@ use Rattle.capture_form.specs.declared.line_read.EventRead.{EventRead}
 use Rattle.capture_form.specs.declared.line_read.LineRead.{LineRead}
 use Rattle.capture_form.specs.declared.line_read.Saying.{Saying}
 use Rattle.capture_form.specs.declared.line_read.Saying.TheVariants.{Barrier, Event}
-use Rattle.capture_form.specs.declared.stated.StatedLine.{StatedLine}
-use Rattle.capture_form.specs.Inner.Stated.{Stated, seen_lines}
+use Rattle.capture_form.specs.declared.part.PartRead.{PartRead}
+use Rattle.capture_form.specs.Inner.Stated.{Stated, numbered}
 
 -- how a line may stand among groups, by its words
 abbrev pub standing_of : List (List ℕ) → Standing
@@ -41,6 +41,7 @@ words_read head ws = if begins (codes "w") ws then Barrier (standing_of ws) (bar
 abbrev pub line_read : Head → Stated → LineRead
 line_read head line = record { number = line.0; saying = words_read head (words line.1) }
 
--- this is what each of the lines says
-abbrev pub AreRead : Head → List StatedLine → List LineRead → Type 0
-AreRead head lines reads = reads ≡ map (line_read head) (seen_lines lines)
+-- this is what the lines of a part say, of which the first has number 0, and how many lines it has
+pub record IsOfPart (head : Head) (ls : List (List ℕ)) (part : PartRead) : Type 0 where
+  pub reads : part.reads.items ≡ map (line_read head) (numbered 0 ls)
+  pub lines : part.lines ≡ length ls

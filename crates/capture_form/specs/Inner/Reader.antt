@@ -1,5 +1,5 @@
 -- A reader of lines, which keeps what it read so far.
-use Rattle.std.specs.Prelude.{◌≡◌, ℕ, ◌+◌, ◌≤◌, ◌==◌, nat_lt, nat_le, codes, Bool, List, [], ◌∷◌, ◌++◌, length, Option, Some, None, slice_index_or, slice_set, replicate, Ok, Err, IfOk, if◌then◌else◌}
+use Rattle.std.specs.Prelude.{◌≡◌, ℕ, ◌+◌, ◌≤◌, ◌==◌, nat_lt, nat_le, codes, Bool, List, [], ◌∷◌, ◌++◌, length, map, Option, Some, None, slice_index_or, slice_set, replicate, Ok, Err, IfOk, if◌then◌else◌}
 use Rattle.std.specs.declared.result.Result.{Result}
 use Rattle.relay_base.specs.Giving.{◌>>=◌, GivesOrMemory}
 use Rattle.relay_base.specs.declared.words.Stamp.{Stamp}
@@ -20,11 +20,10 @@ use Rattle.capture_form.specs.declared.fault.LineKind.TheVariants.{Group}
 use Rattle.capture_form.specs.declared.fault.Limit.TheVariants.{Lines, Ticks, Barriers}
 use Rattle.capture_form.specs.declared.fault.CaptureFault.{CaptureFault}
 use Rattle.capture_form.specs.declared.fault.CaptureFault.TheVariants as refused
-use Rattle.capture_form.specs.declared.capture.Capture.{Capture}
 use Rattle.capture_form.specs.declared.line_read.LineRead.{LineRead}
 use Rattle.capture_form.specs.declared.line_read.Saying.{Saying}
 use Rattle.capture_form.specs.declared.line_read.Saying.TheVariants as said
-use Rattle.capture_form.specs.Inner.Stated.{Stated, numbered}
+use Rattle.capture_form.specs.Inner.Stated.{Stated}
 use Rattle.capture_form.specs.declared.reading.Reading.{Reading}
 
 -- the call left what is read by then, unless memory ran out
@@ -143,6 +142,13 @@ lines_taken head r ls = all_taken (line_taken head) r ls
 abbrev pub reads_taken : Head → Reading → List LineRead → Result Reading CaptureFault
 reads_taken head r reads = all_taken (read_taken head) r reads
 
+-- what lines say, which are numbered from this number on
+abbrev pub read_at : ℕ → LineRead → LineRead
+read_at first line = record line { number = first + line.number }
+
+abbrev pub reads_at : ℕ → List LineRead → List LineRead
+reads_at first reads = map (read_at first) reads
+
 -- before the first line
 abbrev pub nothing_read : Head → Reading
 nothing_read head = record { phases = []; current = empty_phase head.links; phase = 1; line = 0; events = 0; ticks = 0; group = None }
@@ -159,10 +165,3 @@ phases_read r = if r.events == 0 then [] else r.phases ++ r.current ∷ []
 -- those phases, where no group stands open
 abbrev pub phases_closed : Reading → Result (List (List Stamped)) CaptureFault
 phases_closed r = closed r.group >>= (λ _. Ok (phases_read r))
-
--- the capture of a head and the lines after it, of which the first has this number
-abbrev pub capture_read : Head → ℕ → List (List ℕ) → Result Capture CaptureFault
-capture_read head number ls = do
-  r ← lines_taken head (nothing_read head) (numbered number ls)
-  _ ← closed r.group
-  Ok (record { head = head; phases = phases_read r })

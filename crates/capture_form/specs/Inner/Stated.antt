@@ -1,5 +1,5 @@
 -- The lines that state something, each with its number.
-use Rattle.std.specs.Prelude.{ℕ, not, List, map}
+use Rattle.std.specs.Prelude.{ℕ, not, List}
 use Rattle.std.specs.List.{filter, enumerate_from}
 use Rattle.capture_form.specs.Capture.{is_skipped}
 use Rattle.capture_form.specs.declared.stated.StatedLine.{StatedLine}
@@ -12,9 +12,6 @@ Stated = ℕ × List ℕ
 abbrev pub numbered : ℕ → List (List ℕ) → List Stated
 numbered number ls = filter (λ l. not (is_skipped l.1)) (enumerate_from number ls)
 
--- what is seen of a line, and of several
+-- what is seen of a line
 abbrev pub seen_line : StatedLine → Stated
 seen_line line = (line.number, line.octets.now)
-
-abbrev pub seen_lines : List StatedLine → List Stated
-seen_lines lines = map seen_line lines

@@ -1,27 +1,12 @@
-use Rattle.std.proofs.Common.{◌<◌, ◌+◌, length, arith, ap, sym, ◌∙◌}
-use Rattle.node_head.specs.Head.{begun}
-use Rattle.node_head.specs.Lines.{halves}
-use Rattle.capture_form.specs.Capture.{at_head}
-use Rattle.capture_form.proofs.CaptureLemmas.{within-read}
-use Rattle.capture_form.proofs.LengthLemmas.{few-lines}
+use Rattle.std.proofs.Common.{rules}
+use Rattle.capture_form.specs.Capture.{fault_in}
+use Rattle.capture_form.proofs.ProgressLemmas.{within-read, within-refused}
 use Rattle.capture_form.proofs.capture.capture_within.Goals as goal
 
-pub overflow_cast-count : goal.overflow_cast-count
-overflow_cast-count g c =
-    let few : c.in_ok-head.count + 2 + length c.head_part.new.lines < 4294967296 =
-    few-lines c.args.bytes.now c.lines-lines.result c.head_part.new.lines c.in_ok-head.head c.in_ok-head.count c.requires.few c.lines-lines.ensures.value c.in_ok-head.ensures.value in
-    omega arith
-
-pub overflow_add-count : goal.overflow_add-count
-overflow_add-count g c =
-    let few : c.in_ok-head.count + 2 + length c.head_part.new.lines < 4294967296 =
-    few-lines c.args.bytes.now c.lines-lines.result c.head_part.new.lines c.in_ok-head.head c.in_ok-head.count c.requires.few c.lines-lines.ensures.value c.in_ok-head.ensures.value in
-    omega arith
-
-pub capture_after-requires-clause-few : goal.capture_after-requires-clause-few
-capture_after-requires-clause-few g c =
-    few-lines c.args.bytes.now c.lines-lines.result c.head_part.new.lines c.in_ok-head.head c.in_ok-head.count c.requires.few c.lines-lines.ensures.value c.in_ok-head.ensures.value
+pub returns-in_err-head-clause-value : goal.returns-in_err-head-clause-value
+returns-in_err-head-clause-value c =
+    let refused = within-refused c.args.bytes.now (fault_in c.in_err-head.field-0.0) c.in_err-head.ensures.value in
+    search (rules, refused)
 
 pub returns-clause-value : goal.returns-clause-value
-returns-clause-value g c = within-read c.capture_after.result c.args.bytes.now (c.in_ok-head.head, c.in_ok-head.count, c.head_part.new.lines)
-    (ap (λ ls. at_head (begun (halves ls))) (sym c.lines-lines.ensures.value) ∙ c.in_ok-head.ensures.value) c.capture_after.ensures.value
+returns-clause-value c = within-read c.args.bytes.now c.in_ok-head.head c.in_ok-head.progress c.end_capture.result c.in_ok-head.ensures.value c.end_capture.ensures.value
