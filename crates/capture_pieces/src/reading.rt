@@ -26,6 +26,9 @@ use std::alloc::Global;
 use std::thread;
 use std::thread::Threads;
 
+/// How many octets of a piece come, at least, before its lines are read in threads.
+const PIECE: usize = 2_097_152;
+
 /// The head, and what the lines say that came with it.
 fn begin<S: Source>(
     alloc: Global,
@@ -98,9 +101,11 @@ fn read_piece<R: Threads + Sync, S: Source>(
 ) -> Result<(Progress, Vec<Block>), PieceFault>
     requires open { feed.old.ended ≡ false }
     requires waits { IsWaiting head.now feed.old progress blocks.items }
-    ensures ok { (first : _) → IsReadOn first (S.left source.old) head.now feed.old progress blocks.items →
+    ensures ok { (first : _) →
+        IsReadOn first (S.left source.old) head.now feed.old progress blocks.items →
         IfOk result (λ t. IsReadOn first (S.left source.new) head.now feed.new t.0 t.1.items) }
-    ensures err { (first : _) → IsReadOn first (S.left source.old) head.now feed.old progress blocks.items →
+    ensures err { (first : _) →
+        IsReadOn first (S.left source.old) head.now feed.old progress blocks.items →
         IfErr result (Stops first (S.left source.new) feed.new) }
     ensures waits { IfOk result (λ t. IsWaiting head.now feed.new t.0 t.1.items) }
     ensures more { OnOk result ((feed.new.ended ≡ true) ⊎ (feed.old.came < feed.new.came)) }
@@ -109,7 +114,7 @@ fn read_piece<R: Threads + Sync, S: Source>(
     ensures kept { result ≢ Err (PieceFault.Read Fault) →
         S.faults source.new ≡ S.faults source.old }
 {
-    let whole = feed.next_piece(source)?;
+    let whole = feed.whole_lines(source, PIECE)?;
     let read = step_beside(rt, alloc, head, progress, blocks, feed.front(whole))?;
     feed.go_on(whole)?;
     Ok(read)

@@ -2,6 +2,7 @@
 ghost use Rattle.std.specs.Prelude.{◌≡◌, ◌≢◌, ◌⊎◌, ◌+◌, ◌<◌, ◌≤◌, true, length, Err, IfOk, OnOk};
 ghost use Rattle.std.specs.List.{list_any};
 ghost use Rattle.relay_base.specs.Causes.{Rose};
+ghost use Rattle.relay_base.specs.declared.errors.ReadAllFault.TheVariants.{Fault};
 ghost use Rattle.relay_base.specs.declared.limits.TheConstants.{MOST_BYTES};
 ghost use Rattle.node_head.specs.Lines.{is_mark, lines};
 ghost use Rattle.capture_pieces.specs.Inner.Feeds.{Comes, HasCome, HasMark, IsWhole, PassedOver, RiseAlike};
@@ -15,9 +16,6 @@ use relay_base::{ReadAllFault, Source};
 
 /// How many octets one reading asks for.
 const MOST_AT_ONCE: usize = 65_536;
-
-/// How many octets come, at least, before lines are read in threads.
-const PIECE: usize = 2_097_152;
 
 /// Whether one of the lines is the mark that ends a head.
 fn has_mark(octets: &[u8]) -> bool
@@ -36,8 +34,8 @@ impl Feed {
         ensures longer { OnOk result (length self.old.text.items ≤ length self.new.text.items) }
         ensures buf { length buf.new ≡ length buf.old }
         ensures rises { OnOk result (RiseAlike self.old self.new) }
-        ensures fault { result ≡ Err ReadAllFault.Fault → Rose (S.faults source.old) (S.faults source.new) }
-        ensures kept { result ≢ Err ReadAllFault.Fault → S.faults source.new ≡ S.faults source.old }
+        ensures fault { result ≡ Err Fault → Rose (S.faults source.old) (S.faults source.new) }
+        ensures kept { result ≢ Err Fault → S.faults source.new ≡ S.faults source.old }
     {
         let left = MOST_BYTES - self.came;
         let want = buf.len().min(left + 1);
@@ -57,8 +55,8 @@ impl Feed {
         ensures filled { OnOk result ((self.new.ended ≡ true) ⊎ (most ≤ length self.new.text.items)) }
         ensures longer { OnOk result (length self.old.text.items ≤ length self.new.text.items) }
         ensures rises { OnOk result (RiseAlike self.old self.new) }
-        ensures fault { result ≡ Err ReadAllFault.Fault → Rose (S.faults source.old) (S.faults source.new) }
-        ensures kept { result ≢ Err ReadAllFault.Fault → S.faults source.new ≡ S.faults source.old }
+        ensures fault { result ≡ Err Fault → Rose (S.faults source.old) (S.faults source.new) }
+        ensures kept { result ≢ Err Fault → S.faults source.new ≡ S.faults source.old }
     {
         let mut buf = [0u8; MOST_AT_ONCE];
         while !self.ended && self.text.len() < most {
@@ -82,7 +80,11 @@ impl Feed {
     }
 
     /// So many octets more come, and others until a line has its end or none comes any more. How many octets have whole lines.
-    fn whole_lines<S: Source>(&mut self, source: &mut S, more: usize) -> Result<usize, ReadAllFault>
+    pub fn whole_lines<S: Source>(
+        &mut self,
+        source: &mut S,
+        more: usize,
+    ) -> Result<usize, ReadAllFault>
         requires some { 0 < more }
         requires few { more ≤ MOST_BYTES + MOST_AT_ONCE }
         ensures come { (first : _) (taken : _) → HasCome first (S.left source.old) self.old taken →
@@ -90,8 +92,8 @@ impl Feed {
         ensures whole { IfOk result (IsWhole self.new) }
         ensures more { OnOk result ((self.new.ended ≡ true) ⊎ (self.old.came < self.new.came)) }
         ensures rises { OnOk result (RiseAlike self.old self.new) }
-        ensures fault { result ≡ Err ReadAllFault.Fault → Rose (S.faults source.old) (S.faults source.new) }
-        ensures kept { result ≢ Err ReadAllFault.Fault → S.faults source.new ≡ S.faults source.old }
+        ensures fault { result ≡ Err Fault → Rose (S.faults source.old) (S.faults source.new) }
+        ensures kept { result ≢ Err Fault → S.faults source.new ≡ S.faults source.old }
     {
         loop {
             let seen = self.text.len();
@@ -110,8 +112,8 @@ impl Feed {
         ensures whole { IfOk result (IsWhole self.new) }
         ensures mark { IfOk result (HasMark self.new) }
         ensures rises { OnOk result (RiseAlike self.old self.new) }
-        ensures fault { result ≡ Err ReadAllFault.Fault → Rose (S.faults source.old) (S.faults source.new) }
-        ensures kept { result ≢ Err ReadAllFault.Fault → S.faults source.new ≡ S.faults source.old }
+        ensures fault { result ≡ Err Fault → Rose (S.faults source.old) (S.faults source.new) }
+        ensures kept { result ≢ Err Fault → S.faults source.new ≡ S.faults source.old }
     {
         loop {
             let more = self.text.len() + MOST_AT_ONCE;
@@ -122,25 +124,12 @@ impl Feed {
         }
     }
 
-    /// The next piece comes. How many octets have whole lines: none, where all are read.
-    pub fn next_piece<S: Source>(&mut self, source: &mut S) -> Result<usize, ReadAllFault>
-        ensures come { (first : _) (taken : _) → HasCome first (S.left source.old) self.old taken →
-            Comes first taken (S.left source.new) self.new result }
-        ensures whole { IfOk result (IsWhole self.new) }
-        ensures more { OnOk result ((self.new.ended ≡ true) ⊎ (self.old.came < self.new.came)) }
-        ensures rises { OnOk result (RiseAlike self.old self.new) }
-        ensures fault { result ≡ Err ReadAllFault.Fault → Rose (S.faults source.old) (S.faults source.new) }
-        ensures kept { result ≢ Err ReadAllFault.Fault → S.faults source.new ≡ S.faults source.old }
-    {
-        self.whole_lines(source, PIECE)
-    }
-
     /// All octets come that are still to come, and are passed over.
     pub fn pass_over<S: Source>(&mut self, source: &mut S) -> Result<(), ReadAllFault>
         ensures come { (first : _) (taken : _) → HasCome first (S.left source.old) self.old taken →
             PassedOver first taken self.old (S.left source.new) result }
-        ensures fault { result ≡ Err ReadAllFault.Fault → Rose (S.faults source.old) (S.faults source.new) }
-        ensures kept { result ≢ Err ReadAllFault.Fault → S.faults source.new ≡ S.faults source.old }
+        ensures fault { result ≡ Err Fault → Rose (S.faults source.old) (S.faults source.new) }
+        ensures kept { result ≢ Err Fault → S.faults source.new ≡ S.faults source.old }
     {
         let mut buf = [0u8; MOST_AT_ONCE];
         while !self.ended {
