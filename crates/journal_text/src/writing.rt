@@ -22,8 +22,8 @@ const LONG: usize = 65_536;
 /// How many entries of a lane are printed at a time.
 const WINDOW: usize = 32_768;
 
-/// Into how many blocks they are cut at most.
-const BLOCKS: usize = 4;
+/// Into how many blocks they are cut at most: threads take them one by one.
+const BLOCKS: usize = 32;
 
 /// How many entries are too few to be cut into blocks.
 const FEW: usize = 256;
@@ -93,7 +93,7 @@ fn write_block<K: Sink>(out: &mut K, print: Result<Text, AllocError>) -> Result<
     write_text(out, &print?)
 }
 
-/// Writes the print of entries, in blocks. Each is printed into a text of its own, in a thread where one can be made, and the texts are
+/// Writes the print of entries, in blocks. Each is printed into a text of its own, in threads where they can be made, and the texts are
 /// written in order.
 fn write_blocks<R: Threads + Sync, K: Sink, P: Printed + Sync>(
     rt: &R,

@@ -42,7 +42,7 @@ loop-print-init g c =
       items,
       Carried-nil _ _ _,
       subst (OfBlocks (is_print g.P.Printed.print) size items) {x = prints} (search rules)
-          (blocks-weaker _ (is_print g.P.Printed.print) (λ block made gives. subst (λ b. IfOk made (λ text. text ≡ print b)) gives.block_is gives.call) size items prints c.in_ok-prints.ensures),
+          (blocks-weaker _ (is_print g.P.Printed.print) (λ block made gives. subst (λ b. IfOk made (λ text. text ≡ print b)) gives.lent_is gives.call) size items prints c.in_ok-prints.ensures),
     )
 
 pub returns-in_err-write_block : goal.returns-in_err-write_block
