@@ -1,22 +1,22 @@
 //! Whole lines are read in blocks, each in a thread of its own.
 ghost use Rattle.std.specs.Prelude.{◌≡◌, ◌⊎◌, ◌<◌, ◌≤◌, ◌+◌, ◌^◌, length, take, IfOk};
 ghost use Rattle.std.specs.List.{AllByRecursion};
-ghost use Rattle.std.specs.Thread.{IsSync};
 ghost use Rattle.capture_form.specs.Capture.{Reads};
 ghost use Rattle.capture_form.specs.Inner.Progress.{IsOfHead, octets_read};
 ghost use Rattle.capture_pieces.specs.Inner.Feeds.{EndsLine};
-ghost use Rattle.capture_pieces.specs.Inner.Blocks.{IsBlock, IsOfOctets, SayOctets, lines_in};
+ghost use Rattle.capture_pieces.specs.Inner.Blocks.{AreCut, IsBlock, IsOfOctets, SayOctets, lines_in};
 
+use crate::whole::WholeLines;
+use block_threads::map_each;
 use capture_form::{CaptureFault, PartRead, Progress, read_part, take_part};
 use memchr::memchr;
 use node_head::Head;
 use relay_base::{Memory, take_spare};
 use std::alloc::Global;
-use std::thread;
 use std::thread::Threads;
 
-/// The most blocks of a piece: with the thread that takes what lines say they are read by eight.
-const MOST_BLOCKS: usize = 7;
+/// The most blocks of a piece.
+const MOST_BLOCKS: usize = 32;
 
 /// The fewest octets of a block, but for the last one.
 const LEAST_BLOCK: usize = 65_536;
@@ -50,6 +50,22 @@ fn line_end(octets: &[u8], size: usize) -> usize
     }
 }
 
+/// Whole lines in blocks of about so many octets.
+fn cut(alloc: Global, octets: &[u8], size: usize) -> Result<Vec<WholeLines<'_>>, Memory>
+    requires size { 0 < size }
+    requires few { length octets.now < 2 ^ 32 }
+    ensures { IfOk result (λ v. AreCut (λ block. block.octets.now) octets.now v.items) }
+{
+    let mut blocks = Vec::new(alloc);
+    let mut rest = octets;
+    while !rest.is_empty() {
+        let (octets, behind) = rest.split_at(line_end(rest, size));
+        blocks.push(WholeLines { octets })?;
+        rest = behind;
+    }
+    Ok(blocks)
+}
+
 /// What the lines of a block say, with memory at hand for them.
 fn read_block(alloc: Global, head: &Head, octets: &[u8]) -> Block
     requires { length octets.now < 2 ^ 32 }
@@ -59,9 +75,7 @@ fn read_block(alloc: Global, head: &Head, octets: &[u8]) -> Block
     read_part(alloc, head, octets)
 }
 
-/// What whole lines say, in blocks of about so many octets, each of which is read in a thread of its own where one can be made. The thread that calls makes all
-/// others, and waits: one that it made may be kept waiting behind it while it works.
-#[cycle(blocks)]
+/// What whole lines say, in blocks of about so many octets, which threads read.
 pub fn read_blocks<R: Threads + Sync>(
     rt: &R,
     alloc: Global,
@@ -73,22 +87,16 @@ pub fn read_blocks<R: Threads + Sync>(
     requires few { length octets.now < 2 ^ 32 }
     ensures { IfOk result (λ blocks. SayOctets head.now octets.now blocks.items) }
 {
-    if octets.is_empty() {
-        return Ok(Vec::new(alloc));
-    }
-    let (block, rest) = octets.split_at(line_end(octets, size));
-    let front = move || -> Block
-        requires { length block.now < 2 ^ 32 }
-        ensures { IsOfOctets head.entry.now block.entry.now result }
-    { read_block(alloc, head, block) };
-    let back = move || -> Result<Vec<Block>, Memory>
-        requires { IsSync R.row × (0 < size) × (length rest.now < 2 ^ 32) }
-        ensures { IfOk result (λ blocks. SayOctets head.entry.now rest.entry.now blocks.items) }
-    { read_blocks(rt, alloc, head, rest, size) };
-    let (first, others) = thread::join(rt, front, back);
-    let mut all = others?;
-    all.insert(0, first)?;
-    Ok(all)
+    let blocks = cut(alloc, octets, size)?;
+    let said = map_each(
+        rt,
+        alloc,
+        blocks.as_slice(),
+        &|block: &WholeLines<'_>| -> Block
+            ensures { IsOfOctets head.entry.now block.entry.now.octets.now result }
+        { read_block(alloc, head, block.octets) },
+    )?;
+    Ok(said)
 }
 
 /// Takes what the lines of blocks say, one block after the other.

@@ -5,6 +5,7 @@ mod blocks;
 mod fault;
 mod feed;
 mod reading;
+mod whole;
 
 pub use fault::PieceFault;
 pub use reading::take_capture;

@@ -27,7 +27,7 @@ use std::thread;
 use std::thread::Threads;
 
 /// How many octets of a piece come, at least, before its lines are read in threads.
-const PIECE: usize = 2_097_152;
+const PIECE: usize = 4_194_304;
 
 /// The head, and what the lines say that came with it.
 fn begin<S: Source>(
