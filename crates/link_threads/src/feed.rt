@@ -11,7 +11,7 @@ use lane_gate::{LaneState, Pass};
 use relay_base::{Memory, Pace, Stamp};
 use std::sync::Wait;
 
-/// An event of a link, with its stamp and its place, is delivered to a lane, where it is placed there. It is made ready for such a lane alone.
+/// An event of a link, with its stamp and its place, is delivered to a lane, where it is placed there.
 fn deliver_to<R: Wait, L: LaneState, S: Links<L::Event>>(
     rt: &R,
     door: &Door<L>,
@@ -37,7 +37,6 @@ fn deliver_to<R: Wait, L: LaneState, S: Links<L::Event>>(
         return Ok(());
     }
     let event = links.event(link, number);
-    links.prepare(&event)?;
     door.gate.deliver(rt, pass, stamp, event)
 }
 

@@ -1,6 +1,6 @@
 //! What comes on the links.
 use capture_form::LanePlace;
-use relay_base::{Memory, Stamp};
+use relay_base::Stamp;
 
 /// The links, numbered from 0, and what comes on each of them in its order.
 pub trait Links<E> {
@@ -40,7 +40,4 @@ pub trait Links<E> {
 
     /// Whether events come on more links than one.
     fn are_several(&self) -> bool;
-
-    /// Makes beforehand what a lane needs of an event, so that less is done in its turn, for which other links may wait.
-    fn prepare(&self, event: &E) -> Result<(), Memory>;
 }

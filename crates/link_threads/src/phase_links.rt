@@ -7,7 +7,7 @@ use crate::given::Given;
 use crate::links::Links;
 use capture_form::{LanePlace, Phase, place};
 use node_head::Head;
-use relay_base::{Memory, Stamp};
+use relay_base::Stamp;
 use std::marker::Model;
 
 /// The links of a phase, by reference, with the head by which their events are placed. A clause sees what comes on them.
@@ -74,13 +74,5 @@ impl<'p> Links<Given<'p>> for PhaseLinks<'p> {
 
     fn are_several(&self) -> bool {
         self.several
-    }
-
-    fn prepare(&self, event: &Given<'p>) -> Result<(), Memory> {
-        if self.several {
-            event.prepare()
-        } else {
-            Ok(())
-        }
     }
 }
