@@ -1,2 +1,2 @@
-pub mod BlockLemmas
+pub mod BesideLemmas
 pub mod EachLemmas

@@ -1,12 +1,11 @@
 //! What is asked of each item of a list.
-ghost use Rattle.std.specs.Prelude.{◌≡◌, ◌<◌, length, None, All, IfOk, IfSome};
-ghost use Rattle.std.specs.List.{AllByRecursion};
-ghost use Rattle.block_threads.specs.Blocks.{Accepts, Gives, OfEach};
-ghost use Rattle.block_threads.specs.Inner.Shares.{IsDone, AreCells};
+ghost use Rattle.std.specs.Prelude.{◌≡◌, ◌<◌, length, None, All, IfOk, OnOk, IfSome};
+ghost use Rattle.std.specs.Fn.{FnReturnsAt};
+ghost use Rattle.block_threads.specs.Items.{Accepts, Beside};
+ghost use Rattle.block_threads.specs.Inner.Shares.{IsDone, AreDone, AreShares, AreCells};
 
-use crate::shares::{Done, ask, share_all};
+use crate::shares::{Done, Share, ask, share_all};
 use std::alloc::{AllocError, Global};
-use std::sync::atomic::AtomicUsize;
 use std::thread;
 use std::thread::Threads;
 
@@ -40,29 +39,46 @@ fn put_one<T, X: Drop, F: Fn(&T) -> X>(
     x: X,
 )
     requires inside { number < length cells.old }
-    requires cells { AreCells (Gives F.Fn _f.now) _items.now cells.old }
-    requires done { IsDone (Gives F.Fn _f.now) _items.now (number, x) }
-    ensures { AreCells (Gives F.Fn _f.now) _items.now cells.new }
+    requires cells { AreCells (FnReturnsAt F.Fn _f.now) _items.now cells.old }
+    requires done { IsDone (FnReturnsAt F.Fn _f.now) _items.now (number, x) }
+    ensures { AreCells (FnReturnsAt F.Fn _f.now) _items.now cells.new }
 {
     cells[number] = Some(x);
 }
 
 /// Puts what came of items into their places.
 fn put_done<T, X: Drop, F: Fn(&T) -> X>(items: &[T], f: &F, cells: &mut [Option<X>], done: Done<X>)
-    requires cells { AreCells (Gives F.Fn f.now) items.now cells.old }
-    requires done { AllByRecursion (IsDone (Gives F.Fn f.now) items.now) done.items }
-    ensures { AreCells (Gives F.Fn f.now) items.now cells.new }
+    requires cells { AreCells (FnReturnsAt F.Fn f.now) items.now cells.old }
+    requires done { AreDone (FnReturnsAt F.Fn f.now) items.now done.items }
+    ensures { AreCells (FnReturnsAt F.Fn f.now) items.now cells.new }
 {
     for (number, x) in done {
         put_one(items, f, cells, number, x);
     }
 }
 
+/// The same of what came of items in threads.
+fn put_shares<T, X: Drop, F: Fn(&T) -> X>(
+    items: &[T],
+    f: &F,
+    cells: &mut [Option<X>],
+    shares: Vec<Share<X>>,
+) -> Result<(), AllocError>
+    requires cells { AreCells (FnReturnsAt F.Fn f.now) items.now cells.old }
+    requires shares { AreShares (FnReturnsAt F.Fn f.now) items.now shares.items }
+    ensures { OnOk result (AreCells (FnReturnsAt F.Fn f.now) items.now cells.new) }
+{
+    for share in shares {
+        put_done(items, f, cells, share?);
+    }
+    Ok(())
+}
+
 /// What stands in a place, or what comes of its item.
 fn found<T, X: Drop, F: Fn(&T) -> X>(cell: Option<X>, item: &T, f: &F) -> X
     requires accepts { Accepts F.Fn f.now }
-    requires cell { IfSome cell (Gives F.Fn f.now item.now) }
-    ensures { Gives F.Fn f.now item.now result }
+    requires cell { IfSome cell (FnReturnsAt F.Fn f.now item.now) }
+    ensures { FnReturnsAt F.Fn f.now item.now result }
 {
     match cell {
         Some(x) => x,
@@ -78,8 +94,8 @@ fn in_order<T, X: Drop, F: Fn(&T) -> X>(
     f: &F,
 ) -> Result<Vec<X>, AllocError>
     requires accepts { Accepts F.Fn f.now }
-    requires cells { AreCells (Gives F.Fn f.now) items.now cells.items }
-    ensures { IfOk result (λ v. OfEach (Gives F.Fn f.now) items.now v.items) }
+    requires cells { AreCells (FnReturnsAt F.Fn f.now) items.now cells.items }
+    ensures { IfOk result (λ v. Beside (FnReturnsAt F.Fn f.now) items.now v.items) }
 {
     let mut all = Vec::with_capacity(alloc, cells.len())?;
     let mut rest = items;
@@ -103,12 +119,11 @@ pub fn map_each<R: Threads + Sync, T: Sync, X: Send + Drop, F: Fn(&T) -> X + Syn
     f: &F,
 ) -> Result<Vec<X>, AllocError>
     requires { Accepts F.Fn f.now }
-    ensures { IfOk result (λ v. OfEach (Gives F.Fn f.now) items.now v.items) }
+    ensures { IfOk result (λ v. Beside (FnReturnsAt F.Fn f.now) items.now v.items) }
 {
-    let next = AtomicUsize::new(0);
     let threads = threads_for(rt, items.len());
-    let done = share_all(rt, alloc, &next, items, f, threads)?;
+    let shares = share_all(rt, alloc, items, f, threads)?;
     let mut cells = empty_cells(alloc, items.len())?;
-    put_done(items, f, cells.as_mut_slice(), done);
+    put_shares(items, f, cells.as_mut_slice(), shares)?;
     in_order(alloc, items, cells, f)
 }

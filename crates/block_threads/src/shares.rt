@@ -1,9 +1,8 @@
 //! Threads that take the items of a list one by one.
 ghost use Rattle.std.specs.Prelude.{IfOk};
-ghost use Rattle.std.specs.List.{AllByRecursion};
-ghost use Rattle.std.specs.Thread.{IsSync, IsSend};
-ghost use Rattle.block_threads.specs.Blocks.{Accepts, Gives};
-ghost use Rattle.block_threads.specs.Inner.Shares.{IsDone};
+ghost use Rattle.std.specs.Fn.{FnReturnsAt};
+ghost use Rattle.block_threads.specs.Items.{Accepts};
+ghost use Rattle.block_threads.specs.Inner.Shares.{AreDone, AreShares};
 
 use std::alloc::{AllocError, Global};
 use std::sync::atomic::{AtomicUsize, Ordering};
@@ -13,10 +12,13 @@ use std::thread::Threads;
 /// The numbers of items, from 0, each with what came of it.
 pub type Done<X> = Vec<(usize, X)>;
 
+/// What came of the items that a thread took, unless memory ran out.
+pub type Share<X> = Result<Done<X>, AllocError>;
+
 /// What comes of an item.
 pub fn ask<T, X, F: Fn(&T) -> X>(item: &T, f: &F) -> X
     requires { Accepts F.Fn f.now }
-    ensures { Gives F.Fn f.now item.now result }
+    ensures { FnReturnsAt F.Fn f.now item.now result }
 {
     f(item)
 }
@@ -27,10 +29,9 @@ fn share<T, X: Drop, F: Fn(&T) -> X>(
     next: &AtomicUsize,
     items: &[T],
     f: &F,
-) -> Result<Done<X>, AllocError>
+) -> Share<X>
     requires { Accepts F.Fn f.now }
-    ensures { IfOk result (λ done.
-        AllByRecursion (IsDone (Gives F.Fn f.now) items.now) done.items) }
+    ensures { IfOk result (λ done. AreDone (FnReturnsAt F.Fn f.now) items.now done.items) }
 {
     let mut done = Vec::new(alloc);
     for _ in 0..items.len() {
@@ -43,38 +44,25 @@ fn share<T, X: Drop, F: Fn(&T) -> X>(
     Ok(done)
 }
 
-/// Calls `f` at items in so many threads, of which the one that calls is the last.
-#[cycle(shares)]
+/// Calls `f` at items in so many threads, which take them one by one.
 pub fn share_all<R: Threads + Sync, T: Sync, X: Send + Drop, F: Fn(&T) -> X + Sync>(
     rt: &R,
     alloc: Global,
-    next: &AtomicUsize,
     items: &[T],
     f: &F,
     threads: usize,
-) -> Result<Done<X>, AllocError>
+) -> Result<Vec<Share<X>>, AllocError>
     requires { Accepts F.Fn f.now }
-    ensures { IfOk result (λ done.
-        AllByRecursion (IsDone (Gives F.Fn f.now) items.now) done.items) }
+    ensures { IfOk result (λ shares. AreShares (FnReturnsAt F.Fn f.now) items.now shares.items) }
 {
-    if threads < 2 {
-        return share(alloc, next, items, f);
-    }
-    let fewer = threads - 1;
-    let one = move || -> Result<Done<X>, AllocError>
-        requires { Accepts F.Fn f.now }
-        ensures { IfOk result (λ done.
-            AllByRecursion (IsDone (Gives F.Fn f.entry.now) items.entry.now) done.items) }
-    { share(alloc, next, items, f) };
-    let others = move || -> Result<Done<X>, AllocError>
-        requires { IsSync R.row × IsSync F.row × IsSync T.row × IsSend X.row
-            × Accepts F.Fn f.now }
-        ensures { IfOk result (λ done.
-            AllByRecursion (IsDone (Gives F.Fn f.entry.now) items.entry.now) done.items) }
-    { share_all(rt, alloc, next, items, f, fewer) };
-    let (first, more) = thread::join(rt, one, others);
-    let mut done = first?;
-    let mut more = more?;
-    done.append(&mut more)?;
-    Ok(done)
+    let next = AtomicUsize::new(0);
+    thread::map_indices(
+        rt,
+        alloc,
+        threads,
+        &|_: usize| -> Share<X>
+            requires { Accepts F.Fn f.now }
+            ensures { IfOk result (λ done. AreDone (FnReturnsAt F.Fn f.entry.now) items.entry.now done.items) }
+        { share(alloc, &next, items, f) },
+    )
 }

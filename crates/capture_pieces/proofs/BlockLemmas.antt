@@ -1,5 +1,5 @@
 -- What the lines of blocks say is what those of all their octets say.
-use Rattle.std.proofs.Common.{◌≡◌, ◌⊎◌, ℕ, ◌+◌, ◌≤◌, List, [], ◌∷◌, ◌++◌, length, map, Bool, true, false, cond, not, Option, Some, None, Result, Ok, Err, refl, sym, ap, subst, ◌∙◌, arith, append-nil, length-append, length-drop, take, drop, slice_index_or, inl, inr}
+use Rattle.std.proofs.Common.{◌≡◌, ◌⊎◌, ℕ, ◌+◌, ◌≤◌, List, [], ◌∷◌, ◌++◌, length, map, Bool, true, false, cond, not, Option, Some, None, Result, Ok, Err, refl, sym, ap, subst, ◌∙◌, arith, append-nil, length-append, length-drop, take, drop, inl, inr}
 use Rattle.std.proofs.lemmas.List.{map-append}
 use Rattle.std.specs.List.{AllByRecursion}
 use Rattle.bstr.specs.Text.{lines_of as pieces_of, without_terminator}
@@ -18,7 +18,7 @@ use Rattle.capture_form.specs.declared.progress.Progress.{Progress}
 use Rattle.capture_form.specs.declared.reading.Reading.{Reading}
 use Rattle.capture_form.proofs.LengthLemmas.{length-lines}
 use Rattle.capture_form.proofs.ReadLemmas.{lines-append as taken-append}
-use Rattle.block_threads.specs.Blocks.{OfEach}
+use Rattle.block_threads.specs.Items.{Beside}
 use Rattle.capture_pieces.specs.Inner.Feeds.{EndsLine}
 use Rattle.capture_pieces.specs.Inner.Blocks.{AreCut, Block, IsBlock, IsOfOctets, SayOctets, lines_in, lines_of}
 
@@ -174,12 +174,10 @@ module _ {B : Type 0} (now : B → List ℕ) where
 
   -- what is read of blocks that were cut is what the octets say
   pub say-each : (head : Head) {is_of : B → Block → Type 0} (octets : List ℕ) (cut : List B) (said : List Block)
-      → AreCut now octets cut → OfEach is_of cut said → ((b : B) (x : Block) → is_of b x → IsOfOctets head (now b) x) → SayOctets head octets said
-  unfolding AreCut OfEach
+      → AreCut now octets cut → Beside is_of cut said → ((b : B) (x : Block) → is_of b x → IsOfOctets head (now b) x) → SayOctets head octets said
+  unfolding AreCut
   say-each head octets [] [] none each same = say-none head octets (ap length none)
-  say-each head octets (b ∷ bs) [] parts each same = absurd (cc)
-  say-each head octets [] (x ∷ xs) none (first, others, parted, here, more) same = absurd (cc)
-  say-each head {is_of} octets (b ∷ bs) (x ∷ xs) (rest, whole, ends, behind) (first, others, parted, here, more) same =
-      let e : first ≡ b = sym (ap (λ l. slice_index_or l 0 b) parted) in
-      let r : others ≡ bs = sym (ap (λ l. drop 1 l) parted) in
-      say-more head octets (now b) rest x xs whole ends (same b x (subst (λ c. is_of c x) e here)) (say-each head rest bs xs behind (subst (λ l. OfEach is_of l xs) r more) same)
+  say-each head octets (b ∷ bs) [] parts each same = absurd each
+  say-each head octets [] (x ∷ xs) none each same = absurd each
+  say-each head octets (b ∷ bs) (x ∷ xs) (rest, whole, ends, behind) (here, more) same =
+      say-more head octets (now b) rest x xs whole ends (same b x here) (say-each head rest bs xs behind more same)

@@ -1,18 +1,19 @@
 -- What a sink holds of texts that are written one after the other.
-use Rattle.std.proofs.Common.{◌≡◌, ℕ, ◌+◌, ◌*◌, ◌<◌, List, [], ◌∷◌, get_or, codes, append_assoc, append-nil, ◌++◌, Result, Ok, Err, OnOk, OnErr, sym, ◌∙◌, ap, subst, min, length, take, drop, arith, rules, refl}
-use Rattle.std.proofs.lemmas.List.{take_min, take-append-le, take-append-drop, drop-drop, at_drop_more}
+use Rattle.std.proofs.Common.{◌≡◌, ℕ, ◌+◌, ◌<◌, List, [], ◌∷◌, get_or, codes, append_assoc, append-nil, ◌++◌, Result, Ok, Err, OnOk, OnErr, sym, ◌∙◌, ap, subst, min, length, take, drop, arith, rules, refl}
+use Rattle.std.proofs.lemmas.List.{take_min, take-append-le, at_drop_more}
 use Rattle.std.proofs.lemmas.List.Concat.{flat_map-append}
-use native.Mathlib.Nat.{add-mul, one-mul}
 use Rattle.std.proofs.Math.Seq.{take-append-add}
 use Rattle.std.proofs.KnownBytes.{Appends-nil, Appends-trans}
 use Rattle.std.specs.Prelude.{Option}
 use Rattle.std.specs.Io.KnownBytes.{Appends}
 use Rattle.relay_base.specs.Causes.{Rose}
 use Rattle.relay_base.specs.Streams.{AppendedPart}
-use Rattle.std.specs.Fmt.{decimal}
 use Rattle.std.specs.List.{flat_map}
 use Rattle.plant_core.specs.declared.entry.Entry.{Entry}
-use Rattle.journal_text.specs.Print.{entries_text, lanes_text}
+use Rattle.journal_text.specs.Print.{book_text, controls_text, entries_text, lanes_text}
+use Rattle.journal_text.specs.declared.book.Book.{Book}
+use Rattle.journal_text.specs.declared.pieces.Piece.{Piece}
+use Rattle.journal_text.specs.Inner.Pieces.{above_text, all_lanes_text, piece_text, pieces_text}
 use Rattle.journal_text.specs.declared.writing.WriteFault.{WriteFault}
 use Rattle.journal_text.specs.declared.writing.WriteFault.TheVariants as write_fault
 use Rattle.journal_text.specs.Inner.Writing.{Carried, Carries, Writes}
@@ -78,17 +79,6 @@ pub Carries-written : {T : Type 0} (a b : Option (List ℕ)) (f g : ℕ) (text :
 Carries-written a b f g text (Ok x) p = record { ok = record { written = text; went = p.ok; kept = p.kept (search rules); same = append-nil text }; err = tt; fault = p.fault; kept = p.kept }
 Carries-written a b f g text (Err e) p = record { ok = tt; err = p.err; fault = p.fault; kept = p.kept }
 
--- the entries that are left, by the print of a block of them
-pub blocks-left : {X : Type 0} (print : X → List ℕ) (entries : List X) (size n : ℕ) (block : List ℕ) → block ≡ flat_map print (take size (drop (n * size) entries))
-    → flat_map print (drop (n * size) entries) ≡ block ++ flat_map print (drop ((n + 1) * size) entries)
-blocks-left print entries size n block is =
-    let left = drop (n * size) entries in
-    ap (flat_map print) (sym (take-append-drop size left))
-    ∙ flat_map-append print (take size left) (drop size left)
-    ∙ ap (λ l. l ++ flat_map print (drop size left)) (sym is)
-    ∙ ap (λ l. block ++ flat_map print l) (drop-drop size (n * size) entries)
-    ∙ ap (λ k. block ++ flat_map print (drop k entries)) (sym (add-mul n 1 size ∙ ap (λ k. n * size + k) (one-mul size)))
-
 -- the entries that are left, by the first window of them
 pub window-left : {X : Type 0} (print : X → List ℕ) (entries window more : List X) (text : List ℕ) → entries ≡ window ++ more
     → text ++ flat_map print entries ≡ (text ++ flat_map print window) ++ flat_map print more
@@ -97,25 +87,32 @@ window-left print entries window more text is =
     ∙ ap (λ l. text ++ l) (flat_map-append print window more)
     ∙ sym (append_assoc text (flat_map print window) (flat_map print more))
 
+-- another piece, and what is to come behind it
+pub pieces-push : (pieces : List Piece) (piece : Piece) (text more : List ℕ) → piece_text piece ≡ text → pieces_text (pieces ++ piece ∷ []) ++ more ≡ (pieces_text pieces ++ text) ++ more
+pieces-push pieces piece text more is =
+    ap (λ l. l ++ more) (flat_map-append piece_text pieces (piece ∷ []) ∙ ap (λ l. pieces_text pieces ++ l) (append-nil (piece_text piece) ∙ is))
+
+-- the line above the lanes, and behind it their print
+pub book-parts : (book : Book) → codes "= control\n" ++ all_lanes_text book ≡ book_text book
+book-parts book =
+    let above = codes "= control\n" in
+    let control = controls_text book.control in
+    let conns = lanes_text (codes "conn") 0 book.conns in
+    let units = lanes_text (codes "data") 0 book.units in
+    sym (append_assoc above (control ++ conns) units) ∙ ap (λ l. l ++ units) (sym (append_assoc above control conns))
+
 -- the lanes that are left, by the first of them, whose line joined the text
 pub lanes-left : (name : List ℕ) (lanes : List (List Entry)) (n : ℕ) (lane entries : List Entry) (text now : List ℕ) → n < length lanes → lane ≡ get_or lanes n lane → entries ≡ lane
-    → now ≡ text ++ (codes "= " ++ name ++ codes " " ++ decimal n ++ codes "\n")
+    → now ≡ text ++ above_text name n
     → text ++ lanes_text name n (drop n lanes) ≡ (now ++ entries_text entries) ++ lanes_text name (n + 1) (drop (n + 1) lanes)
 lanes-left name lanes n lane entries text now within is same joined =
     let more = lanes_text name (n + 1) (drop (n + 1) lanes) in
-    let head = codes "= " ++ name ++ codes " " ++ decimal n ++ codes "\n" in
+    let head = above_text name n in
     let first = at_drop_more (lanes_text name n) lanes n lane within ∙ ap (λ (l : List Entry). lanes_text name n (l ∷ drop (n + 1) lanes)) (sym (same ∙ is)) in
     ap (λ l. text ++ l) first
     ∙ sym (append_assoc text (head ++ entries_text entries) more)
     ∙ ap (λ l. l ++ more) (sym (append_assoc text head (entries_text entries)))
     ∙ ap (λ l. (l ++ entries_text entries) ++ more) (sym joined)
-
--- the first texts were carried, and two more are to come
-pub Carried-first : (a b : Option (List ℕ)) (f g : ℕ) (first now more last whole : List ℕ) → first ++ (more ++ last) ≡ whole → Carried a b f g first now
-    → Carried a b f g whole ((now ++ more) ++ last)
-Carried-first a b f g first now more last whole is p =
-    subst (Carried a b f g whole) (sym (append_assoc now more last))
-    (Carried-then a a b f f g whole first (more ++ last) now (subst (Carried a a f f whole) (sym is) (Carried-nil a f whole)) p)
 
 -- the last text was carried
 pub Carried-last : (a b c : Option (List ℕ)) (f g h : ℕ) (text waits now : List ℕ) → Carried a b f g text waits → Carried b c g h waits now → Carried a c f h text now

@@ -1,14 +1,13 @@
 //! The journals of a run, and their print.
-ghost use Rattle.std.specs.Prelude.{◌≡◌, IfOk, OnOk, IsTrue, ◌↔◌};
+ghost use Rattle.std.specs.Prelude.{◌≡◌, IfOk, IsTrue, ◌↔◌};
 ghost use Rattle.journal_text.specs.Print.{book_text};
 ghost use Rattle.journal_text.specs.Book.{IsEmpty};
-ghost use Rattle.journal_text.specs.Inner.Writing.{with_lanes};
 
-use crate::entries::{put_entries, put_lanes};
+use crate::pieces::{pieces_of, put_pieces};
 use crate::text::Text;
 use plant_core::{ControlList, EntryList, JournalList};
 use relay_base::{Memory, Octets};
-use std::alloc::{AllocError, Global};
+use std::alloc::Global;
 
 /// The journals of the control lane, the connection lanes and the data lanes.
 #[derive(Drop)]
@@ -38,15 +37,6 @@ impl Book {
     }
 }
 
-/// Appends the print of all lanes.
-fn put_book(text: &mut Text, book: &Book) -> Result<(), AllocError>
-    ensures { OnOk result (text.new ≡ with_lanes text.old book.now) }
-{
-    put_entries(text, book.control.as_slice())?;
-    put_lanes(text, "conn", book.conns.as_slice())?;
-    put_lanes(text, "data", book.units.as_slice())
-}
-
 /// The print of a book, in memory.
 ///
 /// A run writes its print by [`crate::write_book`] instead, so that a long one does not stand in memory whole; this is for callers
@@ -55,6 +45,6 @@ pub fn print_book(alloc: Global, book: &Book) -> Result<Octets, Memory>
     ensures { IfOk result (λ o. o ≡ book_text book.now) }
 {
     let mut text = Text::of(alloc, "= control\n")?;
-    put_book(&mut text, book)?;
+    put_pieces(&mut text, pieces_of(alloc, book)?.as_slice())?;
     Ok(text.into_octets())
 }

@@ -1,22 +1,22 @@
 //! The print of the entries of a journal.
-ghost use Rattle.std.specs.Prelude.{◌≡◌, ◌++◌, codes, IfOk};
-ghost use Rattle.std.specs.Fmt.{decimal};
+ghost use Rattle.std.specs.Prelude.{◌≡◌, ◌++◌, codes};
 ghost use Rattle.std.specs.List.{flat_map};
+ghost use Rattle.journal_text.specs.Inner.Pieces.{above_text};
 ghost use Rattle.journal_text.specs.Inner.Texts.{Puts};
-ghost use Rattle.journal_text.specs.Print.{cause_text, answer_text, asked_text, published_text, stamp_text, outs_text, lanes_text};
+ghost use Rattle.journal_text.specs.Print.{cause_text, answer_text, asked_text, published_text, stamp_text, outs_text};
 
+use crate::pieces::Piece;
 use crate::tell::{put_number, put_output, put_words};
 use crate::text::Text;
-use plant_core::{Answer, Asked, ControlEntry, Entry, EntryList, RouteCause};
+use plant_core::{Answer, Asked, ControlEntry, Entry, RouteCause};
 use relay_base::{Output, Stamp};
-use std::alloc::{AllocError, Global};
-
-/// For how many octets of text an entry is given memory: a message of a hundred octets takes as many.
-const ENTRY_OCTETS: usize = 256;
+use std::alloc::AllocError;
 
 /// An entry of a journal, which has a print.
-pub(crate) trait Printed {
+pub(crate) trait Printed: Sized {
     ghost use Rattle.std.specs.Prelude.{◌≡◌, ℕ, List, ◌++◌, OnOk};
+    ghost use Rattle.std.specs.List.{flat_map};
+    ghost use Rattle.journal_text.specs.Inner.Pieces.{piece_text};
 
     /// The print of an entry.
     ghost print: { Self → List ℕ };
@@ -24,6 +24,10 @@ pub(crate) trait Printed {
     /// Appends the print.
     fn put(&self, text: &mut Text) -> Result<(), AllocError>
         ensures { OnOk result (text.new ≡ text.old ++ print self.now) };
+
+    /// The piece that entries are.
+    fn piece(entries: &[Self]) -> Piece<'_>
+        ensures { piece_text result ≡ flat_map print entries.now };
 }
 
 fn cause_text(cause: RouteCause) -> &'static str
@@ -103,6 +107,10 @@ impl Printed for Entry {
         text.put("\n")?;
         put_outs(text, self.outs.as_slice())
     }
+
+    fn piece(entries: &[Entry]) -> Piece<'_> {
+        Piece::Lane(entries)
+    }
 }
 
 impl Printed for ControlEntry {
@@ -116,6 +124,10 @@ impl Printed for ControlEntry {
         text.put("\n")?;
         put_outs(text, self.outs.as_slice())
     }
+
+    fn piece(entries: &[ControlEntry]) -> Piece<'_> {
+        Piece::Control(entries)
+    }
 }
 
 /// Appends the print of entries.
@@ -128,33 +140,11 @@ pub(crate) fn put_entries<P: Printed>(text: &mut Text, entries: &[P]) -> Result<
     Ok(())
 }
 
-/// The print of entries, as a text of its own, whose memory is taken at once: while a text grows the other threads wait for the kernel.
-pub(crate) fn print_entries<P: Printed>(alloc: Global, entries: &[P]) -> Result<Text, AllocError>
-    ensures { IfOk result (λ text. text ≡ flat_map P.print entries.now) }
-{
-    let octets = entries.len().saturating_mul(ENTRY_OCTETS);
-    let mut text = Text::with_capacity(alloc, octets)?;
-    put_entries(&mut text, entries)?;
-    Ok(text)
-}
-
 /// Appends the line above a lane.
 pub(crate) fn put_lane(text: &mut Text, name: &str, number: usize) -> Result<(), AllocError>
-    ensures { let line = codes "= " ++ name.now ++ codes " " ++ decimal number ++ codes "\n" in
-        Puts result text.old text.new line }
+    ensures { Puts result text.old text.new (above_text name.now number) }
 {
     text.put("=")?;
     put_number(text, name, number)?;
     text.put("\n")
-}
-
-/// Appends the print of lanes.
-pub(crate) fn put_lanes(text: &mut Text, name: &str, lanes: &[EntryList]) -> Result<(), AllocError>
-    ensures { Puts result text.old text.new (lanes_text name.now 0 lanes.now) }
-{
-    for (number, lane) in lanes.iter().enumerate() {
-        put_lane(text, name, number)?;
-        put_entries(text, lane.as_slice())?;
-    }
-    Ok(())
 }

@@ -3,6 +3,7 @@
 
 mod book;
 mod entries;
+mod pieces;
 mod tell;
 mod text;
 mod writing;

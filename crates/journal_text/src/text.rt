@@ -76,6 +76,13 @@ impl Text {
         self.waiting.extend_from_slice(text.as_bytes())
     }
 
+    /// Appends another text.
+    pub(crate) fn append(&mut self, other: &Text) -> Result<(), AllocError>
+        ensures { Puts result self.old self.new other.now }
+    {
+        self.waiting.extend_from_slice(other.as_slice())
+    }
+
     /// Appends the digits of a number.
     pub fn digits<I: Integer>(&mut self, number: I) -> Result<(), AllocError>
         ensures { Puts result self.old self.new (I.text number) }

@@ -1,17 +1,16 @@
 //! The print of a book, written to a sink, a long one in parts.
 ghost use Rattle.std.specs.Prelude.{◌≡◌, ◌≢◌, ℕ, List, [], Err, IfOk, OnOk, OnErr};
-ghost use Rattle.std.specs.List.{flat_map};
 ghost use Rattle.std.specs.Io.KnownBytes.{Appends};
 ghost use Rattle.relay_base.specs.Causes.{Rose};
 ghost use Rattle.relay_base.specs.Streams.{AppendedPart};
-ghost use Rattle.journal_text.specs.Print.{lanes_text, book_text};
-ghost use Rattle.journal_text.specs.Inner.Writing.{Writes, CarriesTo, Joins, with_lanes};
+ghost use Rattle.journal_text.specs.Print.{book_text};
+ghost use Rattle.journal_text.specs.Inner.Pieces.{piece_text, pieces_text};
+ghost use Rattle.journal_text.specs.Inner.Writing.{Writes, CarriesTo, Joins};
 
 use crate::book::Book;
-use crate::entries::{Printed, print_entries, put_entries, put_lane};
+use crate::pieces::{Piece, count_entries, pieces_of, put_pieces};
 use crate::text::Text;
-use block_threads::map_blocks;
-use plant_core::EntryList;
+use block_threads::map_each;
 use relay_base::{Failed, Memory, Sink, write_all};
 use std::alloc::{AllocError, Global};
 use std::thread::Threads;
@@ -19,14 +18,14 @@ use std::thread::Threads;
 /// How many octets wait in memory before they are written.
 const LONG: usize = 65_536;
 
-/// How many entries of a lane are printed at a time.
-const WINDOW: usize = 32_768;
+/// How many pieces are printed at a time.
+const WINDOW: usize = 128;
 
-/// Into how many blocks they are cut at most: threads take them one by one.
-const BLOCKS: usize = 32;
-
-/// How many entries are too few to be cut into blocks.
+/// How many entries are too few to be printed in threads.
 const FEW: usize = 256;
+
+/// How many octets are too few to be written on their own.
+const SHORT: usize = 4_096;
 
 /// Why a print was not written to its end: the sink failed, or memory ran out.
 #[derive(Clone, Copy)]
@@ -85,111 +84,84 @@ pub fn write_if_long<K: Sink>(out: &mut K, text: &mut Text) -> Result<(), WriteF
     Ok(())
 }
 
-/// Writes the print of a block, where there was memory for it.
-fn write_block<K: Sink>(out: &mut K, print: Result<Text, AllocError>) -> Result<(), WriteFault>
-    ensures { (block : List ℕ) → IfOk print (λ text. text ≡ block) →
-        CarriesTo K.held K.faults out.old out.new block [] result }
-{
-    write_text(out, &print?)
-}
-
-/// Writes the print of entries, in blocks. Each is printed into a text of its own, in threads where they can be made, and the texts are
-/// written in order.
-fn write_blocks<R: Threads + Sync, K: Sink, P: Printed + Sync>(
-    rt: &R,
-    alloc: Global,
-    out: &mut K,
-    entries: &[P],
-) -> Result<(), WriteFault>
-    ensures { CarriesTo K.held K.faults out.old out.new (flat_map P.print entries.now) [] result }
-{
-    let size = entries.len().div_ceil(BLOCKS).max(FEW);
-    let prints = map_blocks(
-        rt,
-        alloc,
-        entries,
-        size,
-        &|block: &[P]| -> Result<Text, AllocError>
-            ensures { IfOk result (λ text. text ≡ flat_map P.print block.now) }
-        { print_entries(alloc, block) },
-    )?;
-    for print in prints {
-        write_block(out, print)?;
-    }
-    Ok(())
-}
-
-/// The print of few entries joins the text that waits; that of many is written behind it.
-fn carry_window<R: Threads + Sync, K: Sink, P: Printed + Sync>(
-    rt: &R,
-    alloc: Global,
+/// The print of a piece joins the text that waits, or is written behind it.
+fn carry_print<K: Sink>(
     out: &mut K,
     text: &mut Text,
-    entries: &[P],
+    print: Result<Text, AllocError>,
 ) -> Result<(), WriteFault>
-    ensures { Joins K.held K.faults out.old out.new text.old text.new (flat_map P.print entries.now) result }
+    ensures { (piece : List ℕ) → IfOk print (λ text. text ≡ piece) →
+        Joins K.held K.faults out.old out.new text.old text.new piece result }
 {
-    if entries.len() <= FEW {
-        put_entries(text, entries)?;
+    let print = print?;
+    if print.len() < SHORT {
+        text.append(&print)?;
         return write_if_long(out, text);
     }
     write_text(out, text)?;
     text.clear();
-    write_blocks(rt, alloc, out, entries)
+    write_text(out, &print)
 }
 
-/// The print of entries joins the text that waits, a window of them after the other.
-fn carry_entries<R: Threads + Sync, K: Sink, P: Printed + Sync>(
+/// The print of pieces joins the text that waits. Each is printed into a text of its own, in threads where they can be made.
+fn carry_in_threads<R: Threads + Sync, K: Sink>(
     rt: &R,
     alloc: Global,
     out: &mut K,
     text: &mut Text,
-    entries: &[P],
+    pieces: &[Piece<'_>],
 ) -> Result<(), WriteFault>
-    ensures { Joins K.held K.faults out.old out.new text.old text.new (flat_map P.print entries.now) result }
+    ensures { Joins K.held K.faults out.old out.new text.old text.new (pieces_text pieces.now) result }
 {
-    for window in entries.chunks(WINDOW) {
+    let prints = map_each(
+        rt,
+        alloc,
+        pieces,
+        &|piece: &Piece<'_>| -> Result<Text, AllocError>
+            ensures { IfOk result (λ text. text ≡ piece_text piece.now) }
+        { piece.print(alloc) },
+    )?;
+    for print in prints {
+        carry_print(out, text, print)?;
+    }
+    Ok(())
+}
+
+/// The print of some pieces joins the text that waits.
+fn carry_window<R: Threads + Sync, K: Sink>(
+    rt: &R,
+    alloc: Global,
+    out: &mut K,
+    text: &mut Text,
+    pieces: &[Piece<'_>],
+) -> Result<(), WriteFault>
+    ensures { Joins K.held K.faults out.old out.new text.old text.new (pieces_text pieces.now) result }
+{
+    if count_entries(pieces) <= FEW {
+        put_pieces(text, pieces)?;
+        return write_if_long(out, text);
+    }
+    carry_in_threads(rt, alloc, out, text, pieces)
+}
+
+/// The print of pieces joins the text that waits, a window of them after the other.
+fn carry_pieces<R: Threads + Sync, K: Sink>(
+    rt: &R,
+    alloc: Global,
+    out: &mut K,
+    text: &mut Text,
+    pieces: &[Piece<'_>],
+) -> Result<(), WriteFault>
+    ensures { Joins K.held K.faults out.old out.new text.old text.new (pieces_text pieces.now) result }
+{
+    for window in pieces.chunks(WINDOW) {
         carry_window(rt, alloc, out, text, window)?;
     }
     Ok(())
 }
 
-/// The print of lanes joins the text that waits.
-fn carry_lanes<R: Threads + Sync, K: Sink>(
-    rt: &R,
-    alloc: Global,
-    out: &mut K,
-    text: &mut Text,
-    name: &str,
-    lanes: &[EntryList],
-) -> Result<(), WriteFault>
-    ensures { let print = lanes_text name.now 0 lanes.now in
-        Joins K.held K.faults out.old out.new text.old text.new print result }
-{
-    for (number, lane) in lanes.iter().enumerate() {
-        put_lane(text, name, number)?;
-        carry_entries(rt, alloc, out, text, lane.as_slice())?;
-    }
-    Ok(())
-}
-
-/// The print of all lanes joins the text that waits.
-fn carry_book<R: Threads + Sync, K: Sink>(
-    rt: &R,
-    alloc: Global,
-    out: &mut K,
-    text: &mut Text,
-    book: &Book,
-) -> Result<(), WriteFault>
-    ensures { CarriesTo K.held K.faults out.old out.new (with_lanes text.old book.now) text.new result }
-{
-    carry_entries(rt, alloc, out, text, book.control.as_slice())?;
-    carry_lanes(rt, alloc, out, text, "conn", book.conns.as_slice())?;
-    carry_lanes(rt, alloc, out, text, "data", book.units.as_slice())
-}
-
-/// Writes the print of a book to a sink, in parts, so that a long one does not stand in memory whole. Many entries of a lane are printed
-/// in blocks, in threads where they can be made, and few join a text that is written as soon as 65,536 octets wait. After an error a
+/// Writes the print of a book to a sink, in parts, so that a long one does not stand in memory whole. Many entries are printed in
+/// pieces, in threads where they can be made, and few join a text that is written as soon as 65,536 octets wait. After an error a
 /// front of the print was written.
 pub fn write_book<R: Threads + Sync, K: Sink>(
     rt: &R,
@@ -204,6 +176,7 @@ pub fn write_book<R: Threads + Sync, K: Sink>(
     ensures kept { result ≢ Err WriteFault.Sink → K.faults out.new ≡ K.faults out.old }
 {
     let mut text = Text::of(alloc, "= control\n")?;
-    carry_book(rt, alloc, out, &mut text, book)?;
+    let pieces = pieces_of(alloc, book)?;
+    carry_pieces(rt, alloc, out, &mut text, pieces.as_slice())?;
     write_text(out, &text)
 }

@@ -17,7 +17,8 @@ use Rattle.link_threads.specs.Gates.{IsAtOpening, HasTaken}
 use Rattle.scmg.specs.Lane.{ControlState}
 use Rattle.conn_journal.specs.Lanes.{ConnLaneState}
 use Rattle.data_lane.specs.Legal.{LaneState}
-use Rattle.link_threads.specs.Pairs.{Beside, PairsFrom}
+use Rattle.block_threads.specs.Items.{Beside}
+use Rattle.link_threads.specs.Pairs.{PairsFrom}
 use Rattle.lane_seats.specs.Seats.{SeatState, WentOn, conn_seat, data_seat, data_seated}
 use Rattle.lane_seats.specs.Controls.{ControlSeatState}
 use Rattle.lane_seats.specs.Plans.{planned}
@@ -30,7 +31,7 @@ use Rattle.scmg.specs.Lane.{changes_of as changes_by}
 use Rattle.lane_turns.specs.LaneStates.{PhaseLane, Control, Conn, Data}
 use Rattle.lane_turns.specs.Turns.{Opening, TurnState, IsTurn, HasRoom, HasServed, opened_turn, plan_of, taken_of}
 use Rattle.lane_turns.specs.Rows.{turns_from, conn_turn, data_turn, control_lane, turns_of, IsPlaced, HasPlace, lanes_of, conn_of, data_of, EndInControl, AreApart}
-use Rattle.link_threads.proofs.BesideLemmas.{AreSplit, beside_split}
+use Rattle.block_threads.proofs.BesideLemmas.{AreSplit, beside_split}
 use Rattle.lane_turns.proofs.TurnLemmas.{taken_none, served_all}
 
 pub turns_push : {A : Type 0} (f : ℕ → A → TurnState) (n : ℕ) (xs : List A) (x : A) → turns_from f n (xs ++ x ∷ []) ≡ turns_from f n xs ++ f (n + length xs) x ∷ []

@@ -5,7 +5,7 @@ ghost use Rattle.capture_form.specs.Events.{phase_events};
 ghost use Rattle.lane_seats.specs.Controls.{IsOpen};
 ghost use Rattle.lane_seats.specs.Plans.{IsPhase};
 ghost use Rattle.link_threads.specs.Gates.{HasTaken, IsAtOpening};
-ghost use Rattle.link_threads.specs.Pairs.{Beside};
+ghost use Rattle.block_threads.specs.Items.{Beside};
 ghost use Rattle.link_threads.specs.Phases.{links_of};
 ghost use Rattle.lane_turns.specs.Phases.{GoesOn, HasRoomFor};
 ghost use Rattle.lane_turns.specs.Turns.{plan_of, taken_of};

@@ -13,10 +13,10 @@ use Rattle.lane_gate.specs.Passes.{done_of}
 use Rattle.lane_gate.proofs.PassLists.{each_there}
 use Rattle.right_book.specs.Lanes.{LanesFrom}
 use Rattle.link_threads.specs.declared.door.Door.{Door}
-use Rattle.link_threads.specs.Pairs.{Beside}
+use Rattle.block_threads.specs.Items.{Beside}
 use Rattle.link_threads.specs.Links.{Link, events_for}
 use Rattle.link_threads.specs.Gates.{Hand, GivesPass, GivePasses, IsDoorOf, HasUsed, HasUsedEach, AreUsed, AreUsedUp}
-use Rattle.link_threads.proofs.BesideLemmas.{beside_length, beside_pop}
+use Rattle.block_threads.proofs.BesideLemmas.{beside_length, beside_pop}
 use Rattle.link_threads.proofs.PairLemmas.{lanes-at}
 
 pub gives_size : (olds news : List Hand) (passes : List Pass) → GivePasses olds news passes → (length news ≡ length olds) × (length passes ≡ length olds)

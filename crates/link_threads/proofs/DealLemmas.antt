@@ -12,10 +12,11 @@ use Rattle.lane_gate.specs.Plan.{Plan}
 use Rattle.right_book.specs.Lanes.{LanesFrom}
 use Rattle.link_threads.specs.declared.lane_name.LaneName.{LaneName}
 use Rattle.link_threads.specs.declared.door.Door.{Door}
-use Rattle.link_threads.specs.Pairs.{Beside, PairsFrom}
+use Rattle.block_threads.specs.Items.{Beside}
+use Rattle.link_threads.specs.Pairs.{PairsFrom}
 use Rattle.link_threads.specs.Links.{Link, planned_for}
 use Rattle.link_threads.specs.Gates.{Hand, IsAtOpening, IsDoorOf, IsNewPass, AreNew, AreDealt, GetsPass, IsDealt, HasNewOfEach}
-use Rattle.link_threads.proofs.BesideLemmas.{beside_push}
+use Rattle.block_threads.proofs.BesideLemmas.{beside_push}
 use Rattle.link_threads.proofs.PairLemmas.{pairs-by, pairs-length, pairs-lanes}
 
 get_left : {A : Type 0} (l m : List A) (k : ℕ) (x : A) → slice_get l k ≡ Some x → slice_get (l ++ m) k ≡ Some x

@@ -14,10 +14,10 @@ use Rattle.lane_gate.specs.Passes.{done_of, IsSamePass}
 use Rattle.lane_gate.specs.Plan.{Plan, IsNext}
 use Rattle.link_threads.specs.declared.lane_name.LaneName.{LaneName}
 use Rattle.link_threads.specs.declared.door.Door.{Door}
-use Rattle.link_threads.specs.Pairs.{Beside}
+use Rattle.block_threads.specs.Items.{Beside}
 use Rattle.link_threads.specs.Links.{Arrival, Link, IsStamped, is_in, events_for}
 use Rattle.link_threads.specs.Gates.{HasFed}
-use Rattle.link_threads.proofs.BesideLemmas.{beside_length, beside_at, beside_from}
+use Rattle.block_threads.proofs.BesideLemmas.{beside_length, beside_at, beside_from}
 
 take_one_more : {A : Type 0} (l : List A) (n : ℕ) (x : A) → slice_get l n ≡ Some x → take (suc n) l ≡ take n l ++ x ∷ []
 take_one_more [] n x e = absurd (cc)

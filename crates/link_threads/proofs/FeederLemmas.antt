@@ -7,10 +7,11 @@ use Rattle.lane_gate.specs.declared.pass.Pass.{Pass}
 use Rattle.lane_gate.specs.Plan.{Plan}
 use Rattle.right_book.specs.Lanes.{LanesFrom}
 use Rattle.link_threads.specs.declared.door.Door.{Door}
-use Rattle.link_threads.specs.Pairs.{Beside, PairsFrom}
+use Rattle.block_threads.specs.Items.{Beside}
+use Rattle.link_threads.specs.Pairs.{PairsFrom}
 use Rattle.link_threads.specs.Links.{Link, IsStamped, events_for, link_at}
 use Rattle.link_threads.specs.Gates.{Hand, IsDoorOf, IsNewPass, HasNewOfEach, AreDealt, HasFed, FeederState, IsReady, HasRun, IsFeederOf, HasUsed, HasUsedEach, AreUsed}
-use Rattle.link_threads.proofs.BesideLemmas.{beside_length, beside_weaker}
+use Rattle.block_threads.proofs.BesideLemmas.{beside_length, beside_weaker}
 use Rattle.link_threads.proofs.PairLemmas.{pairs-length, lanes-at}
 
 -- what is said of each of the first list, and of each two

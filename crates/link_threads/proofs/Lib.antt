@@ -1,5 +1,4 @@
 pub mod PairLemmas
-pub mod BesideLemmas
 pub mod DealLemmas
 pub mod FeedLemmas
 pub mod FeederLemmas

@@ -10,7 +10,7 @@ use Rattle.lane_gate.specs.Plan.{Plan}
 use Rattle.right_book.specs.Lanes.{LanesFrom}
 use Rattle.link_threads.specs.declared.lane_name.LaneName.{LaneName}
 use Rattle.link_threads.specs.declared.door.Door.{Door}
-use Rattle.link_threads.specs.Pairs.{Beside}
+use Rattle.block_threads.specs.Items.{Beside}
 use Rattle.link_threads.specs.Links.{Link, IsStamped, events_for, link_at, planned_for}
 
 -- passes that one thread holds, one of each gate

@@ -1,7 +1,7 @@
 //! Lanes are taken out of their gates.
 ghost use Rattle.std.specs.Prelude.{IfOk};
 ghost use Rattle.lane_gate.specs.Gates.{origin_of};
-ghost use Rattle.link_threads.specs.Pairs.{Beside};
+ghost use Rattle.block_threads.specs.Items.{Beside};
 ghost use Rattle.link_threads.specs.Gates.{AreUsed, AreUsedUp, HasTaken};
 
 use crate::dealing::take_back;

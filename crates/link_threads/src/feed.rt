@@ -1,6 +1,6 @@
 //! The events of a link are delivered.
 ghost use Rattle.std.specs.Prelude.{◌≡◌, ◌+◌, ◌<◌, length, slice_index_or, OnOk};
-ghost use Rattle.link_threads.specs.Pairs.{Beside};
+ghost use Rattle.block_threads.specs.Items.{Beside};
 ghost use Rattle.link_threads.specs.Links.{IsStamped, link_at};
 ghost use Rattle.link_threads.specs.Gates.{HasFed};
 

@@ -3,7 +3,8 @@ ghost use Rattle.std.specs.Prelude.{◌≡◌, ◌<◌, ◌≤◌, true, length,
 ghost use Rattle.std.specs.Thread.{IsSync};
 ghost use Rattle.right_book.specs.Lanes.{LanesFrom};
 ghost use Rattle.lane_gate.specs.declared.gate.TheConstants.{MOST_CALLERS};
-ghost use Rattle.link_threads.specs.Pairs.{Beside, PairsFrom};
+ghost use Rattle.block_threads.specs.Items.{Beside};
+ghost use Rattle.link_threads.specs.Pairs.{PairsFrom};
 ghost use Rattle.link_threads.specs.Links.{IsStamped};
 ghost use Rattle.link_threads.specs.Gates.{AreDealt, AreUsed, HasRun, IsFeederOf, IsReady};
 

@@ -2,7 +2,7 @@
 ghost use Rattle.std.specs.Prelude.{◌<◌, ◌≤◌, length, All, IfOk};
 ghost use Rattle.right_book.specs.Lanes.{LanesFrom};
 ghost use Rattle.lane_gate.specs.declared.gate.TheConstants.{MOST_CALLERS};
-ghost use Rattle.link_threads.specs.Pairs.{Beside};
+ghost use Rattle.block_threads.specs.Items.{Beside};
 ghost use Rattle.link_threads.specs.Links.{IsStamped};
 ghost use Rattle.link_threads.specs.Gates.{HasTaken, IsAtOpening};
 

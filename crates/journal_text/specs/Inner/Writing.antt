@@ -1,13 +1,11 @@
 -- What writing a text to a sink does.
-use Rattle.std.specs.Prelude.{◌≡◌, ◌≢◌, ◌++◌, ℕ, List, Option, Err, OnOk, OnErr, codes}
+use Rattle.std.specs.Prelude.{◌≡◌, ◌≢◌, ◌++◌, ℕ, List, Option, Err, OnOk, OnErr}
 use Rattle.std.specs.declared.result.Result.{Result}
 use Rattle.std.specs.Io.KnownBytes.{Appends}
 use Rattle.relay_base.specs.Causes.{Rose}
 use Rattle.relay_base.specs.Streams.{AppendedPart}
-use Rattle.journal_text.specs.declared.book.Book.{Book}
 use Rattle.journal_text.specs.declared.writing.WriteFault.{WriteFault}
 use Rattle.journal_text.specs.declared.writing.WriteFault.TheVariants as write_fault
-use Rattle.journal_text.specs.Print.{controls_text, lanes_text}
 
 -- a text was written, or a front of it where the sink failed or memory ran out; the fault is the sink's exactly where
 -- its count of failures rose
@@ -39,7 +37,3 @@ CarriesTo held faults old new text waits result = Carries (held old) (held new) 
 -- a print joined the text that waited, and so much of both still waits
 abbrev pub Joins : {S T : Type 0} → (S → Option (List ℕ)) → (S → ℕ) → S → S → List ℕ → List ℕ → List ℕ → Result T WriteFault → Type 0
 Joins held faults old new text waits print result = CarriesTo held faults old new (text ++ print) waits result
-
--- a text, and behind it the print of all lanes
-abbrev pub with_lanes : List ℕ → Book → List ℕ
-with_lanes text book = text ++ controls_text book.control ++ lanes_text (codes "conn") 0 book.conns ++ lanes_text (codes "data") 0 book.units

@@ -1,7 +1,7 @@
 use Rattle.std.proofs.Common.{Some, IfSome}
-use Rattle.block_threads.specs.Blocks.{Gives}
-use Rattle.block_threads.proofs.EachLemmas.{each-set}
+use Rattle.std.specs.Fn.{FnReturnsAt}
+use Rattle.block_threads.proofs.EachLemmas.{beside_set}
 use Rattle.block_threads.proofs.each.put_one.Goals as goal
 
 pub returns : goal.returns
-returns g c = each-set (λ item cell. IfSome cell (Gives g.F.Fn c.args._f.now item)) c.args._items.now c.args.cells.now c.args.number (Some c.args.x) c.requires.cells c.requires.done.1
+returns g c = beside_set (λ item cell. IfSome cell (FnReturnsAt g.F.Fn c.args._f.now item)) c.args._items.now c.args.cells.now c.args.number (Some c.args.x) c.requires.cells c.requires.done.1

@@ -1,5 +1,4 @@
 use Rattle.std.proofs.Common.{◌≡◌, subst, rules}
-use Rattle.block_threads.proofs.EachLemmas.{each-same}
 use Rattle.capture_pieces.specs.Inner.Blocks.{IsOfOctets}
 use Rattle.capture_pieces.specs.declared.whole.WholeLines.{WholeLines}
 use Rattle.capture_pieces.proofs.BlockLemmas.{say-each}
@@ -12,5 +11,5 @@ returns g c =
     let blocks = c.in_ok-blocks.blocks.items in
     let said = c.in_ok-said.said.items in
     let lent : c.as_slice.result.now ≡ blocks = search rules in
-    say-each (λ (b : WholeLines). b.octets.now) head octets blocks said c.in_ok-blocks.ensures (each-same _ c.as_slice.result.now blocks said lent c.in_ok-said.ensures)
-    (λ b x gives. subst (λ (l : WholeLines). IsOfOctets head l.octets.now x) gives.lent_is gives.call)
+    say-each (λ (b : WholeLines). b.octets.now) head octets blocks said c.in_ok-blocks.ensures (rw lent at c.in_ok-said.ensures)
+    (λ b x gives. subst (λ (l : WholeLines). IsOfOctets head l.octets.now x) gives.shows gives.says.met)

@@ -1,5 +1,5 @@
 use Rattle.std.proofs.Common.{List, All, Result, Ok, Err, IfOk, sym, subst}
-use Rattle.link_threads.specs.Pairs.{Beside}
+use Rattle.block_threads.specs.Items.{Beside}
 use Rattle.link_threads.specs.Phases.{links_of}
 use Rattle.link_threads.specs.Gates.{IsAtOpening, HasTaken}
 use Rattle.lane_turns.specs.Turns.{TurnState, plan_of, taken_of}

@@ -1,7 +1,7 @@
 use Rattle.std.proofs.Common.{◌<◌, List, length, drop, All, sym, ◌∙◌, subst}
 use Rattle.std.proofs.lemmas.List.{with_items_is}
 use Rattle.lane_gate.specs.Gates.{origin_of}
-use Rattle.link_threads.specs.Pairs.{Beside}
+use Rattle.block_threads.specs.Items.{Beside}
 use Rattle.link_threads.specs.Gates.{Hand, GivePasses, AreUsed, HasTaken}
 use Rattle.link_threads.proofs.CloseLemmas.{used_up, used_rest, some_left, closed_more}
 use Rattle.link_threads.proofs.closing.close_all.Goals as goal

@@ -1,6 +1,6 @@
 use Rattle.std.proofs.Common.{◌≡◌, length, take, drop, vec_len}
 use Rattle.lane_gate.specs.Gates.{origin_of}
-use Rattle.link_threads.specs.Pairs.{Beside}
+use Rattle.block_threads.specs.Items.{Beside}
 use Rattle.link_threads.specs.Gates.{AreUsed, HasTaken}
 use Rattle.link_threads.proofs.closing.close_all.Given as goal
 

@@ -1,4 +1,4 @@
-use Rattle.link_threads.specs.Pairs.{Beside}
+use Rattle.block_threads.specs.Items.{Beside}
 use Rattle.link_threads.specs.Links.{link_at}
 use Rattle.link_threads.specs.Gates.{HasFed}
 use Rattle.link_threads.proofs.feed.serve.Given as goal

@@ -1,6 +1,6 @@
 use Rattle.std.proofs.Common.{◌≡◌, true, map, All, Result, Ok, Err, IfOk, sym, ◌∙◌, ap, subst}
 use Rattle.std.proofs.lemmas.List.{with_items_is}
-use Rattle.link_threads.specs.Pairs.{Beside}
+use Rattle.block_threads.specs.Items.{Beside}
 use Rattle.link_threads.specs.Gates.{HasRun, IsReady}
 use Rattle.link_threads.proofs.FeederLemmas.{all_ready, are_used}
 use Rattle.link_threads.proofs.feeders.feed.Goals as goal

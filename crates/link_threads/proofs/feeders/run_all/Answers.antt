@@ -1,6 +1,6 @@
 use Rattle.std.proofs.Common.{get_or, subst}
 use Rattle.link_threads.specs.Gates.{FeederState, HasRun}
-use Rattle.link_threads.proofs.BesideLemmas.{beside_by}
+use Rattle.block_threads.proofs.BesideLemmas.{beside_by}
 use Rattle.link_threads.proofs.feeders.run_all.Goals as goal
 
 pub returns : goal.returns

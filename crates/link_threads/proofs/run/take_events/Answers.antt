@@ -1,8 +1,8 @@
 use Rattle.std.proofs.Common.{Result, Ok, Err, IfOk, subst}
 use Rattle.lane_gate.specs.Gates.{origin_of}
-use Rattle.link_threads.specs.Pairs.{Beside}
+use Rattle.block_threads.specs.Items.{Beside}
 use Rattle.link_threads.specs.Gates.{HasTaken}
-use Rattle.link_threads.proofs.BesideLemmas.{beside_map}
+use Rattle.block_threads.proofs.BesideLemmas.{beside_map}
 use Rattle.link_threads.proofs.run.take_events.Goals as goal
 
 -- what follows from a call's answer
