@@ -14,7 +14,7 @@ ghost use Rattle.capture_form.specs.Inner.Progress.{IsOfHead, octets_read};
 ghost use Rattle.capture_pieces.specs.Pieces.{States, TakesNone};
 ghost use Rattle.capture_pieces.specs.Inner.Feeds.{HasCome};
 ghost use Rattle.capture_pieces.specs.Inner.Blocks.{IsBlock, SayOctets, lines_in};
-ghost use Rattle.capture_pieces.specs.Inner.Reading.{IsFaulty, IsReadOn, IsReadTo, IsReadWhole, IsSmall, IsWaiting, IsWholeCapture, StepReads, Stops};
+ghost use Rattle.capture_pieces.specs.Inner.Reading.{FailsBy, IsFaulty, IsReadOn, IsReadTo, IsReadWhole, IsSmall, IsWaiting, IsWholeCapture, StepReads, Stops};
 
 use crate::blocks::{Block, block_size, read_blocks, take_blocks};
 use crate::fault::PieceFault;
@@ -43,10 +43,7 @@ fn begin<S: Source>(
     ensures links { IfOk result (λ t. IsOfHead t.0 t.1) }
     ensures addable { IfOk result (λ t. IsTrue (are_addable [] t.0.row)) }
     ensures range { IfOk result (λ t. IsHead t.0) }
-    ensures fault { result ≡ Err (PieceFault.Read Fault) →
-        Rose (S.faults source.old) (S.faults source.new) }
-    ensures kept { result ≢ Err (PieceFault.Read Fault) →
-        S.faults source.new ≡ S.faults source.old }
+    ensures failed { FailsBy (S.faults source.old) (S.faults source.new) result }
 {
     let whole = feed.with_mark(source)?;
     let begun = begin_capture(alloc, feed.front(whole))?;
@@ -109,10 +106,7 @@ fn read_piece<R: Threads + Sync, S: Source>(
         IfErr result (Stops first (S.left source.new) feed.new) }
     ensures waits { IfOk result (λ t. IsWaiting head.now feed.new t.0 t.1.items) }
     ensures more { OnOk result ((feed.new.ended ≡ true) ⊎ (feed.old.came < feed.new.came)) }
-    ensures fault { result ≡ Err (PieceFault.Read Fault) →
-        Rose (S.faults source.old) (S.faults source.new) }
-    ensures kept { result ≢ Err (PieceFault.Read Fault) →
-        S.faults source.new ≡ S.faults source.old }
+    ensures failed { FailsBy (S.faults source.old) (S.faults source.new) result }
 {
     let whole = feed.whole_lines(source, PIECE)?;
     let read = step_beside(rt, alloc, head, progress, blocks, feed.front(whole))?;
@@ -135,10 +129,7 @@ fn take_lines<R: Threads + Sync, S: Source>(
         IfOk result (IsReadWhole first (S.left source.new) head.now feed.new) }
     ensures err { (first : _) → IsReadTo first (S.left source.old) head.now feed.old progress →
         IfErr result (Stops first (S.left source.new) feed.new) }
-    ensures fault { result ≡ Err (PieceFault.Read Fault) →
-        Rose (S.faults source.old) (S.faults source.new) }
-    ensures kept { result ≢ Err (PieceFault.Read Fault) →
-        S.faults source.new ≡ S.faults source.old }
+    ensures failed { FailsBy (S.faults source.old) (S.faults source.new) result }
 {
     let mut blocks = Vec::new(alloc);
     while !feed.has_ended() {
@@ -160,10 +151,7 @@ fn take_pieces<R: Threads + Sync, S: Source>(
         IfErr result (Stops first (S.left source.new) feed.new) }
     ensures addable { IfOk result (λ c. IsTrue (are_addable [] c.head.row)) }
     ensures range { IfOk result (λ c. IsHead c.head) }
-    ensures fault { result ≡ Err (PieceFault.Read Fault) →
-        Rose (S.faults source.old) (S.faults source.new) }
-    ensures kept { result ≢ Err (PieceFault.Read Fault) →
-        S.faults source.new ≡ S.faults source.old }
+    ensures failed { FailsBy (S.faults source.old) (S.faults source.new) result }
 {
     let (head, progress) = begin(alloc, source, feed)?;
     let progress = take_lines(rt, alloc, &head, source, feed, progress)?;

@@ -1,12 +1,13 @@
 -- How far a capture is read whose octets are still coming.
-use Rattle.std.specs.Prelude.{◌≡◌, ℕ, ◌+◌, ◌≤◌, true, false, List, [], ◌++◌, length, Option, Ok}
+use Rattle.std.specs.Prelude.{◌≡◌, ◌≢◌, ℕ, ◌+◌, ◌≤◌, true, false, List, [], ◌++◌, length, Option, Ok, Err}
 use Rattle.std.specs.List.{AllByRecursion}
 use Rattle.std.specs.declared.result.Result.{Result}
 use Rattle.std.specs.Io.KnownBytes.{Consumes, IsAtEnd}
+use Rattle.relay_base.specs.Causes.{Rose}
 use Rattle.relay_base.specs.Giving.{◌>>=◌, GivesOrMemory, RefusesOrMemory}
 use Rattle.relay_base.specs.Streams.{TookMore}
 use Rattle.relay_base.specs.declared.limits.TheConstants.{MOST_BYTES}
-use Rattle.relay_base.specs.declared.errors.ReadAllFault.TheVariants.{TooLong}
+use Rattle.relay_base.specs.declared.errors.ReadAllFault.TheVariants.{TooLong, Fault}
 use Rattle.node_head.specs.declared.head.Head.{Head}
 use Rattle.capture_form.specs.Capture.{capture_within, fault_in}
 use Rattle.capture_form.specs.Inner.Progress.{IsOfHead, capture_begun, octets_read}
@@ -83,3 +84,8 @@ abbrev pub Stops : Option (List ℕ) → Option (List ℕ) → Feed → PieceFau
 Stops first now feed (fault.Capture f) = IsFaulty first now feed (fault_in f)
 Stops first now feed (fault.Read TooLong) = TookMore first now MOST_BYTES
 Stops first now feed (fault.Read _) = Unit {0}
+
+-- the source failed only where its count of failures rose
+pub record FailsBy {T : Type 0} (before now : ℕ) (result : Result T PieceFault) : Type 0 where
+  pub rose : result ≡ Err (fault.Read Fault) → Rose before now
+  pub kept : result ≢ Err (fault.Read Fault) → now ≡ before
