@@ -23,4 +23,14 @@ pub trait LaneState: Drop {
         ensures plan { plan self.new ≡ plan self.old }
         ensures ok { OnOk result (Raises (taken self.old) (taken self.new) stamp.link) }
         ensures err { OnErr result (Stays (taken self.old) (taken self.new)) };
+
+    /// The same with an event that the lane may keep. For want of memory the event is let go.
+    fn take_owned(&mut self, stamp: Stamp, event: Self::Event) -> Result<(), Memory>
+        requires { IsNext (plan self.old) (taken self.old) stamp event }
+        ensures plan { plan self.new ≡ plan self.old }
+        ensures ok { OnOk result (Raises (taken self.old) (taken self.new) stamp.link) }
+        ensures err { OnErr result (Stays (taken self.old) (taken self.new)) }
+    {
+        self.take_turn(stamp, &event)
+    }
 }

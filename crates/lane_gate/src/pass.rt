@@ -55,6 +55,13 @@ impl Drop for Pass {
 /// The passes of a gate.
 pub type PassList = PlainList<Pass>;
 
+/// An event that waits until the turn of the caller `holder` ends.
+#[derive(Drop)]
+pub(crate) struct Waiting<E> {
+    pub event: E,
+    pub holder: u8,
+}
+
 /// Why an event wasn't delivered. It comes back.
 #[derive(Clone, Debug, PartialEq, Eq, Drop)]
 pub enum Refused<E> {

@@ -1,5 +1,5 @@
 //! Making a gate, and closing it.
-ghost use Rattle.std.specs.Prelude.{◌≡◌, ◌≢◌, ℕ, ◌+◌, ◌<◌, ◌≤◌, [], map, vec_capacity, None, IfOk, All};
+ghost use Rattle.std.specs.Prelude.{◌≡◌, ◌≢◌, ℕ, ◌<◌, ◌≤◌, [], map, vec_capacity, None, IfOk, All};
 ghost use Rattle.lane_gate.specs.declared.gate.TheConstants.{MOST_CALLERS};
 ghost use Rattle.lane_gate.specs.Gates.{origin_of, callers_of, AreAllPasses, AreNumbered};
 ghost use Rattle.lane_gate.specs.Passes.{count_of, done_of};

@@ -5,11 +5,12 @@ ghost use Rattle.lane_gate.specs.Gates.{origin_of, callers_of, IsPassOf};
 ghost use Rattle.lane_gate.specs.Passes.{view_of, done_of, HadItsTurn, IsSamePass, TellsWhy};
 ghost use Rattle.lane_gate.specs.Plan.{IsNext};
 ghost use Rattle.lane_gate.specs.Inner.Rule.{IsKept, HasEntered, holding, turn_given_back};
+ghost use Rattle.lane_gate.specs.Inner.Turns.{HasTried, HasHadIts};
 ghost use Rattle.lane_gate.specs.Inner.Views.{IsIdle, tried_view, done_in};
 
 use super::{Gate, Place};
 use crate::lane::LaneState;
-use crate::pass::{Pass, Refused};
+use crate::pass::{Pass, Refused, Waiting};
 use crate::table::{Abandon, Enter, Finish, Known, View};
 use atomic_table::{Badge, Play};
 use relay_base::{Memory, Stamp};
@@ -104,6 +105,39 @@ impl<L: LaneState> Gate<L> {
         }
     }
 
+    // The same, but the event goes to the lane: it comes back only where the lane was busy.
+    fn hand_over_in_turn(
+        &self,
+        seat: &mut Place<L>,
+        number: u8,
+        stamp: Stamp,
+        event: L::Event,
+    ) -> Result<Option<Waiting<L::Event>>, Memory>
+        requires own { seat.old.table_id ≡ self.now.table.shared.table_id }
+        requires idle { IsIdle seat.old.me number }
+        requires link { stamp.link ≡ number }
+        requires next { let done = done_in seat.old.me.0 in
+            IsNext (L.plan (origin_of self.now)) (λ _. done) stamp event }
+        ensures own { seat.new.table_id ≡ seat.old.table_id }
+        ensures idle { IsIdle seat.new.me number }
+        ensures ok { IfOk result (HasTried seat.old.me.0 seat.new.me.0 event) }
+        ensures err { OnErr result (HasHadIts seat.old.me.0 seat.new.me.0) }
+    {
+        match self.enter::<Brand>(seat, number) {
+            Err(holder) => Ok(Some(Waiting { event, holder })),
+            Ok(mut lane) => match lane.take_owned(stamp, event) {
+                Ok(()) => {
+                    self.leave::<Finish>(seat, lane);
+                    Ok(None)
+                }
+                Err(Memory) => {
+                    self.leave::<Abandon>(seat, lane);
+                    Err(Memory)
+                }
+            },
+        }
+    }
+
     // Whether this caller has the turn.
     fn is_held_by(&self, holder: u8) -> bool {
         self.table.shared.peek(0) == u64::from(holder) + 1
@@ -163,6 +197,27 @@ impl<L: LaneState> Gate<L> {
         outcome
     }
 
+    // Delivers the next event of the pass's link, or gives it back where the lane was busy.
+    fn hand_over(
+        &self,
+        pass: &mut Pass,
+        stamp: Stamp,
+        event: L::Event,
+    ) -> Result<Option<Waiting<L::Event>>, Memory>
+        requires own { IsPassOf self.now pass.old }
+        requires link { stamp.link ≡ pass.old.number }
+        requires next { IsNext (L.plan (origin_of self.now)) (λ _. done_of pass.old) stamp event }
+        ensures same { IsSamePass pass.old pass.new }
+        ensures ok { IfOk result (HasTried (view_of pass.old) (view_of pass.new) event) }
+        ensures err { OnErr result (HasHadIts (view_of pass.old) (view_of pass.new)) }
+    {
+        let number = pass.number();
+        let mut seat = mem::replace(&mut pass.badge, Badge::blank()).into_seat();
+        let outcome = self.hand_over_in_turn(&mut seat, number, stamp, event);
+        pass.badge = seat.into_badge();
+        outcome
+    }
+
     /// Delivers the next event of the pass's link, and waits for the turn. It tells want of memory only where it had the turn; the pass then counts what it did, and the lane
     /// has taken what it had.
     pub fn deliver<R: Wait>(
@@ -182,19 +237,11 @@ impl<L: LaneState> Gate<L> {
     {
         let mut event = event;
         for _ in rt.forever() {
-            match self.try_turn(pass, stamp, event) {
-                Ok(()) => return Ok(()),
-                Err(Refused::Memory { event: _ }) => return Err(Memory),
-                Err(
-                    Refused::Busy {
-                        event: back,
-                        holder,
-                    },
-                ) => {
-                    event = back;
-                    self.wait_for(rt, holder);
-                }
-            }
+            let Some(waiting) = self.hand_over(pass, stamp, event)? else {
+                return Ok(());
+            };
+            event = waiting.event;
+            self.wait_for(rt, waiting.holder);
         }
         unreachable!()
     }
