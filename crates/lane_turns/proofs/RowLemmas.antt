@@ -11,7 +11,8 @@ use Rattle.capture_form.specs.Place.{place_of}
 use Rattle.lane_gate.specs.Plan.{Plan}
 use Rattle.right_book.specs.Lanes.{LanesFrom}
 use Rattle.right_book.specs.Placed.{taken}
-use Rattle.link_threads.specs.Links.{Arrival, IsStamped, is_in, link_at, planned_for}
+use Rattle.link_threads.specs.declared.arrivals.Arrival.{Arrival}
+use Rattle.link_threads.specs.Links.{IsStamped, is_in, link_at, planned_for}
 use Rattle.link_threads.specs.Phases.{links_of}
 use Rattle.link_threads.specs.Gates.{IsAtOpening, HasTaken}
 use Rattle.scmg.specs.Lane.{ControlState}

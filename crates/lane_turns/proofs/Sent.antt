@@ -4,9 +4,6 @@ use denote.Ref.{NamedLft}
 use denote.Struct.Declared.{shape}
 use denote.Param.Send.{IsSend, IsSync, sendable, view_send, recorded_send, struct_send}
 use Rattle.std.proofs.Crossing.{crosses}
-use Rattle.relay_base.proofs.lists.PlainList.TheSendSync.{the_sync as list_sync}
-use Rattle.relay_base.proofs.words.Stamp.TheSendSync.{the_sync as stamp_sync}
-use Rattle.plant_core.proofs.entry.ControlEvent.TheSendSync.{the_sync as event_sync}
 use Rattle.node_head.proofs.head.Head.TheSendSync.{the_sync as head_sync}
 use Rattle.mark.proofs.Mark.TheSendSync.{the_send as mark_send}
 use Rattle.data_lane.proofs.lane.DataLane.TheSendSync.{the_send as data_lane_send}
@@ -26,4 +23,4 @@ lane_send a T y =
     view_send _ _ _ _ _ (recorded_send _ _ inside.to inside.to_one (struct_send (shape inside) (kind_send a T y, tt)))
 
 pub turn_send : (a b : NamedLft) (T : RattleType) → IsSync T → IsSend (LaneTurn.the_row a b T)
-turn_send a b T y = search (sendable, crosses, head_sync, list_sync, stamp_sync, event_sync, mark_send, lane_send) depth 60 fits 20000
+turn_send a b T y = search (sendable, crosses, head_sync, mark_send, lane_send) depth 60 fits 20000

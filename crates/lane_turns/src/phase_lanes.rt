@@ -62,7 +62,7 @@ impl<'r, R: Wait> Model for PhaseLanes<'r, R> {
 /// The lane of a number at its place, before the first event of the phase.
 fn seated_turn<'p, 'r, R: Wait, L: SeatedKind>(
     head: &'p Head,
-    phase: &'p Phase,
+    phase: &Phase,
     number: usize,
     seat: Seat<'r, R, L>,
 ) -> LaneTurn<'p, 'r, R>
@@ -76,7 +76,7 @@ fn seated_turn<'p, 'r, R: Wait, L: SeatedKind>(
 fn add_turns<'p, 'r, R: Wait, L: SeatedKind>(
     turns: &mut Vec<LaneTurn<'p, 'r, R>>,
     head: &'p Head,
-    phase: &'p Phase,
+    phase: &Phase,
     seats: Vec<Seat<'r, R, L>>,
 )
     requires reserved { length turns.old.items + length seats.items ≤ vec_capacity turns.old }
@@ -96,7 +96,7 @@ fn add_turns<'p, 'r, R: Wait, L: SeatedKind>(
 fn add_both<'p, 'r, R: Wait>(
     turns: &mut Vec<LaneTurn<'p, 'r, R>>,
     head: &'p Head,
-    phase: &'p Phase,
+    phase: &Phase,
     conns: ConnSeatList<'r, R>,
     units: DataSeatList<'r, R>,
 )
@@ -124,7 +124,7 @@ fn count<'r, R: Wait>(conns: &ConnSeatList<'r, R>, units: &DataSeatList<'r, R>) 
 fn in_row<'p, 'r, R: Wait>(
     mut row: Vec<LaneTurn<'p, 'r, R>>,
     head: &'p Head,
-    phase: &'p Phase,
+    phase: &Phase,
     conns: ConnSeatList<'r, R>,
     units: DataSeatList<'r, R>,
     last: LaneTurn<'p, 'r, R>,
@@ -146,7 +146,7 @@ fn in_row<'p, 'r, R: Wait>(
 fn control_turn<'p, 'r, R: Wait>(
     alloc: Global,
     head: &'p Head,
-    phase: &'p Phase,
+    phase: &Phase,
     control: ControlLane,
     publisher: PhasePublisher<'r, R>,
 ) -> Result<LaneTurn<'p, 'r, R>, Memory>
@@ -246,7 +246,7 @@ impl<'r, R: Wait> PhaseLanes<'r, R> {
         self,
         alloc: Global,
         head: &'p Head,
-        phase: &'p Phase,
+        phase: &Phase,
         control: ControlLane,
     ) -> Result<Vec<LaneTurn<'p, 'r, R>>, Memory>
         requires room { HasRoomFor (length (phase_events phase.now)) control self }
@@ -263,7 +263,7 @@ impl<'r, R: Wait> PhaseLanes<'r, R> {
         alloc: Global,
         row: Vec<LaneTurn<'p, 'r, R>>,
         head: &'p Head,
-        phase: &'p Phase,
+        phase: &Phase,
         control: ControlLane,
     ) -> Result<Vec<LaneTurn<'p, 'r, R>>, Memory>
         requires empty { row.items ≡ [] }

@@ -6,9 +6,10 @@ ghost use Rattle.lane_turns.specs.Turns.{HasRoom, IsNamed, IsTurn, opened_turn};
 use crate::phase_lane::{LaneView, PhaseLane};
 use capture_form::Phase;
 use lane_gate::LaneState;
-use link_threads::{Given, LaneName, Named};
+use link_threads::{LaneName, Named, event_copy};
 use mark::Mark;
 use node_head::Head;
+use plant_core::ControlEvent;
 use relay_base::{Memory, Stamp};
 use std::marker::Model;
 use std::sync::Wait;
@@ -16,7 +17,8 @@ use std::sync::Wait;
 /// A lane, with the phase whose events it takes.
 pub struct LaneTurn<'p, 'r, R: Wait> {
     head: &'p Head,
-    phase: &'p Phase,
+    /// The phase, which clauses alone read.
+    phase: Mark<Phase>,
     name: LaneName,
     /// The lane as it was at the opening, which clauses alone read.
     first: Mark<LaneView>,
@@ -27,7 +29,7 @@ impl<'p, 'r, R: Wait> Drop for LaneTurn<'p, 'r, R> {
     fn drop(self) {
         let Self {
             head: _,
-            phase: _,
+            phase: _phase,
             name: _,
             first: _first,
             lane: _lane,
@@ -40,9 +42,16 @@ impl<'p, 'r, R: Wait> Model for LaneTurn<'p, 'r, R> {
 
     ghost Value = { TurnState };
 
-    ghost view = { λ t. turn_of t.head.now t.phase.now t.name t.first.value t.lane };
+    ghost view = { λ t. turn_of t.head.now t.phase.value t.name t.first.value t.lane };
 
-    ghost invariant = { λ t. IsTurn (turn_of t.head.now t.phase.now t.name t.first.value t.lane) };
+    ghost invariant = { λ t. IsTurn (turn_of t.head.now t.phase.value t.name t.first.value t.lane) };
+}
+
+/// A mark of a phase.
+fn mark_of(phase: &Phase) -> Mark<Phase>
+    ensures { result.value ≡ phase.now }
+{
+    Mark::after(phase)
 }
 
 /// A mark of a lane that a proof chooses by the lane that is seen.
@@ -58,7 +67,7 @@ impl<'p, 'r, R: Wait> LaneTurn<'p, 'r, R> {
     /// The lane of a name, before the first event of the phase.
     pub fn new(
         head: &'p Head,
-        phase: &'p Phase,
+        phase: &Phase,
         name: LaneName,
         lane: PhaseLane<'r, R>,
     ) -> LaneTurn<'p, 'r, R>
@@ -69,7 +78,7 @@ impl<'p, 'r, R: Wait> LaneTurn<'p, 'r, R> {
         let first = mark_by(&lane);
         LaneTurn {
             head,
-            phase,
+            phase: mark_of(phase),
             name,
             first,
             lane,
@@ -95,7 +104,7 @@ impl<'p, 'r, R: Wait> LaneTurn<'p, 'r, R> {
 impl<'p, 'r, R: Wait> LaneState for LaneTurn<'p, 'r, R> {
     ghost use Rattle.lane_turns.specs.Turns.{Opening, plan_of, taken_of};
 
-    type Event = Given<'p>;
+    type Event = ControlEvent;
 
     ghost Base = { Opening };
 
@@ -103,8 +112,12 @@ impl<'p, 'r, R: Wait> LaneState for LaneTurn<'p, 'r, R> {
 
     ghost taken = { taken_of };
 
-    fn take_turn(&mut self, stamp: Stamp, event: &Given<'p>) -> Result<(), Memory> {
-        let event = event.owned()?;
+    fn take_turn(&mut self, stamp: Stamp, event: &ControlEvent) -> Result<(), Memory> {
+        let copy = event_copy(event)?;
+        self.take_owned(stamp, copy)
+    }
+
+    fn take_owned(&mut self, stamp: Stamp, event: ControlEvent) -> Result<(), Memory> {
         self.lane.step(stamp, event)
     }
 }

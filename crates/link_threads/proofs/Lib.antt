@@ -3,4 +3,3 @@ pub mod DealLemmas
 pub mod FeedLemmas
 pub mod FeederLemmas
 pub mod CloseLemmas
-pub mod PhaseLemmas

@@ -1,17 +1,20 @@
 -- The gates of lanes, the passes that each link's thread holds, and what was delivered through them.
-use Rattle.std.specs.Prelude.{◌≡◌, ℕ, ◌<◌, ◌≤◌, true, Bool, List, [], ◌∷◌, ◌++◌, length, take, slice_get, All, Some}
+use Rattle.std.specs.Prelude.{◌≡◌, ℕ, ◌<◌, ◌≤◌, true, false, Bool, List, [], ◌∷◌, ◌++◌, length, slice_get, slice_index_or, All, Some}
 use Rattle.std.specs.declared.vec.Vec.{Vec}
 use Rattle.std.specs.declared.alloc.Global.{Global}
+use Rattle.relay_base.specs.declared.words.Stamp.{Stamp}
+use Rattle.capture_form.specs.declared.lane_place.LanePlace.{LanePlace}
 use Rattle.lane_gate.specs.declared.gate.Gate.{Gate}
 use Rattle.lane_gate.specs.declared.pass.Pass.{Pass}
 use Rattle.lane_gate.specs.Gates.{origin_of, callers_of, IsPassOf, AreAllPasses}
 use Rattle.lane_gate.specs.Passes.{done_of}
 use Rattle.lane_gate.specs.Plan.{Plan}
 use Rattle.right_book.specs.Lanes.{LanesFrom}
+use Rattle.link_threads.specs.declared.arrivals.Arrival.{Arrival}
 use Rattle.link_threads.specs.declared.lane_name.LaneName.{LaneName}
 use Rattle.link_threads.specs.declared.door.Door.{Door}
 use Rattle.block_threads.specs.Items.{Beside}
-use Rattle.link_threads.specs.Links.{Link, IsStamped, events_for, link_at, planned_for}
+use Rattle.link_threads.specs.Links.{Link, IsStamped, is_in, events_for, link_at, planned_for}
 
 -- passes that one thread holds, one of each gate
 abbrev pub Hand : Type 0
@@ -75,40 +78,54 @@ module _ {L E B : Type 0} (plan : L → Plan B E) (links : List (Link E)) where
 -- ---- feeding
 
 module _ {L E B : Type 0} (plan : L → Plan B E) where
-  -- through the link's pass of this gate went those of its first events that are for the lane, which is to take those of all
-  pub record HasFed (number : ℕ) (link : Link E) (count : ℕ) (door : Door L E) (pass : Pass) : Type 0 where
-    pub plan_is : (plan (origin_of door.gate)).links number ≡ events_for door.name link
+  -- What came before on the link for the lane went through its pass of this gate, and the lane is to take what is left of it too.
+  pub record HasFed (number : ℕ) (left : Link E) (door : Door L E) (pass : Pass) : Type 0 where
+    pub had : List (Stamp × E)
+    pub plan_is : (plan (origin_of door.gate)).links number ≡ had ++ events_for door.name left
     pub own : IsPassOf door.gate pass
     pub number_is : pass.number ≡ number
-    pub done : done_of pass ≡ length (events_for door.name (take count link))
+    pub done : done_of pass ≡ length had
 
--- a feeder: the gates, the number of its link, and a pass of each gate; and whether it came to its end
+  -- the lanes before this one had the event, and the others have it before them
+  pub record IsFedBelow (arrival : Arrival E) (left : Link E) (far : ℕ) (doors : List (Door L E)) (passes : List Pass) : Type 0 where
+    pub size : length passes ≡ length doors
+    pub before : (k : ℕ) (g : Door L E) (d : Pass) → k < far → k < length doors → HasFed arrival.stamp.link left (slice_index_or doors k g) (slice_index_or passes k d)
+    pub after : (k : ℕ) (g : Door L E) (d : Pass) → far ≤ k → k < length doors → HasFed arrival.stamp.link (arrival ∷ left) (slice_index_or doors k g) (slice_index_or passes k d)
+
+module _ {L E : Type 0} (place : LanePlace) where
+  -- the place is in no lane
+  abbrev pub IsForNone : List (Door L E) → Type 0
+  IsForNone doors = All (λ door. is_in door.name place ≡ false) doors
+
+  -- this is the last lane in which the place is
+  pub record IsLastFor (doors : List (Door L E)) (last : ℕ) : Type 0 where
+    pub within : last < length doors
+    pub here : (d : Door L E) → is_in (slice_index_or doors last d).name place ≡ true
+    pub behind : (k : ℕ) (d : Door L E) → last < k → k < length doors → is_in (slice_index_or doors k d).name place ≡ false
+
+-- a feeder: the gates, the number of its link and what is left of it, and a pass of each gate; and whether it came to its end
 pub record FeederState (L E : Type 0) : Type 0 where
   pub doors : List (Door L E)
-  pub links : List (Link E)
   pub number : ℕ
+  pub left : Link E
   pub passes : Hand
   pub ended : Bool
 
-abbrev pub link_of : {L E : Type 0} → FeederState L E → Link E
-link_of f = link_at f.links f.number
-
 module _ {L E B : Type 0} (plan : L → Plan B E) where
-  -- before the first event: the passes are new
+  -- before the first event
   pub record IsReady (f : FeederState L E) : Type 0 where
-    pub within : f.number < length f.links
-    pub stamped : IsStamped f.number (link_of f)
-    pub ready : Beside (HasFed plan f.number (link_of f) 0) f.doors f.passes.items
+    pub stamped : IsStamped f.number f.left
+    pub ready : Beside (HasFed plan f.number f.left) f.doors f.passes.items
 
-  -- after the last one, if it came to its end: all events of its link went through them
+  -- after the last one, if it came to its end: all events of its link went through the passes
   abbrev pub HasRun : FeederState L E → FeederState L E → Type 0
-  HasRun old new = new.ended ≡ true → Beside (HasFed plan old.number (link_of old) (length (link_of old))) old.doors new.passes.items
+  HasRun old new = new.ended ≡ true → Beside (HasFed plan old.number []) old.doors new.passes.items
 
 -- the feeder of a link, with the passes that a hand held
 pub record IsFeederOf {L E : Type 0} (doors : List (Door L E)) (links : List (Link E)) (number : ℕ) (hand : Hand) (f : FeederState L E) : Type 0 where
   pub doors_are : f.doors ≡ doors
-  pub links_are : f.links ≡ links
   pub number_is : f.number ≡ number
+  pub left_is : f.left ≡ link_at links number
   pub passes_are : f.passes ≡ hand
 
 -- ---- closing
@@ -129,6 +146,11 @@ module _ {L E B : Type 0} (plan : L → Plan B E) where
     pub each : All (IsDoorOf plan links) doors
     pub count : length hands ≡ length links
     pub used : LanesFrom (HasUsedEach doors) 0 hands
+
+  -- and so did those of all links
+  pub record HaveUsed (doors : List (Door L E)) (hands : List Hand) : Type 0 where
+    pub links : List (Link E)
+    pub used : AreUsed links doors hands
 
   -- what closing a gate needs: the passes are all, and used up, and no other link has events
   pub record AreUsedUp (gate : Gate L E) (passes : List Pass) : Type 0 where

@@ -4,6 +4,7 @@ use Rattle.std.specs.List.{AllByRecursion}
 use Rattle.relay_base.specs.declared.words.Stamp.{Stamp}
 use Rattle.capture_form.specs.declared.lane_place.LanePlace.{LanePlace}
 use Rattle.right_book.specs.Placed.{in_control, in_conn, in_data}
+use Rattle.link_threads.specs.declared.arrivals.Arrival.{Arrival}
 use Rattle.link_threads.specs.declared.lane_name.LaneName.{LaneName}
 use Rattle.link_threads.specs.declared.lane_name.LaneName.TheVariants as name
 
@@ -12,12 +13,6 @@ abbrev pub is_in : LaneName → LanePlace → Bool
 is_in name.Control place = in_control place
 is_in (name.Conn number) place = in_conn number place
 is_in (name.Data number) place = in_data number place
-
--- an event of a link, with its stamp and its place
-pub record Arrival (E : Type 0) : Type 0 where
-  pub place : LanePlace
-  pub stamp : Stamp
-  pub event : E
 
 -- what comes on a link, in its order
 abbrev pub Link : Type 0 → Type 0

@@ -2,11 +2,10 @@
 ghost use Rattle.std.specs.Prelude.{IfOk};
 ghost use Rattle.lane_gate.specs.Gates.{origin_of};
 ghost use Rattle.block_threads.specs.Items.{Beside};
-ghost use Rattle.link_threads.specs.Gates.{AreUsed, AreUsedUp, HasTaken};
+ghost use Rattle.link_threads.specs.Gates.{AreUsedUp, HasTaken, HaveUsed};
 
 use crate::dealing::take_back;
 use crate::door::Door;
-use crate::links::Links;
 use lane_gate::{Gate, LaneState, Pass, PassList};
 use relay_base::Memory;
 use std::alloc::Global;
@@ -20,13 +19,12 @@ fn close_one<L: LaneState>(gate: Gate<L>, passes: PassList) -> L
 }
 
 /// The lanes of gates through whose passes all events went.
-pub fn close_all<L: LaneState, S: Links<L::Event>>(
+pub fn close_all<L: LaneState>(
     alloc: Global,
-    _links: &S,
     doors: Vec<Door<L>>,
     hands: Vec<Vec<Pass>>,
 ) -> Result<Vec<L>, Memory>
-    requires { AreUsed L.plan (S.links _links.now) doors.items hands.items }
+    requires { HaveUsed L.plan doors.items hands.items }
     ensures { IfOk result (λ v.
         Beside (λ door. HasTaken L.plan L.taken (origin_of door.gate)) doors.items v.items) }
 {

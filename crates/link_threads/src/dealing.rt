@@ -5,9 +5,9 @@ ghost use Rattle.lane_gate.specs.declared.gate.TheConstants.{MOST_CALLERS};
 ghost use Rattle.link_threads.specs.Pairs.{PairsFrom};
 ghost use Rattle.link_threads.specs.Gates.{AreDealt, AreNew, GetsPass, GivePasses, IsAtOpening};
 
+use crate::arrivals::Arrivals;
 use crate::door::Door;
 use crate::lane_name::Named;
-use crate::links::Links;
 use lane_gate::{Gate, LaneState, Pass, PassList};
 use relay_base::Memory;
 use std::alloc::Global;
@@ -90,18 +90,18 @@ fn door<L: LaneState + Named>(
 }
 
 /// The doors of lanes, and a pass of each gate in each hand.
-fn doors<L: LaneState + Named, S: Links<L::Event>>(
+fn doors<L: LaneState + Named, A: Arrivals<L::Event>>(
     alloc: Global,
-    _links: &S,
+    _links: &[A],
     lanes: Vec<L>,
     hands: &mut [Vec<Pass>],
 ) -> Result<Vec<Door<L>>, Memory>
-    requires some { 0 < length (S.links _links.now) }
-    requires few { length (S.links _links.now) ≤ MOST_CALLERS }
-    requires lanes { All (IsAtOpening L.plan L.taken L.name_of (S.links _links.now)) lanes.items }
-    requires empty { AreDealt L.plan (S.links _links.now) [] hands.old }
+    requires some { 0 < length _links.now }
+    requires few { length _links.now ≤ MOST_CALLERS }
+    requires lanes { All (IsAtOpening L.plan L.taken L.name_of (map A.left _links.now)) lanes.items }
+    requires empty { AreDealt L.plan (map A.left _links.now) [] hands.old }
     ensures origins { IfOk result (λ v. map (λ door. origin_of door.gate) v.items ≡ lanes.items) }
-    ensures dealt { IfOk result (λ v. AreDealt L.plan (S.links _links.now) v.items hands.new) }
+    ensures dealt { IfOk result (λ v. AreDealt L.plan (map A.left _links.now) v.items hands.new) }
 {
     let mut doors = Vec::with_capacity(alloc, lanes.len())?;
     for lane in lanes {
@@ -112,19 +112,19 @@ fn doors<L: LaneState + Named, S: Links<L::Event>>(
 }
 
 /// A gate round each lane, and a pass of each gate in the hand of each link.
-pub fn open<L: LaneState + Named, S: Links<L::Event>>(
+pub fn open<L: LaneState + Named, A: Arrivals<L::Event>>(
     alloc: Global,
-    links: &S,
+    links: &[A],
     lanes: Vec<L>,
 ) -> Result<(Vec<Door<L>>, Vec<Vec<Pass>>), Memory>
-    requires some { 0 < length (S.links links.now) }
-    requires few { length (S.links links.now) ≤ MOST_CALLERS }
-    requires lanes { All (IsAtOpening L.plan L.taken L.name_of (S.links links.now)) lanes.items }
+    requires some { 0 < length links.now }
+    requires few { length links.now ≤ MOST_CALLERS }
+    requires lanes { All (IsAtOpening L.plan L.taken L.name_of (map A.left links.now)) lanes.items }
     ensures origins { IfOk result (λ r.
         map (λ door. origin_of door.gate) r.0.items ≡ lanes.items) }
-    ensures dealt { IfOk result (λ r. AreDealt L.plan (S.links links.now) r.0.items r.1.items) }
+    ensures dealt { IfOk result (λ r. AreDealt L.plan (map A.left links.now) r.0.items r.1.items) }
 {
-    let mut hands = new_hands(alloc, links.count())?;
+    let mut hands = new_hands(alloc, links.len())?;
     let doors = doors(alloc, links, lanes, hands.as_mut_slice())?;
     Ok((doors, hands))
 }

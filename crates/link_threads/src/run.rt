@@ -1,16 +1,16 @@
 //! A thread for each link.
-ghost use Rattle.std.specs.Prelude.{◌<◌, ◌≤◌, length, All, IfOk};
+ghost use Rattle.std.specs.Prelude.{◌<◌, ◌≤◌, length, map, All, IfOk};
 ghost use Rattle.right_book.specs.Lanes.{LanesFrom};
 ghost use Rattle.lane_gate.specs.declared.gate.TheConstants.{MOST_CALLERS};
 ghost use Rattle.block_threads.specs.Items.{Beside};
 ghost use Rattle.link_threads.specs.Links.{IsStamped};
 ghost use Rattle.link_threads.specs.Gates.{HasTaken, IsAtOpening};
 
+use crate::arrivals::Arrivals;
 use crate::closing::close_all;
 use crate::dealing::open;
 use crate::feeders::feed;
 use crate::lane_name::Named;
-use crate::links::Links;
 use lane_gate::LaneState;
 use relay_base::{Memory, Pace};
 use std::alloc::Global;
@@ -23,17 +23,17 @@ pub fn take_events<
     R: Threads + Wait + Sync,
     P: Pace,
     L: LaneState + Named + Send,
-    S: Links<L::Event> + Sync,
->(rt: &R, alloc: Global, links: &S, lanes: Vec<L>, pace: &P) -> Result<Vec<L>, Memory>
+    A: Arrivals<L::Event> + Send,
+>(rt: &R, alloc: Global, links: Vec<A>, lanes: Vec<L>, pace: &P) -> Result<Vec<L>, Memory>
 where
     L::Event: Send,
-    requires some { 0 < length (S.links links.now) }
-    requires few { length (S.links links.now) ≤ MOST_CALLERS }
-    requires stamped { LanesFrom IsStamped 0 (S.links links.now) }
-    requires lanes { All (IsAtOpening L.plan L.taken L.name_of (S.links links.now)) lanes.items }
+    requires some { 0 < length links.items }
+    requires few { length links.items ≤ MOST_CALLERS }
+    requires stamped { LanesFrom IsStamped 0 (map A.left links.items) }
+    requires lanes { All (IsAtOpening L.plan L.taken L.name_of (map A.left links.items)) lanes.items }
     ensures { IfOk result (λ v. Beside (HasTaken L.plan L.taken) lanes.items v.items) }
 {
-    let (doors, hands) = open(alloc, links, lanes)?;
+    let (doors, hands) = open(alloc, links.as_slice(), lanes)?;
     let hands = feed(rt, alloc, doors.as_slice(), links, hands, pace)?;
-    close_all(alloc, links, doors, hands)
+    close_all(alloc, doors, hands)
 }

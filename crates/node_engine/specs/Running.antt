@@ -1,5 +1,5 @@
 -- What the lanes of a node do with the events of a phase.
-use Rattle.std.specs.Prelude.{◌≡◌, ◌≤◌, ◌<◌, ◌+◌, ◌++◌, ℕ, Bool, List, [], Option, length, map, count_by, is_some}
+use Rattle.std.specs.Prelude.{◌≡◌, ◌≤◌, ◌<◌, ◌+◌, ◌++◌, ◌∷◌, ℕ, Bool, List, [], Option, length, map, count_by, is_some}
 use Rattle.std.specs.List.{AllByRecursion}
 use Rattle.std.specs.List.Sorted.{IsNonDecreasing}
 use Rattle.relay_base.specs.declared.words.Event.{Event}
@@ -21,6 +21,7 @@ use Rattle.right_book.specs.Heads.{routing_of, lane_head_of, control_head_of}
 use Rattle.right_book.specs.Placed.{in_control}
 use Rattle.right_book.specs.Editions.{changes_of, editions_in}
 use Rattle.right_book.specs.Lanes.{LaneKind, LanesFrom, IsRouted, conn_kind, data_kind}
+use Rattle.right_book.specs.Right.{HasServed}
 use Rattle.link_threads.specs.Pairs.{PairsFrom}
 use Rattle.lane_seats.specs.Plans.{planned, AreWhole}
 
@@ -115,3 +116,8 @@ pub record Went (head : Head) (lists : List Stamped) (old new : Node) : Type 0 w
   pub conns : PairsFrom (LaneTook (conn_kind head) head lists) 0 (conn_journals old.conns.items) (conn_journals new.conns.items)
   pub units : PairsFrom (LaneTook data_kind head lists) 0 (data_journals old.units.items) (data_journals new.units.items)
   pub standing : (phase : ℕ) → AreOfLinks phase 0 lists → AreRightSoFar head phase (book_of old) → AreRightSoFar head phase (book_of new)
+
+-- where the journals had the events of the phases before this one, each with the routing that it asks, they have those of this phase too
+abbrev pub ServesNext : Head → List Stamped → Node → Node → Type 0
+ServesNext head lists old new =
+    (before : List (List Stamped)) → AreOfLinks (length before + 1) 0 lists → HasServed head before (book_of old) → HasServed head (before ++ lists ∷ []) (book_of new)

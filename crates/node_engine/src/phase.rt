@@ -1,11 +1,11 @@
 //! A phase.
-ghost use Rattle.std.specs.Prelude.{◌≡◌, ◌++◌, ◌+◌, ◌∷◌, [], List, length, IfOk, OnOk};
+ghost use Rattle.std.specs.Prelude.{IfOk, OnOk};
 ghost use Rattle.scmg.specs.Control.{IsControlJournal};
-ghost use Rattle.capture_form.specs.Events.{Stamped, phase_events, AreOfLinks};
-ghost use Rattle.right_book.specs.Right.{HasServed};
+ghost use Rattle.capture_form.specs.Events.{phase_events};
 ghost use Rattle.lane_seats.specs.Plans.{IsPhase};
-ghost use Rattle.node_engine.specs.Running.{CanTake, Went, book_of};
+ghost use Rattle.node_engine.specs.Running.{CanTake, Went, ServesNext};
 
+use crate::copies::phase_copy;
 use crate::node::{Node, control_alone};
 use crate::phase_lanes::{closed_lanes, opened_lanes};
 use capture_form::Phase;
@@ -22,13 +22,13 @@ fn after_phase<R: Threads + Wait + Sync, P: Pace>(
     rt: &R,
     alloc: Global,
     head: &Head,
-    phase: &Phase,
+    phase: Phase,
     node: Node,
     pace: &P,
 ) -> Result<Node, Memory>
-    requires able { CanTake head.now (phase_events phase.now) node }
-    requires phase { IsPhase head.now phase.now }
-    ensures went { IfOk result (Went head.now phase.now node) }
+    requires able { CanTake head.now (phase_events phase) node }
+    requires phase { IsPhase head.now phase }
+    ensures went { IfOk result (Went head.now phase node) }
     ensures legal { IsControlJournal node.control.head node.control.start node.control.journal }
 {
     let (control, lanes) = opened_lanes(rt, alloc, node)?;
@@ -36,10 +36,30 @@ fn after_phase<R: Threads + Wait + Sync, P: Pace>(
     closed_lanes(alloc, control, lanes)
 }
 
-/// The lanes take the events of a phase: each link's in their order, delivered in a thread of its own, and in each lane in whatever order the links meet.
+/// The lanes take the events of a phase, which move into them: each link's in their order, delivered in a thread of its own, and in each lane in whatever order the links meet.
 ///
 /// Where the journals had the events of the phases before this one, each with the routing that it asks, they have those of this phase too.
 /// After want of memory nothing is said of the node.
+pub fn run_phase_owned<R: Threads + Wait + Sync, P: Pace>(
+    rt: &R,
+    alloc: Global,
+    head: &Head,
+    phase: Phase,
+    node: &mut Node,
+    pace: &P,
+) -> Result<(), Memory>
+    requires able { CanTake head.now (phase_events phase) node.old }
+    requires phase { IsPhase head.now phase }
+    ensures went { OnOk result (Went head.now phase node.old node.new) }
+    ensures served { OnOk result (ServesNext head.now phase node.old node.new) }
+{
+    let spare = control_alone(alloc, head)?;
+    let lanes = mem::replace(node, spare);
+    *node = after_phase(rt, alloc, head, phase, lanes, pace)?;
+    Ok(())
+}
+
+/// The lanes take a copy of the events of a phase, as they take those of `run_phase_owned`. After want of memory nothing is said of the node.
 pub fn run_phase<R: Threads + Wait + Sync, P: Pace>(
     rt: &R,
     alloc: Global,
@@ -51,12 +71,8 @@ pub fn run_phase<R: Threads + Wait + Sync, P: Pace>(
     requires able { CanTake head.now (phase_events phase.now) node.old }
     requires phase { IsPhase head.now phase.now }
     ensures went { OnOk result (Went head.now phase.now node.old node.new) }
-    ensures served { OnOk result ((before : List (List Stamped)) →
-        AreOfLinks (length before + 1) 0 phase.now → HasServed head.now before (book_of node.old) →
-        HasServed head.now (before ++ phase.now ∷ []) (book_of node.new)) }
+    ensures served { OnOk result (ServesNext head.now phase.now node.old node.new) }
 {
-    let spare = control_alone(alloc, head)?;
-    let lanes = mem::replace(node, spare);
-    *node = after_phase(rt, alloc, head, phase, lanes, pace)?;
-    Ok(())
+    let phase = phase_copy(alloc, phase)?;
+    run_phase_owned(rt, alloc, head, phase, node, pace)
 }

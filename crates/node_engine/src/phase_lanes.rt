@@ -1,5 +1,5 @@
 //! The lanes of a phase: each comes to its place at a barrier, and leaves it at the next one.
-ghost use Rattle.std.specs.Prelude.{◌≡◌, ◌≤◌, ◌<◌, ◌+◌, ◌++◌, true, length, map, reverse, IfOk, OnOk};
+ghost use Rattle.std.specs.Prelude.{◌≡◌, ◌≤◌, ◌<◌, ◌+◌, ◌++◌, true, length, map, reverse, IfOk};
 ghost use Rattle.std.specs.List.{AllByRecursion};
 ghost use Rattle.relay_base.specs.declared.limits.TheConstants.{MOST_LANES};
 ghost use Rattle.gtt_editions.specs.Published.{Begins};

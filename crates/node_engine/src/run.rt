@@ -9,8 +9,9 @@ ghost use Rattle.capture_form.specs.Events.{all_events, IsStamped};
 ghost use Rattle.right_book.specs.Right.{HasServed, IsRight};
 ghost use Rattle.node_engine.specs.Running.{CanTake, HasLegal, IsOf, book_of, conn_journals, data_journals};
 
+use crate::copies::phases_copy;
 use crate::node::{ConnLaneList, DataLaneList, Node};
-use crate::phase::run_phase;
+use crate::phase::run_phase_owned;
 use capture_form::{Book, Capture, PhaseList};
 use node_head::Head;
 use plant_core::JournalList;
@@ -19,23 +20,23 @@ use std::alloc::Global;
 use std::sync::Wait;
 use std::thread::Threads;
 
-/// The lanes take the events of all phases.
+/// The lanes take the events of all phases, one phase after the other.
 fn run_phases<R: Threads + Wait + Sync, P: Pace>(
     rt: &R,
     alloc: Global,
     head: &Head,
-    phases: &PhaseList,
+    phases: PhaseList,
     node: &mut Node,
     pace: &P,
 ) -> Result<(), Memory>
-    requires able { CanTake head.now (all_events phases.now) node.old }
-    requires stamped { IsStamped head.now phases.now }
+    requires able { CanTake head.now (all_events phases) node.old }
+    requires stamped { IsStamped head.now phases }
     requires served { HasServed head.now [] (book_of node.old) }
     ensures lanes { OnOk result (IsOf head.now node.new) }
-    ensures served { OnOk result (HasServed head.now phases.now (book_of node.new)) }
+    ensures served { OnOk result (HasServed head.now phases (book_of node.new)) }
 {
-    for phase in phases.as_slice() {
-        run_phase(rt, alloc, head, phase, node, pace)?;
+    for phase in phases.into_vec() {
+        run_phase_owned(rt, alloc, head, phase, node, pace)?;
     }
     Ok(())
 }
@@ -83,60 +84,81 @@ fn book_of(alloc: Global, node: Node) -> Result<Book, Memory>
     })
 }
 
-/// Lanes before their first event, once they have taken the events of a capture.
+/// Lanes before their first event, once they have taken the events of phases.
 fn node_run<R: Threads + Wait + Sync, P: Pace>(
     rt: &R,
     alloc: Global,
-    capture: &Capture,
+    head: &Head,
+    phases: PhaseList,
     mut node: Node,
     pace: &P,
 ) -> Result<Node, Memory>
-    requires able { CanTake capture.now.head (all_events capture.now.phases) node }
-    requires stamped { IsStamped capture.now.head capture.now.phases }
-    requires served { HasServed capture.now.head [] (book_of node) }
-    ensures lanes { IfOk result (IsOf capture.now.head) }
-    ensures served { IfOk result (λ node.
-        HasServed capture.now.head capture.now.phases (book_of node)) }
+    requires able { CanTake head.now (all_events phases) node }
+    requires stamped { IsStamped head.now phases }
+    requires served { HasServed head.now [] (book_of node) }
+    ensures lanes { IfOk result (IsOf head.now) }
+    ensures served { IfOk result (λ node. HasServed head.now phases (book_of node)) }
 {
-    run_phases(rt, alloc, &capture.head, &capture.phases, &mut node, pace)?;
+    run_phases(rt, alloc, head, phases, &mut node, pace)?;
     Ok(node)
 }
 
-/// The lanes of a capture, once they have taken its events.
+/// The lanes of a head, once they have taken the events of phases.
 fn node_after<R: Threads + Wait + Sync, P: Pace>(
     rt: &R,
     alloc: Global,
-    capture: &Capture,
+    head: &Head,
+    phases: PhaseList,
     pace: &P,
 ) -> Result<Node, Memory>
-    requires head { IsHead capture.now.head }
-    requires stamped { IsStamped capture.now.head capture.now.phases }
-    requires few { length (all_events capture.now.phases) < 2 ^ 32 }
-    ensures lanes { IfOk result (IsOf capture.now.head) }
-    ensures served { IfOk result (λ node.
-        HasServed capture.now.head capture.now.phases (book_of node)) }
+    requires head { IsHead head.now }
+    requires stamped { IsStamped head.now phases }
+    requires few { length (all_events phases) < 2 ^ 32 }
+    ensures lanes { IfOk result (IsOf head.now) }
+    ensures served { IfOk result (λ node. HasServed head.now phases (book_of node)) }
 {
-    let node = Node::start(alloc, &capture.head)?;
-    node_run(rt, alloc, capture, node, pace)
+    let node = Node::start(alloc, head)?;
+    node_run(rt, alloc, head, phases, node, pace)
 }
 
-/// The book of a capture.
+/// The book of a head and phases.
 fn book_after<R: Threads + Wait + Sync, P: Pace>(
     rt: &R,
     alloc: Global,
-    capture: &Capture,
+    head: &Head,
+    phases: PhaseList,
     pace: &P,
 ) -> Result<Book, Memory>
-    requires head { IsHead capture.now.head }
-    requires stamped { IsStamped capture.now.head capture.now.phases }
-    requires few { length (all_events capture.now.phases) < 2 ^ 32 }
-    ensures { IfOk result (IsRight capture.now.head capture.now.phases) }
+    requires head { IsHead head.now }
+    requires stamped { IsStamped head.now phases }
+    requires few { length (all_events phases) < 2 ^ 32 }
+    ensures { IfOk result (IsRight head.now phases) }
 {
-    let node = node_after(rt, alloc, capture, pace)?;
+    let node = node_after(rt, alloc, head, phases, pace)?;
     book_of(alloc, node)
 }
 
-/// Runs a capture, and fills the book. After want of memory the book is empty.
+/// Runs the phases of a capture, whose events move into the lanes, and fills the book. After want of memory the book is empty.
+pub fn run_owned<R: Threads + Wait + Sync, P: Pace>(
+    rt: &R,
+    alloc: Global,
+    head: &Head,
+    phases: PhaseList,
+    pace: &P,
+    book: &mut Book,
+) -> Result<(), Memory>
+    requires head { IsHead head.now }
+    requires stamped { IsStamped head.now phases }
+    requires few { length (all_events phases) < 2 ^ 32 }
+    requires empty { IsEmpty book.old }
+    ensures ok { OnOk result (IsRight head.now phases book.new) }
+    ensures err { OnErr result (IsEmpty book.new) }
+{
+    *book = book_after(rt, alloc, head, phases, pace)?;
+    Ok(())
+}
+
+/// Runs a copy of the phases of a capture, and fills the book. After want of memory the book is empty.
 pub fn run_capture<R: Threads + Wait + Sync, P: Pace>(
     rt: &R,
     alloc: Global,
@@ -151,6 +173,6 @@ pub fn run_capture<R: Threads + Wait + Sync, P: Pace>(
     ensures ok { OnOk result (IsRight capture.now.head capture.now.phases book.new) }
     ensures err { OnErr result (IsEmpty book.new) }
 {
-    *book = book_after(rt, alloc, capture, pace)?;
-    Ok(())
+    let phases = phases_copy(alloc, &capture.phases)?;
+    run_owned(rt, alloc, &capture.head, phases, pace, book)
 }

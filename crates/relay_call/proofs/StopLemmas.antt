@@ -7,7 +7,6 @@ use Rattle.journal_text.specs.declared.book.Book.{Book}
 use Rattle.capture_form.specs.declared.fault.LineFault.{LineFault}
 use Rattle.capture_form.specs.declared.fault.CaptureFault.TheVariants as refused
 use Rattle.m3ua_capture.specs.declared.fault.StreamFault.TheVariants as stream
-use Rattle.capture_input.specs.declared.reading.AuditInput.{AuditInput}
 use Rattle.capture_input.specs.declared.fault.InputFault.{InputFault}
 use Rattle.capture_input.specs.declared.fault.InputFault.TheVariants as fault
 use Rattle.capture_form.specs.declared.capture.Capture.{Capture}
@@ -19,7 +18,7 @@ use Rattle.capture_input.specs.declared.input.Input.{Input}
 use Rattle.capture_input.specs.declared.stop.Stop.{Stop}
 use Rattle.capture_input.specs.declared.stop.Stop.TheVariants as stop
 use Rattle.capture_input.specs.declared.input.Input.TheVariants as input
-use Rattle.capture_input.specs.Input.{Bytes, input_of, ReadAs, PassesLimit, IsHeadFault, IsLineFault, IsPortFault, HasNoJournal, IsDue}
+use Rattle.capture_input.specs.Input.{Bytes, input_of, ReadAs, PassesLimit, IsHeadFault, IsPortFault, HasNoJournal, IsDue}
 use Rattle.capture_input.specs.Stops.{NotedAs, note_of, status_of}
 use Rattle.capture_input.proofs.StatusLemmas.{more-due, memory-due, read-due, fault-due, no-line, no-port, no-step-port, no-audit-port, audited-alone}
 use Rattle.command_words.specs.declared.command.Command.{Command}

@@ -17,20 +17,19 @@ ghost use Rattle.relay_call.specs.Inner.Reports.{report_of};
 ghost use Rattle.relay_call.specs.Inner.Stops.{RoseFor, LacksInput, Judged, StoppedJudging, StoppedLate, Stopped};
 
 use book_output::{Report, write_report};
-use capture_form::{Book, Capture};
+use capture_form::{Book, Capture, PhaseList};
 use capture_generator::generated;
 use capture_input::{AuditInput, Form, Input, Stop, take_input};
 use chain_form::ChainInput;
 use chain_text::run_chain;
 use command_words::{Command, command_of};
 use journal_audit::{Finding, judge, write_finding};
-use node_engine::run_capture;
+use node_engine::run_owned;
 use node_head::Head;
 use relay_base::{Pace, Sink, Source};
 use std::alloc::Global;
 use std::sync::Wait;
-use std::thread;
-use std::thread::{JoinHandle, Threads};
+use std::thread::Threads;
 
 /// The capture that is made of a number and a count of lines.
 fn made(alloc: Global, number: u32, lines: u32) -> Result<Input, Stop>
@@ -72,20 +71,21 @@ fn input_of<R: Threads + Sync, S: Source>(
     }
 }
 
-/// Runs a capture into the book.
+/// Runs the phases of a capture into the book.
 fn fill<R: Threads + Wait + Sync, P: Pace>(
     rt: &R,
     alloc: Global,
-    capture: &Capture,
+    head: &Head,
+    phases: PhaseList,
     pace: &P,
     book: &mut Book,
 ) -> Result<(), Stop>
-    requires ready { IsRunnable capture.now }
+    requires ready { IsRunnable (record { head = head.now; phases = phases }) }
     requires empty { IsEmpty book.old }
-    ensures ok { OnOk result (IsRight capture.now.head capture.now.phases book.new) }
+    ensures ok { OnOk result (IsRight head.now phases book.new) }
     ensures stopped { IfErr result (λ stop. (stop ≡ Stop.Memory) × IsEmpty book.new) }
 {
-    match run_capture(rt, alloc, capture, pace, book) {
+    match run_owned(rt, alloc, head, phases, pace, book) {
         Ok(()) => Ok(()),
         Err(_) => Err(Stop::Memory),
     }
@@ -121,19 +121,7 @@ fn write<R: Threads + Sync, K: Sink>(
     Ok(())
 }
 
-/// Gives the memory of a capture back, in a thread of its own where one can be made.
-fn give_back<R: Threads>(rt: &R, capture: Capture) -> Option<JoinHandle<()>> {
-    thread::spawn(rt, move || drop(capture)).ok()
-}
-
-/// Waits for the end of a thread, where there is one.
-fn wait_for<R: Threads>(rt: &R, thread: Option<JoinHandle<()>>) {
-    if let Some(thread) = thread {
-        thread.join(rt);
-    }
-}
-
-/// Runs a capture into the book, and writes what a command writes of it, while the memory of the capture is given back.
+/// Runs a capture into the book, and writes what a command writes of it.
 fn serve_capture<R: Threads + Wait + Sync, K: Sink, P: Pace>(
     rt: &R,
     alloc: Global,
@@ -151,12 +139,10 @@ fn serve_capture<R: Threads + Wait + Sync, K: Sink, P: Pace>(
         IfErr result (StoppedLate command written (input.Capture capture) book.new) }
     ensures faults { RoseFor Stop.WriteFault result (K.faults out.old) (K.faults out.new) }
 {
-    let report = report_of(command, &capture.head);
-    fill(rt, alloc, &capture, pace, book)?;
-    let giving_back = give_back(rt, capture);
-    let written = write(rt, alloc, report, book, out);
-    wait_for(rt, giving_back);
-    written
+    let Capture { head, phases } = capture;
+    let report = report_of(command, &head);
+    fill(rt, alloc, &head, phases, pace, book)?;
+    write(rt, alloc, report, book, out)
 }
 
 /// Takes the steps of nodes in a row, and writes what their users are told.

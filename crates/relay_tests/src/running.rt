@@ -42,7 +42,7 @@ fn source_of(alloc: Global, text: &[u8], device: Device) -> Result<MemSource, Al
     })
 }
 
-fn sink_of(alloc: Global, device: Device) -> Result<MemSink, AllocError> {
+pub fn sink_of(alloc: Global, device: Device) -> Result<MemSink, AllocError> {
     Ok(MemSink {
         held: Vec::with_capacity(alloc, ROOM)?,
         most: device.most.max(1),

@@ -14,16 +14,16 @@ if_both (Err e) P Q S f p q = tt
 
 pub take_row-requires-clause-lanes : goal.take_row-requires-clause-lanes
 take_row-requires-clause-lanes g c κs within =
-    subst (All (IsAtOpening plan_of taken_of (λ t. t.opening.name) (links_of c.args.head.now c.args.phase.now))) (sym c.in_ok-turns.ensures) (row_at_opening c.args.head.now c.args.phase.now c.args.control c.args.lanes)
+    subst (All (IsAtOpening plan_of taken_of (λ t. t.opening.name) (links_of c.args.head.now c.args.phase))) (sym c.in_ok-turns.ensures) (row_at_opening c.args.head.now c.args.phase c.args.control c.args.lanes)
 
 pub from_turns-requires : goal.from_turns-requires
 from_turns-requires g c =
     let taken = subst (λ (l : List TurnState). Beside (HasTaken plan_of taken_of) l c.in_ok-turns-2.turns.items) c.in_ok-turns.ensures c.in_ok-turns-2.ensures in
-    ends_in_control c.args.head.now c.args.phase.now c.args.control c.args.lanes c.in_ok-turns-2.turns.items taken
+    ends_in_control c.args.head.now c.args.phase c.args.control c.args.lanes c.in_ok-turns-2.turns.items taken
 
 pub returns : goal.returns
 returns g c =
     let taken = subst (λ (l : List TurnState). Beside (HasTaken plan_of taken_of) l c.in_ok-turns-2.turns.items) c.in_ok-turns.ensures c.in_ok-turns-2.ensures in
     if_both c.from_turns.result _ _ _ (λ t apart turns.
-    let served = row_served c.args.head.now c.args.phase.now c.args.control c.args.lanes c.in_ok-turns-2.turns.items turns taken in
-    row_goes_on c.args.head.now c.args.phase.now c.args.control c.args.lanes (lanes_of c.in_ok-turns-2.turns.items) served t.0 t.1 apart) c.from_turns.ensures.apart c.from_turns.ensures.turns
+    let served = row_served c.args.head.now c.args.phase c.args.control c.args.lanes c.in_ok-turns-2.turns.items turns taken in
+    row_goes_on c.args.head.now c.args.phase c.args.control c.args.lanes (lanes_of c.in_ok-turns-2.turns.items) served t.0 t.1 apart) c.from_turns.ensures.apart c.from_turns.ensures.turns

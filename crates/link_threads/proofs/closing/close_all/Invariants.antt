@@ -1,12 +1,12 @@
 use Rattle.std.proofs.Common.{◌≡◌, length, take, drop, vec_len}
 use Rattle.lane_gate.specs.Gates.{origin_of}
 use Rattle.block_threads.specs.Items.{Beside}
-use Rattle.link_threads.specs.Gates.{AreUsed, HasTaken}
+use Rattle.link_threads.specs.Gates.{HaveUsed, HasTaken}
 use Rattle.link_threads.proofs.closing.close_all.Given as goal
 
 abbrev pub invariant-loop-door : goal.invariant-loop-door
 invariant-loop-door g l = record {
-  used : AreUsed g.L.LaneState.plan (g.S.Links.links l._links) l.doors.items l.hands.items;
+  used : HaveUsed g.L.LaneState.plan l.doors.items l.hands.items;
   kept : take (length l.doors.items) l.initial.doors.items ≡ l.doors.items;
   closed : Beside (λ door. HasTaken g.L.LaneState.plan g.L.LaneState.taken (origin_of door.gate)) (drop (length l.doors.items) l.initial.doors.items) l.lanes.items;
 }

@@ -10,7 +10,7 @@ pub loop-lane-preserved : goal.loop-lane-preserved
 loop-lane-preserved g c =
     let inv = c.loop-lane.invariant in
     let plan = g.L.LaneState.plan in
-    let links = g.S.Links.links c.args._links.now in
+    let links = map g.A.Arrivals.left c.args._links.now in
     let Is = IsAtOpening plan g.L.LaneState.taken g.L.Named.name_of links in
     let lane = c.in-Some.lane in
     let door = c.in_ok-door.door in

@@ -1,7 +1,14 @@
+use Rattle.std.proofs.Common.{length}
 use Rattle.block_threads.specs.Items.{Beside}
-use Rattle.link_threads.specs.Links.{link_at}
+use Rattle.link_threads.specs.Links.{IsStamped}
 use Rattle.link_threads.specs.Gates.{HasFed}
 use Rattle.link_threads.proofs.feed.serve.Given as goal
 
-abbrev pub invariant-loop-number : goal.invariant-loop-number
-invariant-loop-number g l = Beside (HasFed g.L.LaneState.plan l.link (link_at (g.S.Links.links l.links) l.link) l.number) l.doors l.passes
+abbrev pub invariant-loop-arrival : goal.invariant-loop-arrival
+invariant-loop-arrival g l = record {
+  stamped : IsStamped l.number (g.A.Arrivals.left l.link);
+  fed : Beside (HasFed g.L.LaneState.plan l.number (g.A.Arrivals.left l.link)) l.doors l.passes;
+}
+
+abbrev pub decreases-loop-arrival : goal.decreases-loop-arrival
+decreases-loop-arrival g l = length (g.A.Arrivals.left l.link)

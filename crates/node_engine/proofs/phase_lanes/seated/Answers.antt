@@ -1,6 +1,5 @@
 use Rattle.std.proofs.Common.{◌≡◌, ◌++◌, List, [], ◌∷◌, map, reverse, sym, ap, subst, ◌∙◌, rules, arith}
 use Rattle.std.proofs.lemmas.List.{map-append}
-use Rattle.gtt_editions.specs.Standing.{Standing}
 use Rattle.lane_seats.specs.Seats.{SeatState}
 use Rattle.node_engine.proofs.PhaseLemmas.{place-taken}
 use Rattle.node_engine.proofs.phase_lanes.seated.Goals as goal

@@ -1,22 +1,7 @@
 use Rattle.std.proofs.Common.{sym, subst}
-use Rattle.plant_core.specs.declared.entry.ControlEvent.{ControlEvent}
 use Rattle.lane_gate.specs.Plan.{IsNext}
-use Rattle.lane_turns.specs.Turns.{TurnState, plan_of, taken_of, turn_of}
-use Rattle.lane_turns.proofs.TurnLemmas.{turn_can_take, turn_done}
+use Rattle.lane_turns.specs.Turns.{plan_of, taken_of}
 use Rattle.lane_turns.proofs.turn.LaneTurnLaneState.take_turn.Goals as goal
 
-pub step-requires : goal.step-requires
-step-requires g c =
-    let i = c.self.inside in
-    let t : TurnState = turn_of i.head.now i.phase.now i.name i.first.value i.lane in
-    let there : IsNext (plan_of t) (taken_of t) c.args.stamp c.args.event.now = subst (λ (s : TurnState). IsNext (plan_of s) (taken_of s) c.args.stamp c.args.event.now) (sym c.self.view_is) c.requires in
-    let next : IsNext (plan_of t) (taken_of t) c.args.stamp c.in_ok-event.event = subst (λ (e : ControlEvent). IsNext (plan_of t) (taken_of t) c.args.stamp e) (sym c.in_ok-event.ensures) there in
-    turn_can_take t c.args.stamp c.in_ok-event.event c.self.invariant next
-
-pub invariant_of-self : goal.invariant_of-self
-invariant_of-self g c =
-    let i = c.self.inside in
-    let t : TurnState = turn_of i.head.now i.phase.now i.name i.first.value i.lane in
-    let there : IsNext (plan_of t) (taken_of t) c.args.stamp c.args.event.now = subst (λ (s : TurnState). IsNext (plan_of s) (taken_of s) c.args.stamp c.args.event.now) (sym c.self.view_is) c.requires in
-    let next : IsNext (plan_of t) (taken_of t) c.args.stamp c.in_ok-event.event = subst (λ (e : ControlEvent). IsNext (plan_of t) (taken_of t) c.args.stamp e) (sym c.in_ok-event.ensures) there in
-    turn_done t c.args.stamp c.in_ok-event.event c.step.new.self c.self.invariant c.step.result next c.step.ensures.ok c.step.ensures.err
+pub take_owned-requires : goal.take_owned-requires
+take_owned-requires g c = subst (IsNext (plan_of c.args.self.now) (taken_of c.args.self.now) c.args.stamp) (sym c.in_ok-copy.ensures) c.requires
