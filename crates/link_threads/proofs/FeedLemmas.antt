@@ -20,16 +20,21 @@ get_here : {A : Type 0} (had : List A) (x : A) (more : List A) → slice_get (ha
 get_here [] x more = refl
 get_here (y ∷ ys) x more = get_here ys x more
 
+pub default : {A : Type 0} (l : List A) (i : ℕ) (a b : A) → i < length l → get_or l i a ≡ get_or l i b
+default [] i a b h = absurd (omega arith)
+default (x ∷ xs) zero a b h = refl
+default (x ∷ xs) (suc i) a b h = default xs i a b (omega arith)
+
 module _ {E : Type 0} (a : Arrival E) (left : Link E) (name : LaneName) where
   -- what is for a lane, by whether the first event is
   first_if : Bool → List (Stamp × E)
   first_if b = map (λ (x : Arrival E). (x.stamp, x.event)) (cond b (a ∷ filter (λ (x : Arrival E). is_in name x.place) left) (filter (λ (x : Arrival E). is_in name x.place) left))
 
-  with_first : is_in name a.place ≡ true → events_for name (a ∷ left) ≡ (a.stamp, a.event) ∷ events_for name left
+  pub with_first : is_in name a.place ≡ true → events_for name (a ∷ left) ≡ (a.stamp, a.event) ∷ events_for name left
   unfolding first_if
   with_first mine = ap first_if mine
 
-  without_first : is_in name a.place ≡ false → events_for name (a ∷ left) ≡ events_for name left
+  pub without_first : is_in name a.place ≡ false → events_for name (a ∷ left) ≡ events_for name left
   unfolding first_if
   without_first other = ap first_if other
 
@@ -84,11 +89,6 @@ module _ {L E B : Type 0} (plan : L → Plan B E) (a : Arrival E) (left : Link E
           (λ (ne : k ≢ far). subst (HasFed plan a.stamp.link left (get_or doors k g)) (sym (get_or-set_other passes far k after d ne)) (h.before k g d (omega (arith, less, ne)) within));
       after = λ k g d le within. subst (HasFed plan a.stamp.link (a ∷ left) (get_or doors k g)) (sym (get_or-set_other passes far k after d (λ e. absurd (omega (arith, e, le))))) (h.after k g d (omega (arith, le)) within);
     }
-      where
-        default : (l : List (Door L E)) (i : ℕ) (a b : Door L E) → i < length l → get_or l i a ≡ get_or l i b
-        default [] i a b h = absurd (omega arith)
-        default (x ∷ xs) zero a b h = refl
-        default (x ∷ xs) (suc i) a b h = default xs i a b (omega arith)
 
     -- all lanes had it, if it is for none behind
     pub below_all : (far : ℕ) (passes : List Pass) → ((k : ℕ) (g : Door L E) → far ≤ k → k < length doors → is_in (get_or doors k g).name a.place ≡ false) → IsFedBelow plan a left far doors passes

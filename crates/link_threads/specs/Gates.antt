@@ -1,5 +1,5 @@
 -- The gates of lanes, the passes that each link's thread holds, and what was delivered through them.
-use Rattle.std.specs.Prelude.{◌≡◌, ℕ, ◌<◌, ◌≤◌, true, false, Bool, List, [], ◌∷◌, ◌++◌, length, slice_get, slice_index_or, All, Some}
+use Rattle.std.specs.Prelude.{◌≡◌, ◌≢◌, ℕ, ◌<◌, ◌≤◌, true, false, Bool, List, [], ◌∷◌, ◌++◌, length, slice_get, slice_index_or, All, Some}
 use Rattle.std.specs.declared.vec.Vec.{Vec}
 use Rattle.std.specs.declared.alloc.Global.{Global}
 use Rattle.relay_base.specs.declared.words.Stamp.{Stamp}
@@ -14,7 +14,7 @@ use Rattle.link_threads.specs.declared.arrivals.Arrival.{Arrival}
 use Rattle.link_threads.specs.declared.lane_name.LaneName.{LaneName}
 use Rattle.link_threads.specs.declared.door.Door.{Door}
 use Rattle.block_threads.specs.Items.{Beside}
-use Rattle.link_threads.specs.Links.{Link, IsStamped, is_in, events_for, link_at, planned_for}
+use Rattle.link_threads.specs.Links.{Link, IsStamped, is_in, events_in, events_for, link_at, planned_for}
 
 -- passes that one thread holds, one of each gate
 abbrev pub Hand : Type 0
@@ -97,11 +97,49 @@ module _ {L E : Type 0} (place : LanePlace) where
   abbrev pub IsForNone : List (Door L E) → Type 0
   IsForNone doors = All (λ door. is_in door.name place ≡ false) doors
 
+  -- this is the first lane in which the place is
+  pub record IsFirstFor (doors : List (Door L E)) (first : ℕ) : Type 0 where
+    pub within : first < length doors
+    pub here : (d : Door L E) → is_in (slice_index_or doors first d).name place ≡ true
+    pub before : (k : ℕ) (d : Door L E) → k < first → is_in (slice_index_or doors k d).name place ≡ false
+
   -- this is the last lane in which the place is
   pub record IsLastFor (doors : List (Door L E)) (last : ℕ) : Type 0 where
     pub within : last < length doors
     pub here : (d : Door L E) → is_in (slice_index_or doors last d).name place ≡ true
     pub behind : (k : ℕ) (d : Door L E) → last < k → k < length doors → is_in (slice_index_or doors k d).name place ≡ false
+
+  -- this is the only lane in which the place is
+  pub record IsOnlyFor (doors : List (Door L E)) (lane : ℕ) : Type 0 where
+    pub within : lane < length doors
+    pub here : (d : Door L E) → is_in (slice_index_or doors lane d).name place ≡ true
+    pub others : (k : ℕ) (d : Door L E) → k ≢ lane → k < length doors → is_in (slice_index_or doors k d).name place ≡ false
+
+-- ---- units that wait
+
+-- none waits for any lane
+abbrev pub NoneWaits : {E : Type 0} → List (Link E) → Type 0
+NoneWaits waiting = All (λ units. units ≡ []) waiting
+
+module _ {L E B : Type 0} (plan : L → Plan B E) where
+  -- What came before on the link for the lane went through its pass of this gate but for the units that wait, and the lane is to take these, and then what is
+  -- left of it.
+  pub record HasFedBut (number : ℕ) (units left : Link E) (door : Door L E) (pass : Pass) : Type 0 where
+    pub had : List (Stamp × E)
+    pub plan_is : (plan (origin_of door.gate)).links number ≡ had ++ (events_in units ++ events_for door.name left)
+    pub stamped : IsStamped number units
+    pub own : IsPassOf door.gate pass
+    pub number_is : pass.number ≡ number
+    pub done : done_of pass ≡ length had
+
+  -- so it is with each lane
+  pub record HaveFedBut (number : ℕ) (left : Link E) (doors : List (Door L E)) (waiting : List (Link E)) (passes : List Pass) : Type 0 where
+    pub lanes : length waiting ≡ length doors
+    pub size : length passes ≡ length doors
+    pub each : (k : ℕ) (g : Door L E) (d : Pass) → k < length doors
+        → HasFedBut number (slice_index_or waiting k []) left (slice_index_or doors k g) (slice_index_or passes k d)
+
+-- ---- feeders
 
 -- a feeder: the gates, the number of its link and what is left of it, and a pass of each gate; and whether it came to its end
 pub record FeederState (L E : Type 0) : Type 0 where

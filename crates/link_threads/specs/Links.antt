@@ -19,9 +19,13 @@ abbrev pub Link : Type 0 → Type 0
 Link E = List (Arrival E)
 
 module _ {E : Type 0} where
+  -- the events, with their stamps
+  abbrev pub events_in : Link E → List (Stamp × E)
+  events_in link = map (λ a. (a.stamp, a.event)) link
+
   -- those of a link's events that are for the lane of a name
   abbrev pub events_for : LaneName → Link E → List (Stamp × E)
-  events_for name link = map (λ a. (a.stamp, a.event)) (filter (λ a. is_in name a.place) link)
+  events_for name link = events_in (filter (λ a. is_in name a.place) link)
 
   -- the link of a number; of a number that no link has nothing comes
   abbrev pub link_at : List (Link E) → ℕ → Link E

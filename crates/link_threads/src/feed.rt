@@ -12,7 +12,7 @@ use relay_base::{Memory, Pace};
 use std::sync::Wait;
 
 /// The last lane in which a place is, if there is one.
-fn last_for<L: LaneState>(doors: &[Door<L>], place: LanePlace) -> Option<usize>
+pub fn last_for<L: LaneState>(doors: &[Door<L>], place: LanePlace) -> Option<usize>
     ensures some { IfSome result (IsLastFor place doors.now) }
     ensures none { IfNone result (IsForNone place doors.now) }
 {
@@ -61,7 +61,7 @@ fn deliver_copies<R: Wait, L: LaneState, A: Arrivals<L::Event>>(
 }
 
 /// An event goes to the lanes in which it is placed: itself to the last one, and copies to the others.
-fn deliver_each<R: Wait, L: LaneState, A: Arrivals<L::Event>>(
+pub fn deliver_each<R: Wait, L: LaneState, A: Arrivals<L::Event>>(
     rt: &R,
     doors: &[Door<L>],
     link: &A,

@@ -11,6 +11,7 @@ ghost use Rattle.link_threads.specs.Gates.{AreDealt, HasRun, HaveUsed, IsFeederO
 use crate::arrivals::Arrivals;
 use crate::door::Door;
 use crate::feed::serve;
+use crate::runs::serve_in_runs;
 use lane_gate::{LaneState, MOST_CALLERS, Pass};
 use relay_base::{Memory, Pace, take_spare};
 use std::alloc::Global;
@@ -55,14 +56,18 @@ impl<'g, L: LaneState, A: Arrivals<L::Event>> Feeder<'g, L, A> {
         take_spare(self.alloc, self.link.len().saturating_mul(EVENT_OCTETS));
     }
 
-    /// Delivers the events of its link.
-    fn run<R: Wait, P: Pace>(&mut self, rt: &R, pace: &P)
+    /// Delivers the events of its link, in runs where other links run too.
+    fn run<R: Wait, P: Pace>(&mut self, rt: &R, pace: &P, several: bool)
         requires { IsReady L.plan self.old }
         ensures { HasRun L.plan self.old self.new }
     {
         let passes = self.passes.as_mut_slice();
         let link = &mut self.link;
-        let served = serve(rt, pace, self.doors, self.number, link, passes);
+        let served = if several {
+            serve_in_runs(rt, self.alloc, pace, self.doors, self.number, link, passes)
+        } else {
+            serve(rt, pace, self.doors, self.number, link, passes)
+        };
         self.ended = served.is_ok();
     }
 
@@ -131,7 +136,7 @@ where
             if several {
                 feeder.prepare();
             }
-            feeder.run(rt, pace)
+            feeder.run(rt, pace, several)
         },
     );
 }

@@ -10,6 +10,7 @@ mod feeders;
 mod lane_name;
 mod phase_link;
 mod run;
+mod runs;
 
 pub use arrivals::{Arrival, Arrivals};
 pub use lane_name::{LaneName, Named};
